@@ -1,43 +1,43 @@
 # pvsim: a teaching kernel with OpenBSD's pledge and unveil.
 #
-#   make          the proved program at bin/pvsim: proves it and what it stands on, side by side, and nothing else
-#   make demo     the main job at once, before any proof
-#   make try FILE=examples/held.bundle       a bundle's run explained, before any proof
-#   make try SOURCE=examples/sources/held    the same of a source: with comments and labels, and no lines to count
+#   make                 the proved program at bin/pvsim: proves it and the crates below it, and nothing else
+#   make demo            the first example, before any proof
+#   make try FILE=examples/held.bundle       explains the run of a bundle, before any proof
+#   make try SOURCE=examples/sources/held    explains the run of a source: a bundle with comments and labels, and without line counts
 #   make try RUN=needs FILE=..               another answer: state, reach, needs, turns, ls, audit; RUN=run the trace alone
-#   make examples every bundle of examples/ and cases/, its trace compared, before any proof
-#   make sources  the proved program on sources: worked ones, mistakes with what is said of each, and some made by chance
-#   make words    the proved program on words of command lines, and what it writes, tells and makes
-#   make images   the proved program on images byte for byte, on directories of which it makes images, and on every change of one byte of an image
-#   make refusals the proved program with each allocation, opening, read and write refused in turn
-#   make test     the gate: every proof from nothing, the tests, the program, the wrong bodies, the examples, images, refusals (docs/GATE.md)
-#   make wrong    the wrong bodies alone, with further ones that the gate leaves out, of every crate, or make wrong CRATE=pv_tree of one; then
-#                 the same checks with the right bodies, none of which may be refused
-#   make check    every crate, over what earlier checks kept
-#   make bench    proves and runs the benchmark, and prints times
-#   make speed    times the proved program on the workloads of docs/SPEED.md, or make speed OTHER=program beside another
-#   make man      the manual pages, tried by mandoc(1)
+#   make test            proves every crate once, and runs every test, case and example by the proved program (docs/GATE.md)
+#   make mutants         tries every mutant, each of which the prover must refuse; make mutants CRATE=pv_tree those of one crate
+#   make page FILE=examples/race-first.bundle    a page for a browser of every schedule: OUT=page.html, STATES=N
+#   make examples        every bundle of examples/ and cases/runs/, before any proof
+#   make cases           the proved program on the tables of cases/: command lines, and mistakes in sources
+#   make sources         the proved program on sources: cases, examples, and random ones
+#   make images          the proved program on images: of directories of this host, and with one corrupted byte
+#   make fault-injection the proved program with each allocation, opening, read and write failing
+#   make check           proves every crate over the work of earlier checks
+#   make bench           proves and runs the benchmark, and prints times
+#   make speed           times the proved program on the workloads of docs/SPEED.md; make speed OTHER=program beside another
+#   make man             checks the manual pages by mandoc(1)
 #   make install PREFIX=/usr/local       the program, its manual pages, and the sources of the examples
 
 PREFIX ?= /usr/local
 MANDIR ?= $(PREFIX)/share/man
 EXAMPLESDIR ?= $(PREFIX)/share/examples/pvsim
 
-.PHONY: all demo try examples sources words images refusals test wrong check bench speed man install clean
+.PHONY: all demo try test mutants examples cases sources images fault-injection check bench speed man install clean
 
 all: bin/pvsim
 
 SOURCES := crates.txt $(shell find crates -path '*/out' -prune -o \( -name '*.rt' -o -name '*.antt' \) -print)
 
 bin/pvsim: $(SOURCES)
-	tools/build $@
+	@tools/prove --program $@ pv_cli
 
 demo:
 	@cat examples/motd.bundle
 	@echo '--- its trace:'
 	@cd crates/pv_cli_try && rt try < ../../examples/motd.bundle
 
-# The proved program answers where bin/pvsim is there and as new as the code; else an unproved one is made.
+# The proved program answers if bin/pvsim is newer than the code; else an unproved one is built.
 RUN ?= explain
 try:
 	@test -n "$(FILE)$(SOURCE)" || { echo 'usage: make try FILE=bundle, or make try SOURCE=source'; exit 2; }
@@ -48,30 +48,35 @@ try:
 	if [ -n "$(SOURCE)" ]; then $$pvsim source - < "$(SOURCE)"; else cat "$(FILE)"; fi > $$bundle || exit; \
 	$$pvsim $$words < $$bundle
 
+# Without a proved program an unproved one answers. It takes minutes, so the page has fewer states.
+OUT ?= page.html
+.PHONY: page
+page:
+	@test -r "$(FILE)" || { echo 'usage: make page FILE=bundle or source [OUT=page.html] [STATES=N]'; exit 2; }
+	@if $(MAKE) -sq bin/pvsim; then pvsim=bin/pvsim states=20000; else pvsim=tools/unproved states=200; fi; \
+	TRY_SECONDS=600 tools/page --pvsim $$pvsim --states $(or $(STATES),$$states) "$(FILE)" > "$(OUT)" || { status=$$?; rm -f "$(OUT)"; exit $$status; }; \
+	echo 'Open $(OUT) in a browser.'
+test:
+	@tools/test
+
+mutants:
+	@tools/mutants $(CRATE)
+
 examples:
 	@tools/examples
 
+cases: bin/pvsim
+	@tools/cases bin/pvsim
+
 sources: bin/pvsim
 	@tools/sources bin/pvsim
-	@tools/mistakes bin/pvsim
-
-words: bin/pvsim
-	@tools/words bin/pvsim
 
 images: bin/pvsim
-	@tools/images bin/pvsim
 	@tools/host-copy bin/pvsim
-	@tools/changes bin/pvsim
+	@tools/corrupted-images bin/pvsim
 
-refusals: bin/pvsim
-	@tools/refusals bin/pvsim
-
-test:
-	tools/gate
-
-wrong:
-	tools/wrong --all $(CRATE)
-	tools/wrong --right $(CRATE)
+fault-injection: bin/pvsim
+	@tools/fault-injection bin/pvsim
 
 check:
 	rt all check
@@ -94,6 +99,9 @@ install: bin/pvsim
 	install -m 644 man/pvsim.5 $(DESTDIR)$(MANDIR)/man5/pvsim.5
 	install -d $(DESTDIR)$(EXAMPLESDIR)
 	install -m 644 examples/sources/* $(DESTDIR)$(EXAMPLESDIR)
+	install -d $(DESTDIR)$(PREFIX)/share/bash-completion/completions $(DESTDIR)$(PREFIX)/share/zsh/site-functions
+	tools/completion bash > $(DESTDIR)$(PREFIX)/share/bash-completion/completions/pvsim
+	tools/completion zsh > $(DESTDIR)$(PREFIX)/share/zsh/site-functions/_pvsim
 
 clean:
 	rm -rf bin

@@ -1,4 +1,4 @@
--- Entries of a table for names that are not there, one after the other.
+-- The table entries for absent names, one at a time.
 use Rattle.std.proofs.Common.{◌≡◌, ℕ, zero, suc, ◌+◌, ◌<◌, ◌≤◌, ◌==◌, Bool, true, false, cond, bytes_eq, List, [], ◌∷◌, ◌++◌, codes, flat_map, drop, get_or, length, Option, None, Some, option_map, refl, ap, ap₂, sym, ◌∙◌, ⊎_elim, arith, add-one}
 use Rattle.std.specs.List.{position_or_len}
 use Rattle.std.specs.Prelude.{option_to_list, slice_get}
@@ -25,20 +25,20 @@ use Rattle.pv_answers.specs.declared.reach.reacher.Reacher.{Reacher}
 use Rattle.pv_answers.specs.Reaching.{absent_line, absent_words, is_absent_in, may_line, may_lines, permitted_by, process_of, state_of, table_of}
 use Rattle.pv_answers.proofs.Permitted.{letters-are}
 
--- ---- entry by entry
+-- ---- one entry at a time
 
 drop-one : {X : Type 0} (xs : List X) (k : ℕ) → k < length xs → (x : X) × (slice_get xs k ≡ Some x) × (drop k xs ≡ x ∷ drop (suc k) xs)
 drop-one [] k less = absurd (omega arith)
 drop-one (x ∷ xs) zero less = (x, refl, refl)
 drop-one (x ∷ xs) (suc k) less = drop-one xs k (omega arith)
 
--- ---- the entry that governs
+-- ---- the governing entry
 
 same-target : (target : Target) → same_target target target ≡ true
 same-target (Directory d) = eq-eqb d d refl
 same-target (Name d name) = and_from (d == d) (bytes_eq name name) (eq-eqb d d refl) ((bytes_eq-Decides name name).1 refl)
 
--- the entry for a target that stands in the table is found
+-- an entry for a target in the table is found
 entry-there : (table : Table) (target : Target) (permissions : Perms) (k : ℕ) → slice_get table k ≡ Some (target, permissions) → (j : ℕ) × (entry_for table target ≡ Some j)
 entry-there table target permissions k at =
     let test : Target × Perms → Bool = λ e. same_target e.0 target in
@@ -53,7 +53,7 @@ entry-there table target permissions k at =
     (cases_lt first (length table)) in
     (first, ap (λ b. cond b (Some first) None) (lt-ltb first (length table) less))
 
--- an entry for an absent name governs it, or the first one for it does
+-- an absent name is governed by the first entry for it
 pub governing-absent : (t : Tree) (table : Table) (d : ℕ) (name : Bytes) (k : ℕ) → option_map (λ (e : Target × Perms). e.0) (slice_get table k) ≡ Some (Name d name)
     → governing_entry t table (At d name None) ≡ entry_for table (Name d name)
 unfolding governing_entry
@@ -96,7 +96,7 @@ module _ (x : Reacher) where
   line_for k (Directory n) = []
   line_for k (Name d name) = cond (is_absent (state_of x) (process_of x) d name) (may_line x (absent_text (state_of x) (process_of x) k d name)) []
 
-  -- of an entry with a target
+  -- the line of an entry with a target
   pub absent-line_is : (k : ℕ) (target : Target) → option_map (λ (e : Target × Perms). e.0) (slice_get table k) ≡ Some target → absent_line x k ≡ line_for k target
   absent-line_is k target is = by (slice_get table k) is
     where
@@ -122,22 +122,22 @@ module _ (x : Reacher) where
       ∙ ap (λ (ps : Perms). permissions_in_places ps ++ codes " " ++ name_words tree d name ++ codes ", entry " ++ decimal k ++ codes ", absent")
       (sym (letters-are (state_of x) (process_of x) (At d name None)))
 
-  -- the line of an entry for an absent name, as code tells its parts
+  -- the line of an entry for an absent name, from the parts that the code writes
   pub absent-is : (k : ℕ) (target : Target) (d : ℕ) (name : Bytes) → option_map (λ (e : Target × Perms). e.0) (slice_get table k) ≡ Some target → target ≡ Name d name
-      → (tree : Tree) (first spelled : Bytes) (entry : Option ℕ) (letters : Perms) (number : ℕ) → tree ≡ (state_of x).tree → first ≡ name → is_absent_in tree d first ≡ true
-      → spelled ≡ name → entry ≡ entry_for table target → letters ≡ permitted_by x.owned.now entry → number ≡ k
-      → may_line x (permissions_in_places letters ++ codes " " ++ name_words tree d spelled ++ codes ", entry " ++ decimal number ++ codes ", absent") ≡ absent_line x k
-  absent-is k target d name is named tree first spelled entry letters number same a absent b own permitted c =
+      → (tree : Tree) (first encoded : Bytes) (entry : Option ℕ) (letters : Perms) (number : ℕ) → tree ≡ (state_of x).tree → first ≡ name → is_absent_in tree d first ≡ true
+      → encoded ≡ name → entry ≡ entry_for table target → letters ≡ permitted_by x.owned.now entry → number ≡ k
+      → may_line x (permissions_in_places letters ++ codes " " ++ name_words tree d encoded ++ codes ", entry " ++ decimal number ++ codes ", absent") ≡ absent_line x k
+  absent-is k target d name is named tree first encoded entry letters number same a absent b own permitted c =
       let there : option_map (λ (e : Target × Perms). e.0) (slice_get table k) ≡ Some (Name d name) = is ∙ ap Some named in
       let gone : is_absent_in (state_of x).tree d name ≡ true = ap₂ (λ (u : Tree) (bs : Bytes). is_absent_in u d bs) (sym same) (sym a) ∙ absent in
-      ap (λ (ps : Perms). may_line x (permissions_in_places ps ++ codes " " ++ name_words tree d spelled ++ codes ", entry " ++ decimal number ++ codes ", absent"))
+      ap (λ (ps : Perms). may_line x (permissions_in_places ps ++ codes " " ++ name_words tree d encoded ++ codes ", entry " ++ decimal number ++ codes ", absent"))
       (permitted ∙ ap (permitted_by x.owned.now) (own ∙ ap (entry_for table) named))
       ∙ ap₂ (λ (u : Tree) (bs : Bytes). may_line x (permissions_in_places (permitted_by x.owned.now (entry_for table (Name d name))) ++ codes " " ++ name_words u d bs ++ codes ", entry " ++ decimal number ++ codes ", absent")) same b
       ∙ ap (λ j. may_line x (absent_words x j (entry_for table (Name d name)) d name)) c
       ∙ ap (may_line x) (text-is k d name there)
       ∙ sym (absent-line_is k (Name d name) there ∙ ap (λ b. cond b (may_line x (absent_text (state_of x) (process_of x) k d name)) []) gone)
 
-  -- no line of another
+  -- any other entry has no line
   pub present-is : (k : ℕ) (target : Target) (d : ℕ) (name : Bytes) → option_map (λ (e : Target × Perms). e.0) (slice_get table k) ≡ Some target → target ≡ Name d name
       → (tree : Tree) (first : Bytes) → tree ≡ (state_of x).tree → first ≡ name → is_absent_in tree d first ≡ false → [] ≡ absent_line x k
   present-is k target d name is named tree first same a present =

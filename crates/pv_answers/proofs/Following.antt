@@ -14,7 +14,7 @@ use Rattle.pv_procs.specs.ProcessTable.{number_after}
 abbrev pub Recorded : Type 0
 Recorded = ℕ × ProcessRecord
 
--- those with greater numbers
+-- the processes with greater numbers
 abbrev pub records_after : ℕ → List Recorded → List Recorded
 records_after last rs = filter (λ (r : Recorded). nat_lt last r.0) rs
 
@@ -26,18 +26,18 @@ less_of Greater a b is less = cc less
 lower : (a b : ℕ) → is_lt (nat_cmp a b) ≡ true → a < b
 lower a b is = less_of (nat_cmp a b) a b (ranks a b) is
 
-kept : (last : ℕ) (e : Recorded) (es : List Recorded) → last < e.0 → records_after last (e ∷ es) ≡ e ∷ records_after last es
-kept last e es more = ap (λ b. cond b (e ∷ records_after last es) (records_after last es)) (lt-ltb last e.0 more)
+preserved : (last : ℕ) (e : Recorded) (es : List Recorded) → last < e.0 → records_after last (e ∷ es) ≡ e ∷ records_after last es
+preserved last e es more = ap (λ b. cond b (e ∷ records_after last es) (records_after last es)) (lt-ltb last e.0 more)
 
 left_out : (last : ℕ) (e : Recorded) (es : List Recorded) → e.0 ≤ last → records_after last (e ∷ es) ≡ records_after last es
 left_out last e es few = ap (λ b. cond b (e ∷ records_after last es) (records_after last es)) (le-ltb last e.0 few)
 
--- where all are above a number, all come after it
+-- if all numbers are above a number, all processes follow it
 all_above : (last x : ℕ) (es : List Recorded) → last ≤ x → below_all nat_cmp x es ≡ true → records_after last es ≡ es
 all_above last x [] few below = refl
 all_above last x (e ∷ es) few below =
     let parts = and_parts (is_lt (nat_cmp x e.0)) (below_all nat_cmp x es) below in
-    let more = lower x e.0 parts.0 in kept last e es (omega arith) ∙ ap (λ (rs : List Recorded). e ∷ rs) (all_above last x es few parts.1)
+    let more = lower x e.0 parts.0 in preserved last e es (omega arith) ∙ ap (λ (rs : List Recorded). e ∷ rs) (all_above last x es few parts.1)
 
 -- the process with the next number, and those after it
 pub record IsNextRecord (last pid : ℕ) (rs : List Recorded) : Type 0 where
@@ -50,7 +50,7 @@ first_here : (last : ℕ) (e : Recorded) (es : List Recorded) → last < e.0 →
 first_here last e es more below = record {
   entry = e.1;
   first =
-      kept last e es more ∙ ap (λ (rs : List Recorded). e ∷ rs) (all_above last e.0 es (omega arith) below ∙ sym (all_above e.0 e.0 es (omega arith) below) ∙ sym (left_out e.0 e es (omega arith)));
+      preserved last e es more ∙ ap (λ (rs : List Recorded). e ∷ rs) (all_above last e.0 es (omega arith) below ∙ sym (all_above e.0 e.0 es (omega arith) below) ∙ sym (left_out e.0 e es (omega arith)));
   found = ap (λ b. cond b (Some e.1) (find nat_cmp e.0 es)) (sym (unsigned_ties e.0 e.0) ∙ eq-eqb e.0 e.0 refl);
   more = more;
 }
@@ -83,14 +83,14 @@ none-after last (e ∷ es) is =
       | false ↦ λ few there. none-after last es there
     ] refl is
 
--- before the first all come
+-- all processes follow number 0
 pub all-after : (last : ℕ) (rs : List Recorded) → list_all (λ r. nat_le 1 r.0 && nat_le r.0 last) rs ≡ true → records_after 0 rs ≡ rs
 all-after last [] all = refl
 all-after last (e ∷ es) all =
     let parts = and_parts (nat_le 1 e.0 && nat_le e.0 last) (list_all (λ (r : Recorded). nat_le 1 r.0 && nat_le r.0 last) es) all in
     let least = leb-true 1 e.0 (and_parts (nat_le 1 e.0) (nat_le e.0 last) parts.0).0 in
-    kept 0 e es (omega arith) ∙ ap (λ (rs : List Recorded). e ∷ rs) (all-after last es parts.1)
+    preserved 0 e es (omega arith) ∙ ap (λ (rs : List Recorded). e ∷ rs) (all-after last es parts.1)
 
--- fewer come after the next one
+-- fewer processes follow the next one
 pub fewer-after : (last pid : ℕ) (rs : List Recorded) → IsNextRecord last pid rs → length (records_after pid rs) < length (records_after last rs)
 fewer-after last pid rs next = let long = ap length next.first in omega (arith, long)

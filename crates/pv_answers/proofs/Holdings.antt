@@ -1,4 +1,4 @@
--- The lines of what a process has, one after the other.
+-- The lines of a process's entries, descriptors and memory, one at a time.
 use Rattle.std.proofs.Common.{◌≡◌, ℕ, zero, suc, ◌+◌, ◌<◌, ◌≤◌, List, [], ◌∷◌, ◌++◌, append_assoc, append-nil, length, drop, map, filter_map, codes, slice_get, Option, None, Some, option_map, refl, ap, ap₂, sym, subst, ◌∙◌, arith}
 use Rattle.std.specs.List.{cons_option}
 use Rattle.std.proofs.lemmas.Grind.{flat_map-append}
@@ -53,7 +53,7 @@ module _ (s : State) (pid : ℕ) where
   open-first None ds = refl
   open-first (Some d) ds = refl
 
-  -- what stands under a number, and what stands after it
+  -- the line of a number, and those of the numbers after it
   place_first : (o : Option Descriptor) (ds : Numbered Descriptor) (k : ℕ)
       → answer_bytes (descriptor_lines_from k (o ∷ ds)) ≡ descriptor_line_of s pid k o ++ answer_bytes (descriptor_lines_from (k + 1) ds)
   unfolding lines_of
@@ -79,7 +79,7 @@ module _ (s : State) (pid : ℕ) where
   descriptors-end ds k text before after past left =
       written_text text before after (subst (λ rest. LeavesRest rest text before after) (ap (λ es. answer_bytes (descriptor_lines_from k es)) (drop_all k ds past)) left)
 
-  -- ---- all that a process has
+  -- ---- all lines of a process
 
   abbrev held_bytes : ProcessRecord → Bytes
   held_bytes r =

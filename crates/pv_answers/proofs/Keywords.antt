@@ -1,4 +1,4 @@
--- The keywords of a set, one after the other.
+-- The keywords of a set, one at a time.
 use Rattle.std.proofs.Common.{◌≡◌, ℕ, ◌+◌, ◌<◌, ◌≤◌, Bool, true, false, cond, List, [], ◌∷◌, ◌++◌, length, drop, map, filter, flat_map, codes, Option, refl, ap, ap₂, sym, subst, ◌∙◌}
 use Rattle.std.specs.Prelude.{OnOk, OnErr, Result}
 use Rattle.std.proofs.Math.ListN.{get_or}
@@ -11,7 +11,7 @@ use Rattle.pv_model.specs.Bytes.{Bytes}
 use Rattle.pv_model.specs.Promise.{promise_name}
 use Rattle.pv_model.specs.Promises.{Promises, contains}
 use Rattle.pv_model.specs.Trace.{quote_byte}
-use Rattle.pv_streams.specs.Sinks.{and_all, TellsBeginning}
+use Rattle.pv_streams.specs.Sinks.{and_all, WritesPrefix}
 use Rattle.pv_listing.proofs.Rests.{LeavesRest, written_text}
 use Rattle.pv_answers.specs.Texts.{keyword_after, keywords_in, words_after}
 use Rattle.pv_answers.proofs.Rows.{drop-next}
@@ -33,17 +33,17 @@ module _ (set : Promises) (ps : List Promise) (k : ℕ) (d : Promise) (within : 
       by true is = ap (λ b. map promise_name (cond b (here ∷ filter (contains set) (drop (k + 1) ps)) (filter (contains set) (drop (k + 1) ps)))) is
       by false is = ap (λ b. map promise_name (cond b (here ∷ filter (contains set) (drop (k + 1) ps)) (filter (contains set) (drop (k + 1) ps)))) is
 
-  -- a promise of the set, and the keywords after it
+  -- a promise in the set, and the keywords after it
   pub keyword-next : (first : Bool) → contains set here ≡ true
       → words_after first (keywords_in set (drop k ps)) ≡ keyword_after first here ++ words_after false (keywords_in set (drop (k + 1) ps))
   keyword-next true is = ap (words_after true) (found true is)
   keyword-next false is = ap (words_after false) (found true is)
 
-  -- one that is not in the set
+  -- a promise that is not in the set
   pub keyword-none : (first : Bool) → contains set here ≡ false → words_after first (keywords_in set (drop k ps)) ≡ words_after first (keywords_in set (drop (k + 1) ps))
   keyword-none first is = ap (words_after first) (found false is)
 
--- ---- each byte of a keyword stands for itself
+-- ---- no byte of a keyword needs an escape
 
 plain-name : (p : Promise) → flat_map quote_byte (promise_name p) ≡ promise_name p
 plain-name Stdio = refl
@@ -100,11 +100,11 @@ module _ (set : Promises) where
 
   pub whole-plain : {T E : Type 0} (r : Result T E) (ps : List Promise) (before after : Option Bytes)
       → OnOk r (after ≡ and_all before (spaced (keywords_in set ps))) → OnOk r (after ≡ and_all before (flat_map quote_byte (spaced (keywords_in set ps))))
-  whole-plain r ps before after told = subst (λ text. OnOk r (after ≡ and_all before text)) (sym (plain-keywords ps)) told
+  whole-plain r ps before after reported = subst (λ text. OnOk r (after ≡ and_all before text)) (sym (plain-keywords ps)) reported
 
-  pub beginning-plain : {T E : Type 0} (r : Result T E) (ps : List Promise) (before after : Option Bytes)
-      → OnErr r (TellsBeginning (spaced (keywords_in set ps)) before after) → OnErr r (TellsBeginning (flat_map quote_byte (spaced (keywords_in set ps))) before after)
-  beginning-plain r ps before after told = subst (λ text. OnErr r (TellsBeginning text before after)) (sym (plain-keywords ps)) told
+  pub prefix-plain : {T E : Type 0} (r : Result T E) (ps : List Promise) (before after : Option Bytes)
+      → OnErr r (WritesPrefix (spaced (keywords_in set ps)) before after) → OnErr r (WritesPrefix (flat_map quote_byte (spaced (keywords_in set ps))) before after)
+  prefix-plain r ps before after reported = subst (λ text. OnErr r (WritesPrefix text before after)) (sym (plain-keywords ps)) reported
 
 -- past the last promise
 pub keywords-end : (set : Promises) (ps : List Promise) (k : ℕ) (first : Bool) (text : Bytes) (before after : Option Bytes) → length ps ≤ k

@@ -1,14 +1,17 @@
--- Lemmas of answers.
--- - texts: Told (what a sink was told of a text), Rows (texts of many parts, the front of a buffer), Keywords (of a set), Paths (of nodes)
--- - processes: Following (from one number to the next), NextOnes (what comes next in one), Standings (who it is), OpenLines and Holdings (what it has), States (all)
--- - places: Permitted (by the entry that governs), Listed (names, entry by entry), Absent (entries for absent names), Opened (open descriptors), Removed (removed directories), Reached (all parts of a process)
-pub mod Told
+-- Lemmas about answers.
+-- - texts: Reported (the output of a sink), Rows (texts of many parts, the front of a buffer), Keywords (of a set),
+--   Paths (of nodes)
+-- - processes: Following (from one number to the next), NextOnes (the next instruction), Locations, OpenLines and
+--   Holdings (descriptors, entries and memory), States (all processes)
+-- - places: Permitted (by the governing entry), Listed (names, one entry at a time), Absent (entries for absent names),
+--   Opened (open descriptors), Removed (removed directories), Reached (all lines)
+pub mod Reported
 pub mod Rows
 pub mod Keywords
 pub mod Paths
 pub mod Following
 pub mod NextOnes
-pub mod Standings
+pub mod Locations
 pub mod OpenLines
 pub mod Holdings
 pub mod States

@@ -1,4 +1,4 @@
--- The lines of a name of a tree and of all that is in it, entry by entry.
+-- The lines of a name of a tree and of all names below it, one entry at a time.
 use Rattle.std.proofs.Common.{◌≡◌, ℕ, zero, suc, ◌-◌, ◌<◌, true, [], ◌∷◌, ◌++◌, ◌∙◌, flat_map, codes, List, Option, None, Some, option_map, refl, ap, ap₂, append_assoc, sym, subst, arith}
 use Rattle.std.specs.Prelude.{IfSome}
 use Rattle.std.specs.FinMap.Entries.{find, is_sorted}
@@ -27,23 +27,23 @@ use Rattle.pv_answers.specs.declared.reach.reacher.Reacher.{Reacher}
 use Rattle.pv_answers.specs.Reaching.{all_on, lines_under, lines_within, listed_line, listed_lines, listed_words, may_line, path_of, permitted_by, state_of, table_of, who_by}
 use Rattle.pv_answers.proofs.Permitted.{governed-is}
 
--- a path with a slash in it is its own in a listing
+-- a path with a slash is listed as it is
 pub listed-below : (path name : Bytes) → listed_path (path ++ codes "/" ++ name) ≡ path ++ codes "/" ++ name
 listed-below [] name = refl
 listed-below (b ∷ bs) name = refl
 
--- the names of a path, and one after them
+-- the names of a path, and one more name
 pub names-below : (path : LinkedPath) (above name : Bytes) → path_of path ≡ with_name name above → flat_map quote_byte (path_of path) ≡ flat_map quote_byte above ++ flat_map quote_byte (codes "/" ++ name)
 names-below path above name is = ap (flat_map quote_byte) (is ∙ append_assoc above (codes "/") name) ∙ flat_map-append quote_byte above (codes "/" ++ name)
 
--- a path that ends in a name, as a text
+-- a path that ends in a name, as a quoted text
 pub text-below : (path : LinkedPath) (above name : Bytes) → path_of path ≡ with_name name above
     → codes "\"" ++ flat_map quote_byte above ++ flat_map quote_byte (codes "/" ++ name) ++ codes "\"" ≡ quote (listed_path (path_of path))
 text-below path above name is =
     ap (λ (bs : Bytes). 34 ∷ (bs ++ 34 ∷ []))
     (sym (ap (λ bs. flat_map quote_byte (listed_path bs)) is ∙ ap (flat_map quote_byte) (listed-below above name) ∙ sym (ap (flat_map quote_byte) is) ∙ names-below path above name is))
 
--- ---- the entries that are still to come
+-- ---- the remaining entries
 
 -- the next entry, and those after it
 abbrev pub upcoming : Entries → Option (Bytes × ℕ) → Entries
@@ -58,7 +58,7 @@ upcoming-is es last (Some e) sorted is found =
     let same : first.0 ≡ e.1 = cc (first.1.found, found) in
     first.1.first ∙ ap (λ (n : ℕ). (e.0, n) ∷ entries_after (Some e.0) es) same
 
--- as a tree tells the next entry
+-- the next entry, as the tree returns it
 pub next-is : (t tree : Tree) → tree ≡ t → IsWellFormed t → (n : ℕ) (last : Option Bytes) (next : Option (Bytes × ℕ)) → option_map (λ (e : Bytes × ℕ). e.0) next ≡ next_name last (entries_at tree n)
     → IfSome next (λ e. find_entry tree n e.0 ≡ Some e.1) → entries_after last (entries_at t n) ≡ upcoming (entries_at t n) next
 next-is t tree same w n last next is found =
@@ -71,12 +71,12 @@ module _ (x : Reacher) where
 
   -- ---- one line
 
-  -- the line of a name, by the entry that governs it
+  -- the line of a name, by its governing entry
   listed-is : (path : Bytes) (place : Place) (n : ℕ)
       → may_line x (listed_words x path (governing_entry t (entries_of_table (table_of x)) place) n) ≡ listed_line x (record { path = path; place = place; node = n })
   listed-is path place n = ap (λ bs. may_line x (bs ++ all_on x n)) (governed-is x place (quote (listed_path path)))
 
-  -- as code tells its parts
+  -- the line from the parts that the code writes
   pub listed-by : (path : Bytes) (place : Place) (n : ℕ) (entry : Option ℕ) (letters : Perms) → letters ≡ permitted_by x.owned.now entry
       → entry ≡ governing_entry t (entries_of_table (table_of x)) place
       → may_line x (permissions_in_places letters ++ codes " " ++ quote (listed_path path) ++ codes ", " ++ who_by (table_of x) entry ++ all_on x n)
@@ -85,7 +85,7 @@ module _ (x : Reacher) where
       ap (λ (ps : Perms). may_line x (permissions_in_places ps ++ codes " " ++ quote (listed_path path) ++ codes ", " ++ who_by (table_of x) entry ++ all_on x n)) permitted
       ∙ ap (λ k. may_line x (listed_words x path k n)) governs ∙ listed-is path place n
 
-  -- ---- of a node and what is in it
+  -- ---- a node and the names below it
 
   lines-flat : (g : Bytes × ℕ → List ListedName) (es : Entries) → listed_lines x (flat_map g es) ≡ flat_map (λ e. listed_lines x (g e)) es
   lines-flat g [] = refl
@@ -99,7 +99,7 @@ module _ (x : Reacher) where
       ap (λ bs. listed_line x (record { path = path; place = place; node = n }) ++ bs)
       (lines-flat (λ e. names_within t depth (with_name e.0 path) (At n e.0 (Some e.1)) e.1) (entries_at t n) ∙ ap (λ k. lines_under x k path n (entries_at t n)) less)
 
-  -- after the line of a node those of its entries are left
+  -- after the line of a node, the lines of its entries remain
   pub node_left : (depth : ℕ) (path : Bytes) (place : Place) (n : ℕ) (es : Entries) (before after : Option Bytes) → 0 < depth → entries_at t n ≡ es
       → after ≡ and_all before (listed_line x (record { path = path; place = place; node = n }))
       → LeavesRest (lines_under x (depth - 1) path n es) (lines_within x depth path place n) before after
@@ -108,7 +108,7 @@ module _ (x : Reacher) where
       rest_after (lines_within x depth path place n) line _ _ before before after (rest_all _ before)
       (lines-are depth path place n some ∙ ap (λ (xs : Entries). line ++ lines_under x (depth - 1) path n xs) are) written
 
-  -- the lines of an entry, as code spells its name
+  -- the lines of an entry, with its name as the code writes it
   pub child-is : (depth : ℕ) (path name first second : Bytes) (spot : Place) (n child : ℕ) → first ≡ name → spot ≡ At n second (Some child) → second ≡ name
       → lines_within x depth (with_name first path) spot child ≡ lines_within x depth (with_name name path) (At n name (Some child)) child
   child-is depth path name first second spot n child a is b =

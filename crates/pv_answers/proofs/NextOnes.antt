@@ -1,4 +1,4 @@
--- What comes next in a process, in words.
+-- The next instruction of a process, in words.
 use Rattle.std.proofs.Common.{◌≡◌, ◌-◌, true, [], codes, Option, None, Some, slice_get, refl, ap, ◌∙◌}
 use Rattle.pv_model.specs.declared.instruction.Instruction.{Instruction}
 use Rattle.pv_model.specs.declared.instruction.Instruction.TheVariants.{Set, Add, Put, Peek, Jump, JumpIfZero, JumpIfNotZero, JumpIfNegative}

@@ -1,4 +1,4 @@
--- The line of a descriptor, as it is found part by part.
+-- The line of a descriptor, from its parts.
 use Rattle.std.proofs.Common.{◌≡◌, ℕ, Bool, [], ◌∷◌, ◌++◌, codes, decimal, Option, None, Some, option_map, refl, ap, sym, ◌∙◌}
 use Rattle.pv_model.specs.declared.open_flags.Mode.{Mode}
 use Rattle.pv_model.specs.Answers.Lines.{answer_line, answer_line_bytes}

@@ -1,4 +1,4 @@
--- The open descriptors of a process, one after the other.
+-- The open descriptors of a process, one at a time.
 use Rattle.std.proofs.Common.{◌≡◌, ℕ, zero, suc, ◌+◌, ◌<◌, ◌≤◌, true, false, cond, ◌==◌, List, [], ◌∷◌, ◌++◌, filter, flat_map, drop, length, Option, None, Some, option_map, refl, ap, sym, ◌∙◌, arith, add-one}
 use Rattle.std.specs.Prelude.{filter_map, is_none}
 use Rattle.std.specs.Option.{option_and_then}
@@ -14,7 +14,7 @@ use Rattle.pv_model.specs.State.{Descriptor, OpenFile, Process, State}
 use Rattle.pv_answers.specs.declared.reach.reacher.Reacher.{Reacher}
 use Rattle.pv_answers.specs.Reaching.{all_on, descriptor_words, may_line, may_lines, opened_at, process_of, state_of, unnamed_line, unnamed_words, words_on}
 
--- what stands at a number, and then what stands after it
+-- the element at an index, and those after it
 drop-at : {X : Type 0} (xs : Numbered X) (d : ℕ) → d < length xs → drop d xs ≡ at_number xs d ∷ drop (suc d) xs
 drop-at [] d less = absurd (omega arith)
 drop-at (x ∷ xs) zero less = refl
@@ -34,7 +34,7 @@ module _ (x : Reacher) where
   abbrev file_of : Option Descriptor → Option (ℕ × Mode)
   file_of o = option_map (λ (f : OpenFile). (f.node, f.mode)) (option_and_then (λ (e : Descriptor). at_number s.files e.file) o)
 
-  -- those from a number on
+  -- the open descriptors from a number on
   abbrev opened_from : ℕ → List OpenDescriptor
   opened_from d = opened_in d (drop d p.descriptors)
 
@@ -74,7 +74,7 @@ module _ (x : Reacher) where
       ap (words_in n) (opened-next d less) ∙ words-first n d (at_number p.descriptors d) (drop (suc d) p.descriptors)
       ∙ ap (λ k. words_on n d (opened_at x d) ++ words_in n (opened_in k (drop k p.descriptors))) (sym (add-one d))
 
-  -- after the last none is left
+  -- after the last descriptor none remains
   pub words-past : (n d : ℕ) → length p.descriptors ≤ d → words_from n d ≡ []
   words-past n d past = ap (λ ds. words_in n (opened_in d ds)) (drop_all d p.descriptors past)
 

@@ -1,4 +1,4 @@
--- The paths of nodes: by the directory of the least name, from which the way up leads to the root.
+-- The paths of nodes: the directory of the least name is the parent, from which the climb leads to the root.
 use Rattle.std.proofs.Common.{◌≡◌, ◌≢◌, ℕ, zero, suc, ◌-◌, ◌<◌, ◌==◌, ◌||◌, Bool, true, false, cond, List, [], ◌∷◌, ◌++◌, append_assoc, length, map, filter, flat_map, codes, Option, None, Some, is_some, option_map, IsSome, refl, ap, sym, subst, ◌∙◌, arith}
 use Rattle.std.specs.Prelude.{IsTrue}
 use Rattle.std.proofs.lemmas.Bool.{cases_eq, eq-eqb, ne_eqb}
@@ -19,7 +19,7 @@ Named = ℕ × Bytes
 abbrev first : Named → ℕ
 first name = name.0
 
--- ---- the directory of the least name is the one above
+-- ---- the directory of the least name is the parent
 
 least-in : (n k : ℕ) (es : Entries) (rest : List Named) → option_map first (first_of (names_in n es k ++ rest)) ≡ cond (names_node n es) (Some k) (option_map first (first_of rest))
 least-in n k [] rest = refl
@@ -41,7 +41,7 @@ module _ (t : Tree) where
   unfolding parent
   least-parent n other = least-of n (numbered t.nodes) ∙ sym (ap (λ b. cond b (Some root) (first_parent n (numbered t.nodes))) (ne_eqb n root other))
 
-  -- where a node has a least name, its directory is above it
+  -- the directory of a node's least name is its parent
   pub above-least : (n d : ℕ) (name : Bytes) → n ≢ root → least_name t n ≡ Some (d, name) → parent t n ≡ Some d
   above-least n d name other is = sym (least-parent n other) ∙ ap (option_map first) is
 
@@ -49,7 +49,7 @@ module _ (t : Tree) where
   named-by n d None is = cc is
   named-by n d (Some (e, name)) is = let same : e ≡ d = cc is in (name, ap (λ (k : ℕ). Some (k, name)) same)
 
-  -- and where there is one above it, it has one there
+  -- a node with a parent has its least name there
   pub least-above : (n d : ℕ) → n ≢ root → parent t n ≡ Some d → (name : Bytes) × (least_name t n ≡ Some (d, name))
   least-above n d other up = named-by n d (least_name t n) (least-parent n other ∙ up)
 
@@ -60,7 +60,7 @@ module _ (t : Tree) where
   pub least-none : (n : ℕ) → n ≢ root → parent t n ≡ None → least_name t n ≡ None
   least-none n other up = unnamed-by (least_name t n) (least-parent n other ∙ up)
 
-  -- ---- a path, step by step
+  -- ---- a path, one step at a time
 
   path-root : (k : ℕ) → path_within t (suc k) root ≡ Some []
   path-root k = refl
@@ -86,7 +86,7 @@ module _ (t : Tree) where
   bytes-after name None is = cc is
   bytes-after name (Some path) is = ap (flat_map quote_byte) (append_assoc path (codes "/") name) ∙ flat_map-append quote_byte path (codes "/" ++ name)
 
-  -- the path of a node, and that of the directory above it
+  -- the path of a node, and the path of its parent
   pub record IsStep (k n d : ℕ) : Type 0 where
     pub deep : 0 < k
     pub above : IsSome (path_within t (k - 1) d)
@@ -108,7 +108,7 @@ module _ (t : Tree) where
             ∙ ap (λ j. path_bytes (path_within t j d) ++ flat_map quote_byte (own_step (least_name t n))) (sym less);
       }
 
-  -- without one above there is no path but the root's
+  -- a node without a parent has no path, except the root
   pub path-above : (k n : ℕ) → n ≢ root → IsSome (path_within t k n) → parent t n ≢ None
   path-above k n other is up = let none = path-none k n other (least-none n other up) in let both : Bytes → false ≡ true = λ bytes. ap is_some (sym none) ∙ is in cc (both [])
 
@@ -122,7 +122,7 @@ module _ (t : Tree) where
       let least = least-above n d other up in
       subst (λ (o : Option Bytes). IsSome o) (sym (path-step k n d least.0 other least.1)) (some-after least.0 (path_within t k d) (path-below d j below k (omega arith)))
 
-  -- the root's path is empty
+  -- the path of the root is empty
   pub root-bytes : (k n : ℕ) → n ≡ root → IsSome (path_within t k n) → path_bytes (path_within t k n) ≡ []
   root-bytes zero n same is = refl
   root-bytes (suc k) n same is = ap (λ m. path_bytes (path_within t (suc k) m)) same
@@ -143,7 +143,7 @@ module _ (t : Tree) where
           let some : IsSome (path_within t k d) = some-before name (path_within t k d) (subst (λ (o : Option Bytes). IsSome o) path is) in
           ap (λ (o : Option Bytes). (34 ∷ []) ++ path_bytes o ++ (34 ∷ [])) path ∙ text-after name (path_within t k d) some ∙ ap path_text (sym path)
 
-  -- what stands between the marks of a path
+  -- the text of a path between its quotation marks
   pub text-is : (n : ℕ) → n ≢ root → IsSome (node_path t n) → (34 ∷ []) ++ path_bytes (node_path t n) ++ (34 ∷ []) ≡ path_text (node_path t n)
   unfolding node_path
   text-is n other is = text-within (length t.nodes) n other is
@@ -152,7 +152,7 @@ module _ (t : Tree) where
   unfolding node_path
   within-path n k same = ap (λ j. path_within t j n) same
 
--- ---- which nodes have a path
+-- ---- the nodes that have a path
 
 module _ (t : Tree) (w : IsWellFormed t) where
   abbrev s : Rattle.pv_laws_trees.specs.Tree.IsSound t
@@ -180,11 +180,11 @@ module _ (t : Tree) (w : IsWellFormed t) where
   unfolding node_path
   root-text n same = sym (ap (λ m. path_text (path_within t (length t.nodes) m)) same ∙ ap (λ k. path_text (path_within t k root)) w.numbers)
 
-  -- those that have a name
+  -- exactly the nodes with a name have a path
   pub path-named : (n : ℕ) → n ≢ root → is_some (node_path t n) ≡ is_some (least_name t n)
   path-named n other = by_least n other (least_name t n) refl
 
-  -- what is no node has no name
+  -- an unused number has no name
   pub unused-path : (n : ℕ) → n ≢ root → is_some (node_at t n) ≡ false → is_some (node_path t n) ≡ false
   unused-path n other none = path-named n other ∙ by (least_name t n) refl
     where
@@ -204,11 +204,11 @@ module _ (t : Tree) (w : IsWellFormed t) where
   pub no-root : (n : ℕ) → is_directory_at t n ≡ false → n ≢ root
   no-root n is same = let both : true ≡ false = sym w.root_is_directory ∙ ap (is_directory_at t) (sym same) ∙ is in cc both
 
-  -- what is no directory has a path by its least name
+  -- a file or link with a path has it by its least name
   pub file-named : (n : ℕ) → is_directory_at t n ≡ false → is_some (node_path t n) ≡ true → None ≢ least_name t n
   file-named n is path none = let both : true ≡ false = sym path ∙ path-named n (no-root n is) ∙ ap is_some (sym none) in cc both
 
-  -- and that of the directory of this name
+  -- the path of a file or link, and the path of the directory of its name
   pub record IsFileStep (n d : ℕ) (name : Bytes) (k : ℕ) : Type 0 where
     pub directory : IsTrue (is_directory_at t d)
     pub above : IsSome (path_within t (k - 1) d)

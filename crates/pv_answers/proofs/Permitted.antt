@@ -1,4 +1,4 @@
--- What a process may do at a place, by the entry that governs it.
+-- The permissions of a process at a place, by its governing entry.
 use Rattle.std.proofs.Common.{◌≡◌, ℕ, true, false, cond, ◌&&◌, ◌++◌, codes, Option, None, Some, refl, ap₂, sym, ◌∙◌}
 use Rattle.std.proofs.Math.Bool.{or-true, or-false, and-true}
 use Rattle.pv_model.specs.declared.judgement.Judgement.TheVariants.{Allowed, Denied}
@@ -31,7 +31,7 @@ covers-x a = simp (or-true, or-false, and-true)
 covers-c : (a : Perms) → covers a permission_c ≡ a.c
 covers-c a = simp (or-true, or-false)
 
--- ---- the judgement
+-- ---- the decision
 
 allowed-by : (table : Table) (needed : Perms) (entry : Option ℕ) → covers no_permissions needed ≡ false
     → is_allowed (judge_entry table needed entry) ≡ covers (given_by (Some table) entry) needed
@@ -52,7 +52,7 @@ module _ (s : State) (p : Process) (place : Place) where
   abbrev governor : Option ℕ
   governor = governing_entry s.tree (entries_of_table p.table) place
 
-  -- the four permissions are those of the entry that governs, with the promises that go with them
+  -- the four permissions are those of the governing entry whose promises are held
   pub letters-are : reached_permissions s p place ≡ promised p.promises (given_by p.table governor)
   unfolding reached_permissions
   letters-are =
@@ -76,11 +76,11 @@ module _ (s : State) (p : Process) (place : Place) where
       by None = refl
       by (Some k) = refl
 
-  -- who governs
+  -- the governor of a place
   pub who-is : who s p p.table place ≡ who_by p.table governor
   who-is = text-of p.table
 
--- a place in words, by the entry that governs it
+-- a place in words, by its governing entry
 pub governed-is : (x : Reacher) (place : Place) (words : Bytes)
     → governed_words x (governing_entry (state_of x).tree (entries_of_table (table_of x)) place) words ≡ governed_text (state_of x) (process_of x) place words
 governed-is x place words =

@@ -1,4 +1,4 @@
--- The lines of what a process may do, part by part.
+-- The lines of a process's permissions, part by part.
 use Rattle.std.proofs.Common.{◌≡◌, ℕ, [], ◌∷◌, ◌++◌, ◌∙◌, map, flat_map, codes, List, Option, None, Some, refl, ap, ap₂, sym}
 use Rattle.std.specs.Prelude.{option_map, unwrap_or}
 use Rattle.std.proofs.lemmas.Grind.{flat_map-append}
@@ -44,7 +44,7 @@ module _ (x : Reacher) where
       ∙ in-parts names (flat_map (entry_texts s p) (counted (entries_of_table p.table))) (directory_texts s p) (flat_map (descriptor_texts s p) (open_descriptors s p))
       ∙ ap (λ bs. bs ++ absent_lines x ++ directory_lines x ++ unnamed_lines x) (names-are (listed_names s.tree)))
 
-  -- a process is seen by what it owns alone
+  -- the lines depend only on the record of the process
   by-owner : (p : Process) → reach_of (state_of x) x.pid p ≡ reach_of (state_of x) x.pid (owner (record_of p))
   unfolding reach_texts reached_permissions
   by-owner p = refl
@@ -54,7 +54,7 @@ module _ (x : Reacher) where
       all-are ∙ ap (λ (r : Owned). answer_bytes (reach_of (state_of x) x.pid (owner r))) (sym owns) ∙ ap answer_bytes (sym (by-owner p))
       ∙ ap (λ (o : Option Process). answer_bytes (unwrap_or (option_map (reach_of (state_of x) x.pid) o) [])) (sym lives)
 
-  -- the same, as code finds what it owns
+  -- the same for the record that the code finds
   pub record-is : option_map record_of (process_at (state_of x) x.pid) ≡ Some x.owned.now → process_lines x ≡ answer_bytes (reached_by (state_of x) x.pid)
   record-is owns = by (process_at (state_of x) x.pid) refl owns
     where
@@ -62,10 +62,10 @@ module _ (x : Reacher) where
       by None lives none = cc none
       by (Some p) lives same = let one : record_of p ≡ x.owned.now = cc same in process-is p lives one
 
--- ---- process by process
+-- ---- one process at a time
 
 module _ (s : State) where
-  -- of a process, or of what is left of one
+  -- the lines of a live process, or none for an ended one
   abbrev lines_of : Recorded → List AnswerLine
   lines_of (pid, live p) = reach_of s pid p
   lines_of (pid, ended_record parent status) = []
@@ -84,7 +84,7 @@ module _ (s : State) where
   unfolding reach_lines
   rows-all = sym (rows-live s.processes)
 
-  -- those of the next one, and those after it
+  -- the lines of the next process, and of those after it
   pub rows-next : (k n : ℕ) → IsNextRecord k n s.processes → rows (records_after k s.processes) ≡ answer_bytes (reached_by s n) ++ rows (records_after n s.processes)
   rows-next k n next =
       ap rows next.first ∙ ap (λ bs. bs ++ rows (records_after n s.processes)) (of_found next.entry ∙ sym (ap (λ (o : Option ProcessRecord). answer_bytes (unwrap_or (option_map (reach_of s n) (live_process o)) [])) next.found))

@@ -1,4 +1,4 @@
--- Removed directories, which their own entry alone governs.
+-- Removed directories, which only their own entry can govern.
 use Rattle.std.proofs.Common.{◌≡◌, ◌≢◌, ℕ, true, false, not, if◌then◌else◌, ◌==◌, ◌++◌, [], ◌∷◌, codes, length, Option, None, Some, is_some, refl, ap, sym, subst, ◌∙◌, ⊎_elim}
 use Rattle.std.specs.Prelude.{is_none}
 use Rattle.std.specs.Option.{option_and_then, option_or}
@@ -21,7 +21,7 @@ or-none : (o : Option ℕ) → option_or o None ≡ o
 or-none None = refl
 or-none (Some k) = refl
 
--- nothing comes from above a removed directory
+-- a removed directory inherits no entry
 none-above : (t : Tree) (table : Table) (steps n : ℕ) → is_removed t n ≡ true → rights_above t table (climb t table steps) n ≡ None
 none-above t table steps n removed = by (parent t n) refl removed
   where
@@ -38,20 +38,20 @@ unfolding governing_entry directory_rights
 governing-removed t table n removed =
     ap (option_or (entry_for table (Directory n))) (none-above t table (length t.nodes) n removed) ∙ or-none (entry_for table (Directory n))
 
--- ---- what has no path
+-- ---- nodes without a path
 
-root-stands : (t : Tree) → is_removed t root ≡ false
+root-appears : (t : Tree) → is_removed t root ≡ false
 unfolding parent
-root-stands t = refl
+root-appears t = refl
 
 path-removed : (t : Tree) → IsWellFormed t → (n : ℕ) → is_removed t n ≡ not (is_some (node_path t n))
-path-removed t w n = ⊎_elim (λ top. subst (λ k. is_removed t k ≡ not (is_some (node_path t k))) (sym top) (root-stands t ∙ sym (ap not (root-path t w)))) (λ other. by other (parent t n) refl) (cases_eq n root)
+path-removed t w n = ⊎_elim (λ top. subst (λ k. is_removed t k ≡ not (is_some (node_path t k))) (sym top) (root-appears t ∙ sym (ap not (root-path t w)))) (λ other. by other (parent t n) refl) (cases_eq n root)
   where
     by : n ≢ root → (o : Option ℕ) → parent t n ≡ o → is_removed t n ≡ not (is_some (node_path t n))
     by other None up = ap is_none up ∙ sym (ap not (path-named t w n other ∙ ap is_some (least-none t n other up)))
     by other (Some d) up = ap is_none up ∙ sym (ap not (path-named t w n other ∙ ap is_some (least-above t n d other up).1))
 
--- as code tells it
+-- the test that the code makes
 pub removed-by : (t tree : Tree) → tree ≡ t → IsWellFormed tree → (n : ℕ) → not (is_some (node_path t n)) ≡ is_removed t n
 removed-by t tree same w n = sym (path-removed t (subst IsWellFormed same w) n)
 
@@ -64,7 +64,7 @@ module _ (x : Reacher) where
       ap (λ k. governed_words x k (node_words (state_of x).tree n)) (sym (governing-removed (state_of x).tree (entries_of_table (table_of x)) n removed))
       ∙ governed-is x (Unnamed n) (node_words (state_of x).tree n)
 
-  -- the line of a working directory
+  -- the line of a removed working directory
   pub directory-is : (n : ℕ) → n ≡ (process_of x).directory → is_removed (state_of x).tree n ≡ true
       → may_line x (removed_words x n ++ codes ", working directory") ≡ directory_lines x
   directory-is n same removed =

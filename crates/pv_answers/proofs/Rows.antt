@@ -13,12 +13,12 @@ drop-next xs k d within = let next : suc k ≡ k + 1 = omega arith in drop-cons 
 pub part-next : {X : Type 0} (part : X → Bytes) (xs : List X) (k : ℕ) (d : X) → k < length xs → flat_map part (drop k xs) ≡ part (get_or xs k d) ++ flat_map part (drop (k + 1) xs)
 part-next part xs k d within = ap (flat_map part) (drop-next xs k d within)
 
--- the same of what they are mapped to
+-- the same for mapped elements
 pub mapped-next : {X Y : Type 0} (part : Y → Bytes) (f : X → Y) (xs : List X) (k : ℕ) (d : X) → k < length xs
     → flat_map part (map f (drop k xs)) ≡ part (f (get_or xs k d)) ++ flat_map part (map f (drop (k + 1) xs))
 mapped-next part f xs k d within = ap (λ ys. flat_map part (map f ys)) (drop-next xs k d within)
 
--- ---- up to the last byte that is not 0
+-- ---- up to the last nonzero byte
 
 pub front-zero : (bs : Bytes) (b : ℕ) → b ≡ 0 → buffer_front (bs ++ b ∷ []) ≡ buffer_front bs
 front-zero [] b zero = ap (λ n. buffer_front (n ∷ [])) zero

@@ -1,34 +1,34 @@
--- The lines of all processes, one process after the other.
+-- The lines of all processes, one process at a time.
 use Rattle.std.proofs.Common.{◌≡◌, ℕ, List, ◌++◌, flat_map, Option, None, ap, sym, subst, ◌∙◌}
 use Rattle.std.specs.FinMap.Entries.{find}
 use Rattle.std.specs.Ordering.{nat_cmp}
 use Rattle.std.proofs.lemmas.Grind.{flat_map-append}
 use Rattle.pv_model.specs.Answers.Lines.{AnswerLine, answer_bytes, answer_line_bytes}
-use Rattle.pv_model.specs.Answers.ProcessRecord.{held_lines, standing_lines, standings, state_lines}
+use Rattle.pv_model.specs.Answers.ProcessRecord.{held_lines, location_lines, locations, state_lines}
 use Rattle.pv_model.specs.Bytes.{Bytes}
 use Rattle.pv_model.specs.State.{ProcessRecord, State}
 use Rattle.pv_calls_state.specs.Counts.{processes_of}
 use Rattle.pv_procs.specs.ProcessTable.{IsProcessTable, number_after}
 use Rattle.pv_streams.specs.Sinks.{and_all}
 use Rattle.pv_listing.proofs.Rests.{LeavesRest, rest_all, written_text}
-use Rattle.pv_answers.specs.Holdings.{held_of, held_by, standing_of}
+use Rattle.pv_answers.specs.Holdings.{held_of, held_by, location_of}
 use Rattle.pv_answers.proofs.Following.{Recorded, IsNextRecord, all-after, none-after, records_after}
 
-abbrev pub standings_of : List Recorded → List AnswerLine
-standings_of rs = flat_map (λ r. standing_lines r.0 r.1) rs
+abbrev pub locations_of : List Recorded → List AnswerLine
+locations_of rs = flat_map (λ r. location_lines r.0 r.1) rs
 
 abbrev pub lines_of_all : State → List Recorded → List AnswerLine
-lines_of_all s rs = flat_map (λ r. standing_lines r.0 r.1 ++ held_lines s r.0 r.1) rs
+lines_of_all s rs = flat_map (λ r. location_lines r.0 r.1 ++ held_lines s r.0 r.1) rs
 
 module _ (s : State) where
   abbrev all : List Recorded
   all = s.processes
 
-  pub standings-left : (out : Option Bytes) → IsProcessTable (processes_of s) → LeavesRest (answer_bytes (standings_of (records_after 0 all))) (answer_bytes (standings s)) out out
-  unfolding standings
-  standings-left out is =
-      let same : answer_bytes (standings_of (records_after 0 all)) ≡ answer_bytes (standings_of all) = ap (λ rs. answer_bytes (standings_of rs)) (all-after s.last_process all is.numbers) in
-      subst (λ rest. LeavesRest rest (answer_bytes (standings_of all)) out out) (sym same) (rest_all (answer_bytes (standings_of all)) out)
+  pub locations-left : (out : Option Bytes) → IsProcessTable (processes_of s) → LeavesRest (answer_bytes (locations_of (records_after 0 all))) (answer_bytes (locations s)) out out
+  unfolding locations
+  locations-left out is =
+      let same : answer_bytes (locations_of (records_after 0 all)) ≡ answer_bytes (locations_of all) = ap (λ rs. answer_bytes (locations_of rs)) (all-after s.last_process all is.numbers) in
+      subst (λ rest. LeavesRest rest (answer_bytes (locations_of all)) out out) (sym same) (rest_all (answer_bytes (locations_of all)) out)
 
   pub lines-left : (out : Option Bytes) → IsProcessTable (processes_of s) → LeavesRest (answer_bytes (lines_of_all s (records_after 0 all))) (answer_bytes (state_lines s)) out out
   unfolding state_lines
@@ -37,25 +37,25 @@ module _ (s : State) where
       subst (λ rest. LeavesRest rest (answer_bytes (lines_of_all s all)) out out) (sym same) (rest_all (answer_bytes (lines_of_all s all)) out)
 
   module _ (last pid : ℕ) (next : IsNextRecord last pid all) where
-    -- the lines of the next process, and those of the ones after it
-    pub standings-next : answer_bytes (standings_of (records_after last all)) ≡ answer_bytes (standing_of pid (find nat_cmp pid all)) ++ answer_bytes (standings_of (records_after pid all))
-    standings-next =
-        ap (λ rs. answer_bytes (standings_of rs)) next.first ∙ flat_map-append answer_line_bytes (standing_lines pid next.entry) (standings_of (records_after pid all))
-        ∙ ap (λ (o : Option ProcessRecord). answer_bytes (standing_of pid o) ++ answer_bytes (standings_of (records_after pid all))) (sym next.found)
+    -- the lines of the next process, and of those after it
+    pub locations-next : answer_bytes (locations_of (records_after last all)) ≡ answer_bytes (location_of pid (find nat_cmp pid all)) ++ answer_bytes (locations_of (records_after pid all))
+    locations-next =
+        ap (λ rs. answer_bytes (locations_of rs)) next.first ∙ flat_map-append answer_line_bytes (location_lines pid next.entry) (locations_of (records_after pid all))
+        ∙ ap (λ (o : Option ProcessRecord). answer_bytes (location_of pid o) ++ answer_bytes (locations_of (records_after pid all))) (sym next.found)
 
-    -- the same with what it has
-    pub lines-next : answer_bytes (lines_of_all s (records_after last all)) ≡ (answer_bytes (standing_of pid (find nat_cmp pid all)) ++ answer_bytes (held_by s pid)) ++ answer_bytes (lines_of_all s (records_after pid all))
+    -- the same with the remaining lines of the process
+    pub lines-next : answer_bytes (lines_of_all s (records_after last all)) ≡ (answer_bytes (location_of pid (find nat_cmp pid all)) ++ answer_bytes (held_by s pid)) ++ answer_bytes (lines_of_all s (records_after pid all))
     lines-next =
         let rest = lines_of_all s (records_after pid all) in
-        ap (λ rs. answer_bytes (lines_of_all s rs)) next.first ∙ flat_map-append answer_line_bytes (standing_lines pid next.entry ++ held_lines s pid next.entry) rest
-        ∙ ap (λ (bs : Bytes). bs ++ answer_bytes rest) (flat_map-append answer_line_bytes (standing_lines pid next.entry) (held_lines s pid next.entry))
-        ∙ ap (λ (o : Option ProcessRecord). (answer_bytes (standing_of pid o) ++ answer_bytes (held_of s pid o)) ++ answer_bytes rest) (sym next.found)
+        ap (λ rs. answer_bytes (lines_of_all s rs)) next.first ∙ flat_map-append answer_line_bytes (location_lines pid next.entry ++ held_lines s pid next.entry) rest
+        ∙ ap (λ (bs : Bytes). bs ++ answer_bytes rest) (flat_map-append answer_line_bytes (location_lines pid next.entry) (held_lines s pid next.entry))
+        ∙ ap (λ (o : Option ProcessRecord). (answer_bytes (location_of pid o) ++ answer_bytes (held_of s pid o)) ++ answer_bytes rest) (sym next.found)
 
   -- past the last process
-  pub standings-end : (last : ℕ) (text : Bytes) (before after : Option Bytes) → number_after last all ≡ None
-      → LeavesRest (answer_bytes (standings_of (records_after last all))) text before after → after ≡ and_all before text
-  standings-end last text before after none left =
-      written_text text before after (subst (λ rest. LeavesRest rest text before after) (ap (λ rs. answer_bytes (standings_of rs)) (none-after last all none)) left)
+  pub locations-end : (last : ℕ) (text : Bytes) (before after : Option Bytes) → number_after last all ≡ None
+      → LeavesRest (answer_bytes (locations_of (records_after last all))) text before after → after ≡ and_all before text
+  locations-end last text before after none left =
+      written_text text before after (subst (λ rest. LeavesRest rest text before after) (ap (λ rs. answer_bytes (locations_of rs)) (none-after last all none)) left)
 
   pub lines-end : (last : ℕ) (text : Bytes) (before after : Option Bytes) → number_after last all ≡ None
       → LeavesRest (answer_bytes (lines_of_all s (records_after last all))) text before after → after ≡ and_all before text

@@ -7,17 +7,17 @@ use Rattle.pv_model.specs.declared.perms.Perms.{Perms}
 use Rattle.pv_model.specs.declared.target.Target.{Target}
 use Rattle.pv_model.specs.Answers.Lines.{AnswerLine, answer_line, answer_line_bytes, counted, pledged_text, spaced}
 use Rattle.pv_model.specs.Answers.Nodes.{node_words}
-use Rattle.pv_model.specs.Answers.ProcessRecord.{OpenDescriptor, buffer_front, descriptor_text, entry_text, front_text, held_lines, live_text, open_descriptor, standing_lines, table_text}
+use Rattle.pv_model.specs.Answers.ProcessRecord.{OpenDescriptor, buffer_front, descriptor_text, entry_text, front_text, held_lines, live_text, open_descriptor, location_lines, table_text}
 use Rattle.pv_model.specs.Bytes.{Bytes}
 use Rattle.pv_model.specs.Numbered.{Numbered, at_number, numbered}
 use Rattle.pv_model.specs.State.{Descriptor, Process, ProcessRecord as Record, State}
 use Rattle.pv_model.specs.Unveil.{Table}
 use Rattle.pv_procs.specs.declared.record.ProcessRecord.{ProcessRecord}
 
--- who a process is, and at what: of a number that is no process nothing
-abbrev pub standing_of : ℕ → Option Record → List AnswerLine
-standing_of pid None = []
-standing_of pid (Some r) = standing_lines pid r
+-- the identity and location of a process; no lines if there is no such process
+abbrev pub location_of : ℕ → Option Record → List AnswerLine
+location_of pid None = []
+location_of pid (Some r) = location_lines pid r
 
 abbrev pub live_words : Option Process → Bytes
 live_words None = []
@@ -27,13 +27,13 @@ abbrev pub held_of : State → ℕ → Option Record → List AnswerLine
 held_of s pid None = []
 held_of s pid (Some r) = held_lines s pid r
 
--- what a process has: of a number that is no process nothing
+-- the restraints, descriptors and memory of a process; no lines if there is no such process
 abbrev pub held_by : State → ℕ → List AnswerLine
 held_by s pid = held_of s pid (find nat_cmp pid s.processes)
 
--- ---- by what a process owns
+-- ---- by the record of a process
 
--- of a working directory, of what is promised, and of the table
+-- the working directory, the promises, and the table
 abbrev pub restraint_bytes : State → ℕ → ProcessRecord → Bytes
 restraint_bytes s pid r =
     answer_line_bytes (answer_line pid (codes "CWD") (node_words s.tree r.directory))
@@ -41,7 +41,7 @@ restraint_bytes s pid r =
     ++ answer_line_bytes (answer_line pid (codes "EXPR") (pledged_text r.pledge.execpromises))
     ++ answer_line_bytes (answer_line pid (codes "UNVL") (table_text r.unveiled.table r.unveiled.locked))
 
--- of the entries of a table
+-- the entries of the table
 abbrev pub entry_lines : State → ℕ → Table → List AnswerLine
 entry_lines s pid table = map (λ e. answer_line pid (codes "UNVL") (entry_text s e)) (counted table)
 
@@ -49,11 +49,11 @@ abbrev pub entry_line_of : State → ℕ → ℕ → Option (Target × Perms) �
 entry_line_of s pid k None = []
 entry_line_of s pid k (Some e) = answer_line_bytes (answer_line pid (codes "UNVL") (entry_text s (k, e)))
 
--- of one of them
+-- one entry
 abbrev pub entry_line : State → ℕ → Table → ℕ → Bytes
 entry_line s pid table k = entry_line_of s pid k (slice_get table k)
 
--- of descriptors
+-- the descriptors
 abbrev pub descriptor_lines : State → ℕ → Numbered Descriptor → List AnswerLine
 descriptor_lines s pid ds = map (λ d. answer_line pid (codes "FD") (descriptor_text s d)) (filter_map (open_descriptor s) (numbered ds))
 
@@ -65,11 +65,11 @@ abbrev pub descriptor_line_of : State → ℕ → ℕ → Option Descriptor → 
 descriptor_line_of s pid d None = []
 descriptor_line_of s pid d (Some descriptor) = open_line_of s pid (open_descriptor s (d, descriptor))
 
--- of one of them, if it is open
+-- one descriptor, if it is open
 abbrev pub descriptor_line : State → ℕ → Numbered Descriptor → ℕ → Bytes
 descriptor_line s pid ds d = descriptor_line_of s pid d (at_number ds d)
 
--- of registers and buffer
+-- the registers and the buffer
 abbrev pub memory_bytes : ℕ → ProcessRecord → Bytes
 memory_bytes pid r =
     answer_line_bytes (answer_line pid (codes "REGS") (spaced (map signed_decimal r.context.registers)))

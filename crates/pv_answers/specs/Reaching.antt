@@ -1,4 +1,4 @@
--- What a process may do at places, part by part.
+-- The permissions of a process at places, part by part.
 use Rattle.std.specs.Prelude.{ℕ, Bool, true, not, ◌&&◌, if◌then◌else◌, ◌==◌, List, [], ◌∷◌, ◌++◌, flat_map, codes, slice_get, is_none, unwrap_or, Option, None, Some, option_map, option_to_list}
 use Rattle.std.specs.Fmt.{decimal}
 use Rattle.std.specs.Option.{option_and_then}
@@ -28,13 +28,13 @@ use Rattle.pv_model.specs.Unveil.{Table, entry_for, permissions_at}
 use Rattle.pv_procs.specs.declared.record.ProcessRecord.{ProcessRecord}
 use Rattle.pv_procs.specs.Parts.{with_record}
 
--- the lines of what the process of a number may do: none where it is not live
+-- the lines of a process's permissions; none if the process is not live
 abbrev pub reached_by : State → ℕ → List AnswerLine
 reached_by s pid = unwrap_or (reach_of_one s pid) []
 
--- ---- who reaches
+-- ---- the process
 
--- a process that owns what a record has
+-- a process with this record
 abbrev pub owner : ProcessRecord → Process
 owner r = with_record (first_process []) r
 
@@ -47,22 +47,22 @@ process_of x = owner x.owned.now
 abbrev pub table_of : Reacher → Option Table
 table_of x = x.owned.now.unveiled.table
 
--- a line of it
+-- a line of the process
 abbrev pub may_line : Reacher → Bytes → Bytes
 may_line x text = line_front x.pid (codes "MAY ") ++ text ++ 10 ∷ []
 
 abbrev pub may_lines : Reacher → List Bytes → Bytes
 may_lines x texts = flat_map (may_line x) texts
 
--- ---- by the entry that governs a place
+-- ---- by the governing entry
 
--- the permissions that a table gives: all where there is none
+-- the permissions that a table gives: all if there is no table
 abbrev pub given_by : Option Table → Option ℕ → Perms
 given_by None entry = record { r = true; w = true; x = true; c = true }
 given_by (Some table) None = no_permissions
 given_by (Some table) (Some k) = permissions_at table k
 
--- those of them with which the promises go
+-- those permissions whose promises are held
 abbrev pub promised : Option Promises → Perms → Perms
 promised held given = record {
   r = given.r && holds held Rpath;
@@ -71,35 +71,35 @@ promised held given = record {
   c = given.c && holds held Cpath;
 }
 
--- the permissions that may be asked
+-- the permissions that the process has
 abbrev pub permitted_by : ProcessRecord → Option ℕ → Perms
 permitted_by r entry = promised r.pledge.promises (given_by r.unveiled.table entry)
 
--- who governs
+-- the governor of a place
 abbrev pub who_by : Option Table → Option ℕ → Bytes
 who_by None entry = codes "no table"
 who_by (Some table) None = codes "none"
 who_by (Some table) (Some k) = codes "entry " ++ decimal k
 
--- a place in words, with its permissions and who governs it
+-- a place in words, with its permissions and its governor
 abbrev pub governed_words : Reacher → Option ℕ → Bytes → Bytes
 governed_words x entry words = permissions_in_places (permitted_by x.owned.now entry) ++ codes " " ++ words ++ codes ", " ++ who_by (table_of x) entry
 
 -- ---- descriptors
 
--- the open file of a descriptor, if there is one: its node and its mode
+-- the node and the mode of a descriptor's open file, if the descriptor is open
 abbrev pub opened_at : Reacher → ℕ → Option (ℕ × Mode)
 opened_at x d = option_map (λ f. (f.node, f.mode)) (option_and_then (λ e. at_number (state_of x).files e.file) (at_number x.owned.now.descriptors d))
 
 abbrev pub descriptor_words : ℕ → Mode → Bytes
 descriptor_words d mode = codes ", descriptor " ++ decimal d ++ codes " " ++ mode_text mode
 
--- what is said of a descriptor after a node on which it is
+-- the words for a descriptor that follow a node, if the descriptor is on that node
 abbrev pub words_on : ℕ → ℕ → Option (ℕ × Mode) → Bytes
 words_on n d None = []
 words_on n d (Some opened) = if opened.0 == n then descriptor_words d opened.1 else []
 
--- what is said of all descriptors on a node
+-- the words for all descriptors on a node
 abbrev pub all_on : Reacher → ℕ → Bytes
 all_on x n = flat_map (descriptor_part (state_of x) (process_of x)) (descriptors_of_node (state_of x) (process_of x) n)
 
@@ -110,7 +110,7 @@ abbrev pub path_of : LinkedPath → Bytes
 path_of Root = []
 path_of (Below' p above name) = with_name name.now (path_of above)
 
--- what is said of a name, by the entry that governs it
+-- the words for a name, by its governing entry
 abbrev pub listed_words : Reacher → Bytes → Option ℕ → ℕ → Bytes
 listed_words x path entry n = governed_words x entry (quote (listed_path path)) ++ all_on x n
 
@@ -121,17 +121,17 @@ listed_line x l = may_line x (name_text (state_of x) (process_of x) l)
 abbrev pub listed_lines : Reacher → List ListedName → Bytes
 listed_lines x ls = flat_map (listed_line x) ls
 
--- those from a path on, so deep
+-- the lines of the names at and below a path, up to a depth
 abbrev pub lines_within : Reacher → ℕ → Bytes → Place → ℕ → Bytes
 lines_within x depth path place n = listed_lines x (names_within (state_of x).tree depth path place n)
 
--- those of entries of a directory
+-- the lines of the entries of a directory
 abbrev pub lines_under : Reacher → ℕ → Bytes → ℕ → Entries → Bytes
 lines_under x depth path n es = flat_map (λ e. lines_within x depth (with_name e.0 path) (At n e.0 (Some e.1)) e.1) es
 
--- ---- what is no name of the tree
+-- ---- places without a name in the tree
 
--- a name that is not there, in a directory that is not removed
+-- the name does not exist, in a directory that is not removed
 abbrev pub is_absent_in : Tree → ℕ → Bytes → Bool
 is_absent_in t d name = is_none (find_entry t d name) && not (is_removed t d)
 
@@ -139,12 +139,12 @@ abbrev pub absent_words : Reacher → ℕ → Option ℕ → ℕ → Bytes → B
 absent_words x k entry d name =
     permissions_in_places (permitted_by x.owned.now entry) ++ codes " " ++ name_words (state_of x).tree d name ++ codes ", entry " ++ decimal k ++ codes ", absent"
 
--- the line of an entry of the table, where it is for a name that is not there
+-- the line of a table entry, if its target is an absent name
 abbrev pub absent_line : Reacher → ℕ → Bytes
 absent_line x k =
     may_lines x (flat_map (λ e. entry_texts (state_of x) (process_of x) (k, e)) (option_to_list (slice_get (entries_of_table (table_of x)) k)))
 
--- a removed directory, which its own entry alone governs
+-- a removed directory, which only its own entry can govern
 abbrev pub removed_words : Reacher → ℕ → Bytes
 removed_words x n = governed_words x (entry_for (entries_of_table (table_of x)) (Directory n)) (node_words (state_of x).tree n)
 
@@ -152,12 +152,12 @@ removed_words x n = governed_words x (entry_for (entries_of_table (table_of x)) 
 abbrev pub unnamed_words : Reacher → ℕ → ℕ → Mode → Bytes
 unnamed_words x n d mode = unnamed_text (state_of x) (process_of x) n ++ descriptor_words d mode
 
--- the line of a descriptor, where it is on a node without a path
+-- the line of a descriptor, if its node has no path
 abbrev pub unnamed_line : Reacher → ℕ → Option (ℕ × Mode) → Bytes
 unnamed_line x d None = []
 unnamed_line x d (Some opened) = if is_none (node_path (state_of x).tree opened.0) then may_line x (unnamed_words x opened.0 d opened.1) else []
 
--- ---- all of a process
+-- ---- all lines of a process
 
 abbrev pub absent_lines : Reacher → Bytes
 absent_lines x = may_lines x (flat_map (entry_texts (state_of x) (process_of x)) (counted (entries_of_table (table_of x))))

@@ -1,9 +1,8 @@
-//! The call that comes next in a process.
-ghost use Rattle.std.specs.Prelude.{◌≡◌, OnOk, OnErr};
+//! The next call of a process.
+ghost use Rattle.std.specs.Prelude.{◌≡◌};
 ghost use Rattle.pv_answers.specs.Texts.{next_words};
 ghost use Rattle.pv_model.specs.State.{process_at};
-ghost use Rattle.pv_model.specs.Stream.{Rose};
-ghost use Rattle.pv_streams.specs.Sinks.{and_all, TellsBeginning};
+ghost use Rattle.pv_streams.specs.Sinks.{Writes};
 
 use pv_calls_state::Parts;
 use pv_procs::Fetched;
@@ -11,7 +10,7 @@ use pv_script::CallTexts;
 use pv_streams::{Failed, Sink, write_whole};
 use pv_trace::{LineBuffer, write_call};
 
-/// Room for one call and its text.
+/// Storage for one call and its texts.
 #[derive(Drop)]
 pub(crate) struct CallRoom {
     texts: CallTexts,
@@ -19,7 +18,7 @@ pub(crate) struct CallRoom {
 }
 
 impl CallRoom {
-    /// Room that has no call yet.
+    /// Returns storage without a call.
     pub(crate) fn new() -> CallRoom {
         CallRoom {
             texts: CallTexts::new(),
@@ -28,22 +27,19 @@ impl CallRoom {
     }
 }
 
-/// Writes what comes next in a live process: a call as a CALL line has it, or `registers`. Nothing is written of one that
-/// is not live.
+/// Writes the next instruction of a live process: a call, as in a CALL line, or `registers`. Writes nothing if the
+/// process is not live.
 ///
 /// # Errors
 ///
-/// `Failed` where a write failed: the sink was given a beginning of it.
+/// `Failed`, if a write failed. The sink received a prefix of the text.
 pub(crate) fn write_next<W: Sink>(
     out: &mut W,
     parts: &Parts,
     room: &mut CallRoom,
     pid: u32,
 ) -> Result<(), Failed>
-    ensures whole { OnOk result (W.written out.new ≡ and_all (W.written out.old) (next_words (process_at parts.now pid))) }
-    ensures beginning { OnErr result (TellsBeginning (next_words (process_at parts.now pid)) (W.written out.old) (W.written out.new)) }
-    ensures failed { OnErr result (Rose (W.failures out.old) (W.failures out.new)) }
-    ensures quiet { OnOk result (W.failures out.new ≡ W.failures out.old) }
+    ensures { Writes W.Sink (next_words (process_at parts.now pid)) out.old out.new result }
 {
     match parts.processes().fetch(pid, &mut room.texts) {
         Fetched::Gone => Ok(()),

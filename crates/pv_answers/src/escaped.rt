@@ -1,21 +1,20 @@
-//! Bytes as a text has them between its marks.
-ghost use Rattle.std.specs.Prelude.{◌≡◌, ◌+◌, ◌*◌, ◌++◌, ◌≤◌, length, flat_map, OnOk, OnErr};
+//! Bytes in the escaped form that texts have between their quotation marks.
+ghost use Rattle.std.specs.Prelude.{◌≡◌, ◌+◌, ◌*◌, ◌++◌, ◌≤◌, length, flat_map};
 ghost use Rattle.pv_answers.specs.declared.escaped.TheConstants.{PART, PART_ESCAPED};
-ghost use Rattle.pv_model.specs.Stream.{Rose};
 ghost use Rattle.pv_model.specs.Trace.{quote_byte};
-ghost use Rattle.pv_streams.specs.Sinks.{and_all, TellsBeginning};
+ghost use Rattle.pv_streams.specs.Sinks.{Writes};
 
 use pv_model::{hex_digit, is_plain};
 use pv_streams::{Failed, Sink, write_whole};
 use pv_trace::{FixedBuffer, plain_count};
 
-/// Bytes that are written at once.
+/// The number of bytes that are written at once.
 const PART: usize = 64;
 
-/// What they have at most, as a program writes them.
+/// The maximum length of these bytes in escaped form.
 const PART_ESCAPED: usize = 4 * PART;
 
-// Puts a byte after what the buffer has, as a program writes it in its shortest form.
+// Appends a byte in its shortest escaped form.
 #[inline]
 fn put_byte(out: &mut FixedBuffer<PART_ESCAPED>, byte: u8)
     requires { length out.old.items + 4 ≤ PART_ESCAPED }
@@ -29,7 +28,7 @@ fn put_byte(out: &mut FixedBuffer<PART_ESCAPED>, byte: u8)
     }
 }
 
-// Puts bytes after what the buffer has, as a program writes them in their shortest form.
+// Appends bytes in their shortest escaped form.
 fn put_bytes(out: &mut FixedBuffer<PART_ESCAPED>, bytes: &[u8])
     requires { length out.old.items + 4 * length bytes.now ≤ PART_ESCAPED }
     ensures { out.new.items ≡ out.old.items ++ flat_map quote_byte bytes.now }
@@ -41,31 +40,25 @@ fn put_bytes(out: &mut FixedBuffer<PART_ESCAPED>, bytes: &[u8])
     }
 }
 
-// Writes a few bytes as a program writes them in their shortest form, at once.
+// Writes a few bytes in their shortest escaped form, with one write.
 fn write_part<W: Sink>(out: &mut W, part: &[u8]) -> Result<(), Failed>
     requires { length part.now ≤ PART }
-    ensures whole { OnOk result (W.written out.new ≡ and_all (W.written out.old) (flat_map quote_byte part.now)) }
-    ensures beginning { OnErr result (TellsBeginning (flat_map quote_byte part.now) (W.written out.old) (W.written out.new)) }
-    ensures failed { OnErr result (Rose (W.failures out.old) (W.failures out.new)) }
-    ensures quiet { OnOk result (W.failures out.new ≡ W.failures out.old) }
+    ensures { Writes W.Sink (flat_map quote_byte part.now) out.old out.new result }
 {
     let mut escaped = FixedBuffer::new();
     put_bytes(&mut escaped, part);
     write_whole(out, escaped.as_slice())
 }
 
-/// Writes bytes of any length as a program writes them in their shortest form, without the marks around them. What stands for
-/// itself is written at once. It takes no memory.
+/// Writes bytes of any length in their shortest escaped form, without quotation marks. A run of bytes that need no
+/// escape is written at once. Does not allocate.
 ///
 /// # Errors
 ///
-/// `Failed` where a write failed: the sink was given a beginning of the text.
+/// `Failed`, if a write failed. The sink received a prefix of the text.
 #[tactic(auto, using(pv_listing::proofs::Rests::rest_all, pv_listing::proofs::Rests::written_text))]
 pub(crate) fn write_escaped<W: Sink>(out: &mut W, bytes: &[u8]) -> Result<(), Failed>
-    ensures whole { OnOk result (W.written out.new ≡ and_all (W.written out.old) (flat_map quote_byte bytes.now)) }
-    ensures beginning { OnErr result (TellsBeginning (flat_map quote_byte bytes.now) (W.written out.old) (W.written out.new)) }
-    ensures failed { OnErr result (Rose (W.failures out.old) (W.failures out.new)) }
-    ensures quiet { OnOk result (W.failures out.new ≡ W.failures out.old) }
+    ensures { Writes W.Sink (flat_map quote_byte bytes.now) out.old out.new result }
 {
     let mut rest = bytes;
     while !rest.is_empty() {

@@ -1,31 +1,27 @@
-//! Fragments of a text, which are written one after the other.
+//! Fragments of a text.
 //!
-//! A pair of fragments is a fragment, and so are three, four, five and six: their texts follow one another.
-ghost use Rattle.std.specs.Prelude.{◌≡◌, ◌++◌, ℕ, List, OnOk, OnErr};
+//! A tuple of two to six fragments is a fragment, whose text is the concatenation of theirs.
+ghost use Rattle.std.specs.Prelude.{◌≡◌, ◌++◌, ℕ, List};
 ghost use Rattle.pv_answers.specs.Texts.{text_where};
-ghost use Rattle.pv_model.specs.Stream.{Rose};
-ghost use Rattle.pv_streams.specs.Sinks.{and_all, TellsBeginning};
+ghost use Rattle.pv_streams.specs.Sinks.{Writes};
 
 use pv_streams::{Failed, Sink, write_whole};
 
 /// A fragment of a text.
 pub trait Fragment {
-    /// Its bytes.
+    /// The bytes of the fragment.
     ghost text: { Self → List ℕ };
 
-    /// Writes it.
+    /// Writes the fragment.
     ///
     /// # Errors
     ///
-    /// `Failed` where a write failed: the sink was given a beginning of the fragment.
+    /// `Failed`, if a write failed. The sink received a prefix of the fragment.
     fn write<W: Sink>(&self, out: &mut W) -> Result<(), Failed>
-        ensures whole { OnOk result (W.written out.new ≡ and_all (W.written out.old) (text self.now)) }
-        ensures beginning { OnErr result (TellsBeginning (text self.now) (W.written out.old) (W.written out.new)) }
-        ensures failed { OnErr result (Rose (W.failures out.old) (W.failures out.new)) }
-        ensures quiet { OnOk result (W.failures out.new ≡ W.failures out.old) };
+        ensures { Writes W.Sink (text self.now) out.old out.new result };
 }
 
-/// Bytes as they are.
+/// Bytes that are written unchanged.
 #[derive(Clone, Copy)]
 pub struct Plain<'a>(pub &'a [u8]);
 
@@ -37,7 +33,7 @@ impl<'a> Fragment for Plain<'a> {
     }
 }
 
-/// A fragment that stands elsewhere.
+/// A reference to a fragment.
 impl<'a, P: Fragment> Fragment for &'a P {
     ghost text = { λ p. P.text p.now };
 
@@ -46,7 +42,7 @@ impl<'a, P: Fragment> Fragment for &'a P {
     }
 }
 
-/// A fragment that is there or not: where it is not, nothing is written.
+/// An optional fragment. Nothing is written for `None`.
 impl<P: Fragment> Fragment for Option<P> {
     ghost text = { λ p. text_where P.text p };
 
@@ -61,7 +57,7 @@ impl<P: Fragment> Fragment for Option<P> {
 impl<A: Fragment, B: Fragment> Fragment for (A, B) {
     ghost text = { λ p. A.text p.0 ++ B.text p.1 };
 
-    #[tactic(auto, using(pv_streams::proofs::Telling::written_both))]
+    #[tactic(auto, using(pv_streams::proofs::Reporting::written_both))]
     fn write<W: Sink>(&self, out: &mut W) -> Result<(), Failed> {
         self.0.write(out)?;
         self.1.write(out)
@@ -71,7 +67,7 @@ impl<A: Fragment, B: Fragment> Fragment for (A, B) {
 impl<A: Fragment, B: Fragment, C: Fragment> Fragment for (A, B, C) {
     ghost text = { λ p. A.text p.0 ++ B.text p.1 ++ C.text p.2 };
 
-    #[tactic(auto, using(pv_streams::proofs::Telling::written_both))]
+    #[tactic(auto, using(pv_streams::proofs::Reporting::written_both))]
     fn write<W: Sink>(&self, out: &mut W) -> Result<(), Failed> {
         self.0.write(out)?;
         self.1.write(out)?;
@@ -82,7 +78,7 @@ impl<A: Fragment, B: Fragment, C: Fragment> Fragment for (A, B, C) {
 impl<A: Fragment, B: Fragment, C: Fragment, D: Fragment> Fragment for (A, B, C, D) {
     ghost text = { λ p. A.text p.0 ++ B.text p.1 ++ C.text p.2 ++ D.text p.3 };
 
-    #[tactic(auto, using(pv_streams::proofs::Telling::written_both))]
+    #[tactic(auto, using(pv_streams::proofs::Reporting::written_both))]
     fn write<W: Sink>(&self, out: &mut W) -> Result<(), Failed> {
         self.0.write(out)?;
         self.1.write(out)?;
@@ -94,7 +90,7 @@ impl<A: Fragment, B: Fragment, C: Fragment, D: Fragment> Fragment for (A, B, C, 
 impl<A: Fragment, B: Fragment, C: Fragment, D: Fragment, E: Fragment> Fragment for (A, B, C, D, E) {
     ghost text = { λ p. A.text p.0 ++ B.text p.1 ++ C.text p.2 ++ D.text p.3 ++ E.text p.4 };
 
-    #[tactic(auto, using(pv_streams::proofs::Telling::written_both))]
+    #[tactic(auto, using(pv_streams::proofs::Reporting::written_both))]
     fn write<W: Sink>(&self, out: &mut W) -> Result<(), Failed> {
         self.0.write(out)?;
         self.1.write(out)?;
@@ -108,7 +104,7 @@ impl<A: Fragment, B: Fragment, C: Fragment, D: Fragment, E: Fragment, F: Fragmen
     for (A, B, C, D, E, F) {
     ghost text = { λ p. A.text p.0 ++ B.text p.1 ++ C.text p.2 ++ D.text p.3 ++ E.text p.4 ++ F.text p.5 };
 
-    #[tactic(auto, using(pv_streams::proofs::Telling::written_both))]
+    #[tactic(auto, using(pv_streams::proofs::Reporting::written_both))]
     fn write<W: Sink>(&self, out: &mut W) -> Result<(), Failed> {
         self.0.write(out)?;
         self.1.write(out)?;

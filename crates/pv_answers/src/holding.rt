@@ -1,13 +1,12 @@
-//! What a live process has.
-ghost use Rattle.std.specs.Prelude.{◌≡◌, ◌<◌, length, option_copied, option_map, IsSome, Some, OnOk, OnErr};
+//! The restraints, descriptors and memory of a live process.
+ghost use Rattle.std.specs.Prelude.{◌≡◌, ◌<◌, length, option_copied, option_map, IsSome, Some};
 ghost use Rattle.pv_answers.specs.Holdings.{descriptor_line, descriptor_lines, entry_line, entry_lines, held_by, memory_bytes, restraint_bytes};
 ghost use Rattle.pv_model.specs.Answers.Lines.{answer_bytes};
 ghost use Rattle.pv_model.specs.Answers.ProcessRecord.{listed_text, table_text};
 ghost use Rattle.pv_model.specs.Calls.Restraints.{entries_of_table};
 ghost use Rattle.pv_model.specs.Numbered.{at_number};
-ghost use Rattle.pv_model.specs.Stream.{Rose};
 ghost use Rattle.pv_model.specs.Trace.{flag_text};
-ghost use Rattle.pv_streams.specs.Sinks.{and_all, TellsBeginning};
+ghost use Rattle.pv_streams.specs.Sinks.{Writes};
 
 use crate::fragments::{Fragment, Plain};
 use crate::lines::{Count, Decimal, Letters, Line, ModeLetters, Pledged, Quoted};
@@ -20,7 +19,7 @@ use pv_procs::ProcessRecord;
 use pv_streams::{Failed, Sink};
 use pv_unveil::Table;
 
-// Whether a table is in force, and whether it is locked.
+// Returns whether a table is in force and whether it is locked, in words.
 fn table_words(table: &Table) -> &'static [u8]
     ensures { result.now ≡ table_text table.now.table table.now.locked }
 {
@@ -32,7 +31,7 @@ fn table_words(table: &Table) -> &'static [u8]
     }
 }
 
-// The lines of the working directory, of what is promised, and of the table.
+// Writes the lines of the working directory, the promises and the table.
 #[tactic(auto, unfolding(pv_model::specs::Trace::text_line))]
 fn write_restraints<W: Sink>(
     out: &mut W,
@@ -40,10 +39,7 @@ fn write_restraints<W: Sink>(
     pid: u32,
     owned: &ProcessRecord,
 ) -> Result<(), Failed>
-    ensures whole { OnOk result (W.written out.new ≡ and_all (W.written out.old) (restraint_bytes parts.now pid owned.now)) }
-    ensures beginning { OnErr result (TellsBeginning (restraint_bytes parts.now pid owned.now) (W.written out.old) (W.written out.new)) }
-    ensures failed { OnErr result (Rose (W.failures out.old) (W.failures out.new)) }
-    ensures quiet { OnOk result (W.failures out.new ≡ W.failures out.old) }
+    ensures { Writes W.Sink (restraint_bytes parts.now pid owned.now) out.old out.new result }
 {
     let directory = NodeWords {
         tree: parts.tree(),
@@ -77,7 +73,7 @@ fn write_restraints<W: Sink>(
         .write(out)
 }
 
-// The line of an entry of a table.
+// Writes the line of a table entry.
 #[tactic(auto, unfolding(pv_model::specs::Trace::text_line))]
 fn write_entry<W: Sink>(
     out: &mut W,
@@ -87,10 +83,7 @@ fn write_entry<W: Sink>(
     number: u8,
 ) -> Result<(), Failed>
     requires { number < length (entries_of_table table.now.table) }
-    ensures whole { OnOk result (W.written out.new ≡ and_all (W.written out.old) (entry_line parts.now pid (entries_of_table table.now.table) number)) }
-    ensures beginning { OnErr result (TellsBeginning (entry_line parts.now pid (entries_of_table table.now.table) number) (W.written out.old) (W.written out.new)) }
-    ensures failed { OnErr result (Rose (W.failures out.old) (W.failures out.new)) }
-    ensures quiet { OnOk result (W.failures out.new ≡ W.failures out.old) }
+    ensures { Writes W.Sink (entry_line parts.now pid (entries_of_table table.now.table) number) out.old out.new result }
 {
     let permissions = Letters(table.permissions(number));
     let target = TargetWords {
@@ -114,12 +107,9 @@ fn write_entry<W: Sink>(
     .write(out)
 }
 
-// The lines of all entries.
+// Writes the lines of all table entries.
 fn write_entries<W: Sink>(out: &mut W, parts: &Parts, pid: u32, table: &Table) -> Result<(), Failed>
-    ensures whole { OnOk result (W.written out.new ≡ and_all (W.written out.old) (answer_bytes (entry_lines parts.now pid (entries_of_table table.now.table)))) }
-    ensures beginning { OnErr result (TellsBeginning (answer_bytes (entry_lines parts.now pid (entries_of_table table.now.table))) (W.written out.old) (W.written out.new)) }
-    ensures failed { OnErr result (Rose (W.failures out.old) (W.failures out.new)) }
-    ensures quiet { OnOk result (W.failures out.new ≡ W.failures out.old) }
+    ensures { Writes W.Sink (answer_bytes (entry_lines parts.now pid (entries_of_table table.now.table))) out.old out.new result }
 {
     for number in 0..table.len() as u8 {
         write_entry(out, parts, pid, table, number)?;
@@ -127,7 +117,7 @@ fn write_entries<W: Sink>(out: &mut W, parts: &Parts, pid: u32, table: &Table) -
     Ok(())
 }
 
-// A word with a plus sign, where it is so.
+// A word with a plus sign in front, if the flag is set.
 #[derive(Clone, Copy)]
 struct Flag<'a> {
     holds: bool,
@@ -146,7 +136,7 @@ impl<'a> Fragment for Flag<'a> {
     }
 }
 
-// The name that getdents(2) told last, where it told one.
+// The last name that getdents(2) gave, if there is one.
 #[derive(Clone, Copy)]
 struct Listed<'a>(Option<&'a Name>);
 
@@ -161,7 +151,7 @@ impl<'a> Fragment for Listed<'a> {
     }
 }
 
-// The line of a descriptor, by the number of its open file.
+// Writes the line of a descriptor, given the number of its open file.
 #[tactic(auto, unfolding(pv_model::specs::Trace::text_line))]
 fn write_descriptor<W: Sink>(
     out: &mut W,
@@ -173,10 +163,7 @@ fn write_descriptor<W: Sink>(
 ) -> Result<(), Failed>
     requires file { option_map (λ d. d.file) (at_number owned.now.descriptors number) ≡ Some file }
     requires opened { IsSome (at_number parts.now.files file) }
-    ensures whole { OnOk result (W.written out.new ≡ and_all (W.written out.old) (descriptor_line parts.now pid owned.now.descriptors number)) }
-    ensures beginning { OnErr result (TellsBeginning (descriptor_line parts.now pid owned.now.descriptors number) (W.written out.old) (W.written out.new)) }
-    ensures failed { OnErr result (Rose (W.failures out.old) (W.failures out.new)) }
-    ensures quiet { OnOk result (W.failures out.new ≡ W.failures out.old) }
+    ensures { Writes W.Sink (descriptor_line parts.now pid owned.now.descriptors number) out.old out.new result }
 {
     let files = parts.files();
     let mode = ModeLetters(files.mode(file));
@@ -206,7 +193,7 @@ fn write_descriptor<W: Sink>(
     .write(out)
 }
 
-// The line of a descriptor: none where the number is none.
+// Writes the line of a descriptor, or nothing if the descriptor is not open.
 fn write_descriptor_line<W: Sink>(
     out: &mut W,
     parts: &Parts,
@@ -214,10 +201,7 @@ fn write_descriptor_line<W: Sink>(
     owned: &ProcessRecord,
     number: u8,
 ) -> Result<(), Failed>
-    ensures whole { OnOk result (W.written out.new ≡ and_all (W.written out.old) (descriptor_line parts.now pid owned.now.descriptors number)) }
-    ensures beginning { OnErr result (TellsBeginning (descriptor_line parts.now pid owned.now.descriptors number) (W.written out.old) (W.written out.new)) }
-    ensures failed { OnErr result (Rose (W.failures out.old) (W.failures out.new)) }
-    ensures quiet { OnOk result (W.failures out.new ≡ W.failures out.old) }
+    ensures { Writes W.Sink (descriptor_line parts.now pid owned.now.descriptors number) out.old out.new result }
 {
     let Ok(file) = owned.descriptors.at(i32::from(number)) else {
         return Ok(());
@@ -228,17 +212,14 @@ fn write_descriptor_line<W: Sink>(
     write_descriptor(out, parts, pid, owned, number, file)
 }
 
-// The lines of the descriptors.
+// Writes the lines of all descriptors.
 fn write_descriptors<W: Sink>(
     out: &mut W,
     parts: &Parts,
     pid: u32,
     owned: &ProcessRecord,
 ) -> Result<(), Failed>
-    ensures whole { OnOk result (W.written out.new ≡ and_all (W.written out.old) (answer_bytes (descriptor_lines parts.now pid owned.now.descriptors))) }
-    ensures beginning { OnErr result (TellsBeginning (answer_bytes (descriptor_lines parts.now pid owned.now.descriptors)) (W.written out.old) (W.written out.new)) }
-    ensures failed { OnErr result (Rose (W.failures out.old) (W.failures out.new)) }
-    ensures quiet { OnOk result (W.failures out.new ≡ W.failures out.old) }
+    ensures { Writes W.Sink (answer_bytes (descriptor_lines parts.now pid owned.now.descriptors)) out.old out.new result }
 {
     owned.descriptors.invariant();
     for number in 0..DESCRIPTORS as u8 {
@@ -247,13 +228,10 @@ fn write_descriptors<W: Sink>(
     Ok(())
 }
 
-// The lines of the registers and of the buffer.
+// Writes the lines of the registers and the buffer.
 #[tactic(auto, unfolding(pv_model::specs::Trace::text_line))]
 fn write_memory<W: Sink>(out: &mut W, pid: u32, owned: &ProcessRecord) -> Result<(), Failed>
-    ensures whole { OnOk result (W.written out.new ≡ and_all (W.written out.old) (memory_bytes pid owned.now)) }
-    ensures beginning { OnErr result (TellsBeginning (memory_bytes pid owned.now) (W.written out.old) (W.written out.new)) }
-    ensures failed { OnErr result (Rose (W.failures out.old) (W.failures out.new)) }
-    ensures quiet { OnOk result (W.failures out.new ≡ W.failures out.old) }
+    ensures { Writes W.Sink (memory_bytes pid owned.now) out.old out.new result }
 {
     let registers = owned.context.registers();
     let buffer = BufferFront(owned.context.buffer());
@@ -270,16 +248,14 @@ fn write_memory<W: Sink>(out: &mut W, pid: u32, owned: &ProcessRecord) -> Result
     (first, second).write(out)
 }
 
-/// Writes the lines of what a live process has: of a number that is none nothing.
+/// Writes the lines of the restraints, descriptors and memory of a live process. Writes nothing if the process is not
+/// live.
 ///
 /// # Errors
 ///
-/// `Failed` where a write failed: the sink was given a beginning of the lines.
+/// `Failed`, if a write failed. The sink received a prefix of the lines.
 pub(crate) fn write_held<W: Sink>(out: &mut W, parts: &Parts, pid: u32) -> Result<(), Failed>
-    ensures whole { OnOk result (W.written out.new ≡ and_all (W.written out.old) (answer_bytes (held_by parts.now pid))) }
-    ensures beginning { OnErr result (TellsBeginning (answer_bytes (held_by parts.now pid)) (W.written out.old) (W.written out.new)) }
-    ensures failed { OnErr result (Rose (W.failures out.old) (W.failures out.new)) }
-    ensures quiet { OnOk result (W.failures out.new ≡ W.failures out.old) }
+    ensures { Writes W.Sink (answer_bytes (held_by parts.now pid)) out.old out.new result }
 {
     let Some(owned) = parts.live_record(pid) else {
         return Ok(());

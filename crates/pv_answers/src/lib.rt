@@ -1,11 +1,11 @@
-//! What a state answers: lines in the form of a trace, written straight to a sink.
+//! Answers about a state, as trace lines that are written straight to a sink.
 //!
-//! `fragments` has what a text is made of, one fragment after the other; `lines` a line, its front, and the small words of its
-//! text; `short` gathers a short line, and `escaped` has bytes as a text; `numbers` numbers and bytes in a row; `nodes` a node, a name and a target in words, with their paths. `state` has what each
-//! process is and has: `standing` who it is, `calls` the call that comes next in it, `holding` what it has. `reach` has what
-//! that call may do at each place, whatever it is. Nothing here takes memory.
-//!
-//! A clause sees the lines as `pv_model`'s definitions have them.
+//! `state` writes the state of each process: its location (`location`), its next call (`calls`), and its restraints,
+//! descriptors and memory (`holding`). `reach` writes the permissions that the next call of each process has at each
+//! place. The texts are built from fragments (`fragments`): lines and their words (`lines`), short lines that are
+//! buffered (`short`), escaped texts (`escaped`), lists of numbers and bytes (`numbers`), and nodes, names and targets
+//! with their paths (`nodes`). Nothing here allocates. Contracts cite the lines that the definitions in `pv_model`
+//! give.
 #![tactic(auto)]
 
 mod calls;
@@ -13,11 +13,11 @@ mod escaped;
 mod fragments;
 mod holding;
 mod lines;
+mod location;
 mod nodes;
 mod numbers;
 mod reach;
 mod short;
-mod standing;
 mod state;
 
 pub use fragments::{Fragment, Plain};
@@ -30,4 +30,4 @@ pub use nodes::{
     write_target,
 };
 pub use reach::{write_reach, write_reach_of};
-pub use state::{write_standings, write_state};
+pub use state::{write_locations, write_state};

@@ -1,12 +1,11 @@
-//! A line, its front, and the small words of its text.
-ghost use Rattle.std.specs.Prelude.{◌≡◌, ◌++◌, ◌<◌, ◌≤◌, [], ◌∷◌, flat_map, length, replicate, decimal, OnOk, OnErr};
+//! Lines, their fronts, and the words of their texts.
+ghost use Rattle.std.specs.Prelude.{◌≡◌, ◌++◌, ◌<◌, ◌≤◌, [], ◌∷◌, flat_map, length, replicate, decimal};
 ghost use Rattle.pv_answers.specs.Texts.{keyword_after, keywords_in, line_front};
 ghost use Rattle.pv_model.specs.Answers.Lines.{permissions_in_places, promises_text, pledged_text, spaced};
 ghost use Rattle.pv_model.specs.Promise.{all_promises};
-ghost use Rattle.pv_model.specs.Stream.{Rose};
 ghost use Rattle.pv_model.specs.Trace.{mode_text, pad_left, quote, quote_byte};
 ghost use Rattle.pv_promises.specs.Pledge.{bits_of};
-ghost use Rattle.pv_streams.specs.Sinks.{and_all, TellsBeginning};
+ghost use Rattle.pv_streams.specs.Sinks.{Writes};
 
 use crate::escaped::write_escaped;
 use crate::fragments::{Fragment, Plain};
@@ -20,18 +19,15 @@ use pv_streams::{Failed, Sink, write_whole};
 ///
 /// # Errors
 ///
-/// `Failed` where a write failed: the sink was given a beginning of the digits.
+/// `Failed`, if a write failed. The sink received a prefix of the digits.
 pub fn write_decimal<W: Sink>(out: &mut W, number: u32) -> Result<(), Failed>
-    ensures whole { OnOk result (W.written out.new ≡ and_all (W.written out.old) (decimal number)) }
-    ensures beginning { OnErr result (TellsBeginning (decimal number) (W.written out.old) (W.written out.new)) }
-    ensures failed { OnErr result (Rose (W.failures out.old) (W.failures out.new)) }
-    ensures quiet { OnOk result (W.failures out.new ≡ W.failures out.old) }
+    ensures { Writes W.Sink (decimal number) out.old out.new result }
 {
     let mut buffer = Buffer::new();
     write_whole(out, buffer.format(number).as_bytes())
 }
 
-// The bytes of a text, as a program writes them between its marks.
+// Bytes in escaped form, without quotation marks.
 #[derive(Clone, Copy)]
 pub(crate) struct Escaped<'a>(pub(crate) &'a [u8]);
 
@@ -43,21 +39,18 @@ impl<'a> Fragment for Escaped<'a> {
     }
 }
 
-/// Writes bytes of any length as a program writes a text, in its shortest form.
+/// Writes bytes of any length as a quoted text in its shortest form.
 ///
 /// # Errors
 ///
-/// `Failed` where a write failed: the sink was given a beginning of the text.
+/// `Failed`, if a write failed. The sink received a prefix of the text.
 pub fn write_quoted<W: Sink>(out: &mut W, bytes: &[u8]) -> Result<(), Failed>
-    ensures whole { OnOk result (W.written out.new ≡ and_all (W.written out.old) (quote bytes.now)) }
-    ensures beginning { OnErr result (TellsBeginning (quote bytes.now) (W.written out.old) (W.written out.new)) }
-    ensures failed { OnErr result (Rose (W.failures out.old) (W.failures out.new)) }
-    ensures quiet { OnOk result (W.failures out.new ≡ W.failures out.old) }
+    ensures { Writes W.Sink (quote bytes.now) out.old out.new result }
 {
     (Plain(b"\""), Escaped(bytes), Plain(b"\"")).write(out)
 }
 
-// So many spaces, at most five.
+// Returns `count` spaces.
 fn spaces(count: usize) -> &'static [u8]
     requires { count ≤ 5 }
     ensures { result.now ≡ replicate count 32 }
@@ -65,7 +58,7 @@ fn spaces(count: usize) -> &'static [u8]
     &b"     "[..count]
 }
 
-// A number right in five places.
+// A number, right-aligned in five places.
 #[derive(Clone, Copy)]
 struct Places(u32);
 
@@ -83,31 +76,28 @@ impl Fragment for Places {
     }
 }
 
-/// Writes what stands before the text of a line: the number of a process, right in five places, and a word of at most
-/// four bytes, padded to four, with the blanks around it.
+/// Writes the front of a line: a process number, right-aligned in five places, a space, a word of at most four bytes,
+/// padded to four, and two spaces.
 ///
 /// # Errors
 ///
-/// `Failed` where a write failed: the sink was given a beginning of it.
+/// `Failed`, if a write failed. The sink received a prefix of the front.
 pub fn write_front<W: Sink>(out: &mut W, pid: u32, word: &[u8]) -> Result<(), Failed>
     requires { length word.now ≤ 4 }
-    ensures whole { OnOk result (W.written out.new ≡ and_all (W.written out.old) (line_front pid word.now)) }
-    ensures beginning { OnErr result (TellsBeginning (line_front pid word.now) (W.written out.old) (W.written out.new)) }
-    ensures failed { OnErr result (Rose (W.failures out.old) (W.failures out.new)) }
-    ensures quiet { OnOk result (W.failures out.new ≡ W.failures out.old) }
+    ensures { Writes W.Sink (line_front pid word.now) out.old out.new result }
 {
     let padded = (Plain(word), Plain(spaces(4 - word.len())));
     (Places(pid), Plain(b" "), padded, Plain(b"  ")).write(out)
 }
 
-// What stands before the text of a line.
+// The front of a line.
 #[derive(Clone, Copy)]
 struct LineFront {
     pid: u32,
     word: [u8; 4],
 }
 
-// The front of a line of a process whose number is one digit.
+// Returns the front of a line for a process number of one digit.
 #[inline]
 #[tactic(auto, using(std::proofs::lemmas::Fmt::decimal_digit))]
 fn front_of(pid: u32, word: [u8; 4]) -> [u8; 12]
@@ -133,12 +123,12 @@ impl Fragment for LineFront {
     }
 }
 
-/// A line: the number of its process, its word in four bytes, with spaces after a shorter one, and its text.
+/// A line: a process number, a word and a text.
 #[derive(Clone, Copy)]
 pub struct Line<P> {
     /// The number of the process.
     pub pid: u32,
-    /// The word.
+    /// The word, padded to four bytes with spaces.
     pub word: [u8; 4],
     /// The text.
     pub text: P,
@@ -146,10 +136,7 @@ pub struct Line<P> {
 
 // Writes a line, fragment by fragment.
 fn write_fragments<P: Fragment, W: Sink>(out: &mut W, line: &Line<P>) -> Result<(), Failed>
-    ensures whole { OnOk result (W.written out.new ≡ and_all (W.written out.old) (line_front line.now.pid line.now.word ++ P.text line.now.text ++ 10 ∷ [])) }
-    ensures beginning { OnErr result (TellsBeginning (line_front line.now.pid line.now.word ++ P.text line.now.text ++ 10 ∷ []) (W.written out.old) (W.written out.new)) }
-    ensures failed { OnErr result (Rose (W.failures out.old) (W.failures out.new)) }
-    ensures quiet { OnOk result (W.failures out.new ≡ W.failures out.old) }
+    ensures { Writes W.Sink (line_front line.now.pid line.now.word ++ P.text line.now.text ++ 10 ∷ []) out.old out.new result }
 {
     let front = LineFront {
         pid: line.pid,
@@ -161,7 +148,7 @@ fn write_fragments<P: Fragment, W: Sink>(out: &mut W, line: &Line<P>) -> Result<
 impl<P: Fragment> Fragment for Line<P> {
     ghost text = { λ l. line_front l.pid l.word ++ P.text l.text ++ 10 ∷ [] };
 
-    // A short line is gathered first, and then written at once.
+    // A short line is buffered and then written at once.
     fn write<W: Sink>(&self, out: &mut W) -> Result<(), Failed> {
         let mut short = ShortLine::new();
         match write_fragments(&mut short, self) {
@@ -171,16 +158,14 @@ impl<P: Fragment> Fragment for Line<P> {
     }
 }
 
-/// Writes permissions in four places, in the order rwxc: the letter of each that is there, and a dash for one that is not.
+/// Writes permissions in four places, in the order rwxc. Each place has the letter of a permission, or a dash if it is
+/// missing.
 ///
 /// # Errors
 ///
-/// `Failed` where a write failed: the sink was given a beginning of the places.
+/// `Failed`, if a write failed. The sink received a prefix of the places.
 pub fn write_permissions<W: Sink>(out: &mut W, permissions: Perms) -> Result<(), Failed>
-    ensures whole { OnOk result (W.written out.new ≡ and_all (W.written out.old) (permissions_in_places permissions)) }
-    ensures beginning { OnErr result (TellsBeginning (permissions_in_places permissions) (W.written out.old) (W.written out.new)) }
-    ensures failed { OnErr result (Rose (W.failures out.old) (W.failures out.new)) }
-    ensures quiet { OnOk result (W.failures out.new ≡ W.failures out.old) }
+    ensures { Writes W.Sink (permissions_in_places permissions) out.old out.new result }
 {
     let places = [
         if permissions.r { b'r' } else { b'-' },
@@ -191,16 +176,13 @@ pub fn write_permissions<W: Sink>(out: &mut W, permissions: Perms) -> Result<(),
     write_whole(out, &places)
 }
 
-/// Writes what a file is open for: `r`, `w` or `rw`.
+/// Writes the mode of an open file: `r`, `w` or `rw`.
 ///
 /// # Errors
 ///
-/// `Failed` where a write failed: the sink was given a beginning of it.
+/// `Failed`, if a write failed. The sink received a prefix of the mode.
 pub fn write_mode<W: Sink>(out: &mut W, mode: Mode) -> Result<(), Failed>
-    ensures whole { OnOk result (W.written out.new ≡ and_all (W.written out.old) (mode_text mode)) }
-    ensures beginning { OnErr result (TellsBeginning (mode_text mode) (W.written out.old) (W.written out.new)) }
-    ensures failed { OnErr result (Rose (W.failures out.old) (W.failures out.new)) }
-    ensures quiet { OnOk result (W.failures out.new ≡ W.failures out.old) }
+    ensures { Writes W.Sink (mode_text mode) out.old out.new result }
 {
     let letters: &[u8] = match mode {
         Mode::Read => b"r",
@@ -210,12 +192,9 @@ pub fn write_mode<W: Sink>(out: &mut W, mode: Mode) -> Result<(), Failed>
     write_whole(out, letters)
 }
 
-// Writes a keyword, after a space where it is not the first.
+// Writes a keyword, with a space in front if it is not the first.
 fn write_keyword<W: Sink>(out: &mut W, is_first: bool, promise: Promise) -> Result<(), Failed>
-    ensures whole { OnOk result (W.written out.new ≡ and_all (W.written out.old) (keyword_after is_first promise)) }
-    ensures beginning { OnErr result (TellsBeginning (keyword_after is_first promise) (W.written out.old) (W.written out.new)) }
-    ensures failed { OnErr result (Rose (W.failures out.old) (W.failures out.new)) }
-    ensures quiet { OnOk result (W.failures out.new ≡ W.failures out.old) }
+    ensures { Writes W.Sink (keyword_after is_first promise) out.old out.new result }
 {
     let keyword = Plain(promise.name().as_bytes());
     if is_first {
@@ -225,12 +204,9 @@ fn write_keyword<W: Sink>(out: &mut W, is_first: bool, promise: Promise) -> Resu
     }
 }
 
-// Writes the keywords of a set, a space between.
+// Writes the keywords of a set, separated by spaces.
 fn write_keywords<W: Sink>(out: &mut W, promises: Promises) -> Result<(), Failed>
-    ensures whole { OnOk result (W.written out.new ≡ and_all (W.written out.old) (spaced (keywords_in promises.0 all_promises))) }
-    ensures beginning { OnErr result (TellsBeginning (spaced (keywords_in promises.0 all_promises)) (W.written out.old) (W.written out.new)) }
-    ensures failed { OnErr result (Rose (W.failures out.old) (W.failures out.new)) }
-    ensures quiet { OnOk result (W.failures out.new ≡ W.failures out.old) }
+    ensures { Writes W.Sink (spaced (keywords_in promises.0 all_promises)) out.old out.new result }
 {
     let mut is_first = true;
     for promise in ALL {
@@ -242,7 +218,7 @@ fn write_keywords<W: Sink>(out: &mut W, promises: Promises) -> Result<(), Failed
     Ok(())
 }
 
-// The keywords of a set, a space between, as a text has them: each byte stands for itself.
+// The keywords of a set, separated by spaces. No byte of them needs an escape.
 #[derive(Clone, Copy)]
 struct Keywords(Promises);
 
@@ -254,30 +230,25 @@ impl Fragment for Keywords {
     }
 }
 
-/// Writes a set of promises as a keyword list: the keywords in their order in one pair of quotation marks, a space between.
+/// Writes a set of promises as a keyword list: the keywords in their order, separated by spaces, in one pair of
+/// quotation marks.
 ///
 /// # Errors
 ///
-/// `Failed` where a write failed: the sink was given a beginning of the list.
+/// `Failed`, if a write failed. The sink received a prefix of the list.
 pub fn write_promises<W: Sink>(out: &mut W, promises: Promises) -> Result<(), Failed>
-    ensures whole { OnOk result (W.written out.new ≡ and_all (W.written out.old) (promises_text promises.0)) }
-    ensures beginning { OnErr result (TellsBeginning (promises_text promises.0) (W.written out.old) (W.written out.new)) }
-    ensures failed { OnErr result (Rose (W.failures out.old) (W.failures out.new)) }
-    ensures quiet { OnOk result (W.failures out.new ≡ W.failures out.old) }
+    ensures { Writes W.Sink (promises_text promises.0) out.old out.new result }
 {
     (Plain(b"\""), Keywords(promises), Plain(b"\"")).write(out)
 }
 
-/// Writes the promises of a process, or of what it executes, as a keyword list, or `none` where it is not pledged.
+/// Writes promises or execpromises as a keyword list, or `none` if they are not set.
 ///
 /// # Errors
 ///
-/// `Failed` where a write failed: the sink was given a beginning of it.
+/// `Failed`, if a write failed. The sink received a prefix of the list.
 pub fn write_pledged<W: Sink>(out: &mut W, pledged: Option<Promises>) -> Result<(), Failed>
-    ensures whole { OnOk result (W.written out.new ≡ and_all (W.written out.old) (pledged_text (bits_of pledged))) }
-    ensures beginning { OnErr result (TellsBeginning (pledged_text (bits_of pledged)) (W.written out.old) (W.written out.new)) }
-    ensures failed { OnErr result (Rose (W.failures out.old) (W.failures out.new)) }
-    ensures quiet { OnOk result (W.failures out.new ≡ W.failures out.old) }
+    ensures { Writes W.Sink (pledged_text (bits_of pledged)) out.old out.new result }
 {
     match pledged {
         Some(promises) => write_promises(out, promises),
@@ -297,7 +268,7 @@ impl Fragment for Decimal {
     }
 }
 
-/// Bytes as a program writes a text, in its shortest form.
+/// Bytes as a quoted text in its shortest form.
 #[derive(Clone, Copy)]
 pub struct Quoted<'a>(pub &'a [u8]);
 
@@ -309,7 +280,7 @@ impl<'a> Fragment for Quoted<'a> {
     }
 }
 
-/// Permissions in four places.
+/// Permissions in four places, as `write_permissions` writes them.
 #[derive(Clone, Copy)]
 pub struct Letters(pub Perms);
 
@@ -321,7 +292,7 @@ impl Fragment for Letters {
     }
 }
 
-/// What a file is open for, as `write_mode` tells it.
+/// The mode of an open file, as `write_mode` writes it.
 #[derive(Clone, Copy)]
 pub struct ModeLetters(pub Mode);
 
@@ -345,7 +316,7 @@ impl Fragment for Pledged {
     }
 }
 
-// A number of things in decimal digits.
+// A count in decimal digits.
 #[derive(Clone, Copy)]
 pub(crate) struct Count(pub(crate) usize);
 

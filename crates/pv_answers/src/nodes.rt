@@ -1,11 +1,10 @@
 //! Nodes, names and targets in words.
-ghost use Rattle.std.specs.Prelude.{◌≡◌, ◌++◌, codes, flat_map, is_some, IsSome, IsTrue, OnOk, OnErr};
+ghost use Rattle.std.specs.Prelude.{◌≡◌, ◌++◌, codes, flat_map, is_some, IsSome, IsTrue};
 ghost use Rattle.pv_answers.specs.Texts.{own_step, path_bytes, path_text};
 ghost use Rattle.pv_model.specs.Answers.Nodes.{least_name, name_words, node_path, node_words, path_within, target_words};
-ghost use Rattle.pv_model.specs.Stream.{Rose};
 ghost use Rattle.pv_model.specs.Trace.{quote_byte};
 ghost use Rattle.pv_model.specs.Tree.{is_directory_at};
-ghost use Rattle.pv_streams.specs.Sinks.{and_all, TellsBeginning};
+ghost use Rattle.pv_streams.specs.Sinks.{Writes};
 
 use crate::fragments::{Fragment, Plain};
 use crate::lines::{Decimal, Escaped, Quoted};
@@ -14,16 +13,16 @@ use pv_model::limits::ROOT;
 use pv_streams::{Failed, Sink, write_whole};
 use pv_tree::Tree;
 
-/// Whether a node has a path: a directory that is not removed, or a file or link that has a name.
+/// Returns whether a node has a path: a directory that is not removed, or a file or link with a name.
 pub fn has_path(tree: &Tree, node: u16) -> bool
     ensures { result ≡ is_some (node_path tree.now.tree node) }
 {
-    // What the sizes tell with them: the tree is well-formed.
+    // The contract of `sizes` states that the tree is well-formed.
     let _ = tree.sizes();
     node == ROOT || (tree.is_used(node) && tree.names(node) > 0)
 }
 
-/// A slash and a name, as a text has them.
+/// A slash and a name in escaped form.
 #[derive(Clone, Copy)]
 pub(crate) struct Step<'a>(pub(crate) &'a [u8]);
 
@@ -35,14 +34,11 @@ impl<'a> Fragment for Step<'a> {
     }
 }
 
-// Writes a slash and the name of a directory, as a text has them. It stands apart, so that a step of `write_above` takes
-// little room.
+// Writes a slash and the name of a directory in escaped form. This is a function of its own so that `write_above` needs
+// little stack at each level.
 #[inline(never)]
 fn write_own_name<W: Sink>(out: &mut W, tree: &Tree, directory: u16) -> Result<(), Failed>
-    ensures whole { OnOk result (W.written out.new ≡ and_all (W.written out.old) (flat_map quote_byte (own_step (least_name tree.now.tree directory)))) }
-    ensures beginning { OnErr result (TellsBeginning (flat_map quote_byte (own_step (least_name tree.now.tree directory))) (W.written out.old) (W.written out.new)) }
-    ensures failed { OnErr result (Rose (W.failures out.old) (W.failures out.new)) }
-    ensures quiet { OnOk result (W.failures out.new ≡ W.failures out.old) }
+    ensures { Writes W.Sink (flat_map quote_byte (own_step (least_name tree.now.tree directory))) out.old out.new result }
 {
     match tree.least_name(directory) {
         Some((_above, name)) => Step(name.as_slice()).write(out),
@@ -50,16 +46,14 @@ fn write_own_name<W: Sink>(out: &mut W, tree: &Tree, directory: u16) -> Result<(
     }
 }
 
-// Writes the bytes of the path of a directory that has one so deep, as a text has them: nothing for the root.
+// Writes the path of a directory at the given depth in escaped form, and nothing for the root. The directory must have
+// a path.
 fn write_above<W: Sink>(out: &mut W, tree: &Tree, depth: u16, directory: u16) -> Result<(), Failed>
     requires directory { IsTrue (is_directory_at tree.now.tree directory) }
     requires path { IsSome (path_within tree.now.tree depth directory) }
-    ensures whole { OnOk result (W.written out.new ≡ and_all (W.written out.old) (path_bytes (path_within tree.now.tree depth directory))) }
-    ensures beginning { OnErr result (TellsBeginning (path_bytes (path_within tree.now.tree depth directory)) (W.written out.old) (W.written out.new)) }
-    ensures failed { OnErr result (Rose (W.failures out.old) (W.failures out.new)) }
-    ensures quiet { OnOk result (W.failures out.new ≡ W.failures out.old) }
+    ensures { Writes W.Sink (path_bytes (path_within tree.now.tree depth directory)) out.old out.new result }
 {
-    // What the sizes tell with them: the tree is well-formed.
+    // The contract of `sizes` states that the tree is well-formed.
     let _ = tree.sizes();
     if directory == ROOT {
         return Ok(());
@@ -71,7 +65,7 @@ fn write_above<W: Sink>(out: &mut W, tree: &Tree, depth: u16, directory: u16) ->
     write_own_name(out, tree, directory)
 }
 
-// The bytes of the path of a node, as a text has them: nothing for the root, and of a node that has none.
+// The path of a node in escaped form. It is empty for the root, and for a node without a path.
 #[derive(Clone, Copy)]
 struct Steps<'a> {
     tree: &'a Tree,
@@ -86,12 +80,9 @@ impl<'a> Fragment for Steps<'a> {
     }
 }
 
-// Writes the bytes of the path of a node, as a text has them: nothing for the root, and of a node that has none.
+// Writes the path of a node in escaped form. Writes nothing for the root, and for a node without a path.
 fn write_steps<W: Sink>(out: &mut W, tree: &Tree, node: u16) -> Result<(), Failed>
-    ensures whole { OnOk result (W.written out.new ≡ and_all (W.written out.old) (path_bytes (node_path tree.now.tree node))) }
-    ensures beginning { OnErr result (TellsBeginning (path_bytes (node_path tree.now.tree node)) (W.written out.old) (W.written out.new)) }
-    ensures failed { OnErr result (Rose (W.failures out.old) (W.failures out.new)) }
-    ensures quiet { OnOk result (W.failures out.new ≡ W.failures out.old) }
+    ensures { Writes W.Sink (path_bytes (node_path tree.now.tree node)) out.old out.new result }
 {
     if !has_path(tree, node) {
         return Ok(());
@@ -107,18 +98,16 @@ fn write_steps<W: Sink>(out: &mut W, tree: &Tree, node: u16) -> Result<(), Faile
     Step(name.as_slice()).write(out)
 }
 
-/// Writes the path of a node as a text: a slash for the root. Of a node that has none nothing is written.
+/// Writes the path of a node as a quoted text. The path of the root is a slash. Writes nothing for a node without a
+/// path.
 ///
 /// # Errors
 ///
-/// `Failed` where a write failed: the sink was given a beginning of the text.
+/// `Failed`, if a write failed. The sink received a prefix of the text.
 pub fn write_path_of<W: Sink>(out: &mut W, tree: &Tree, node: u16) -> Result<(), Failed>
-    ensures whole { OnOk result (W.written out.new ≡ and_all (W.written out.old) (path_text (node_path tree.now.tree node))) }
-    ensures beginning { OnErr result (TellsBeginning (path_text (node_path tree.now.tree node)) (W.written out.old) (W.written out.new)) }
-    ensures failed { OnErr result (Rose (W.failures out.old) (W.failures out.new)) }
-    ensures quiet { OnOk result (W.failures out.new ≡ W.failures out.old) }
+    ensures { Writes W.Sink (path_text (node_path tree.now.tree node)) out.old out.new result }
 {
-    // What the sizes tell with them: the tree is well-formed.
+    // The contract of `sizes` states that the tree is well-formed.
     let _ = tree.sizes();
     if node == ROOT {
         return write_whole(out, b"\"/\"");
@@ -130,12 +119,12 @@ pub fn write_path_of<W: Sink>(out: &mut W, tree: &Tree, node: u16) -> Result<(),
     (Plain(b"\""), steps, Plain(b"\"")).write(out)
 }
 
-/// The path of a node as a text, as `write_path_of` writes it.
+/// The path of a node as a quoted text, as `write_path_of` writes it.
 #[derive(Clone, Copy)]
 pub struct PathOf<'a> {
     /// The tree of the node.
     pub tree: &'a Tree,
-    /// Its number.
+    /// The number of the node.
     pub node: u16,
 }
 
@@ -147,17 +136,14 @@ impl<'a> Fragment for PathOf<'a> {
     }
 }
 
-/// Writes a node in words: `node` and its number, and its path as a text, where it has one. The path of a file or a link
+/// Writes a node in words: `node`, its number, and its path as a quoted text, if it has one. The path of a file or link
 /// is that of its least name, by the number of the directory and then by the bytes of the name.
 ///
 /// # Errors
 ///
-/// `Failed` where a write failed: the sink was given a beginning of the words.
+/// `Failed`, if a write failed. The sink received a prefix of the words.
 pub fn write_node<W: Sink>(out: &mut W, tree: &Tree, node: u16) -> Result<(), Failed>
-    ensures whole { OnOk result (W.written out.new ≡ and_all (W.written out.old) (node_words tree.now.tree node)) }
-    ensures beginning { OnErr result (TellsBeginning (node_words tree.now.tree node) (W.written out.old) (W.written out.new)) }
-    ensures failed { OnErr result (Rose (W.failures out.old) (W.failures out.new)) }
-    ensures quiet { OnOk result (W.failures out.new ≡ W.failures out.old) }
+    ensures { Writes W.Sink (node_words tree.now.tree node) out.old out.new result }
 {
     let number = Decimal(u32::from(node));
     if has_path(tree, node) {
@@ -173,7 +159,7 @@ pub fn write_node<W: Sink>(out: &mut W, tree: &Tree, node: u16) -> Result<(), Fa
 pub struct NodeWords<'a> {
     /// The tree of the node.
     pub tree: &'a Tree,
-    /// Its number.
+    /// The number of the node.
     pub node: u16,
 }
 
@@ -185,22 +171,19 @@ impl<'a> Fragment for NodeWords<'a> {
     }
 }
 
-/// Writes a name of a directory in words, which need not be there: its path as a text, or the bare name and the directory's
-/// number, where that is removed.
+/// Writes a name of a directory in words, whether or not the name exists: its path as a quoted text, or, if the
+/// directory is removed, the bare name and the number of the directory.
 ///
 /// # Errors
 ///
-/// `Failed` where a write failed: the sink was given a beginning of the words.
+/// `Failed`, if a write failed. The sink received a prefix of the words.
 pub fn write_name<W: Sink>(
     out: &mut W,
     tree: &Tree,
     directory: u16,
     name: &[u8],
 ) -> Result<(), Failed>
-    ensures whole { OnOk result (W.written out.new ≡ and_all (W.written out.old) (name_words tree.now.tree directory name.now)) }
-    ensures beginning { OnErr result (TellsBeginning (name_words tree.now.tree directory name.now) (W.written out.old) (W.written out.new)) }
-    ensures failed { OnErr result (Rose (W.failures out.old) (W.failures out.new)) }
-    ensures quiet { OnOk result (W.failures out.new ≡ W.failures out.old) }
+    ensures { Writes W.Sink (name_words tree.now.tree directory name.now) out.old out.new result }
 {
     if has_path(tree, directory) {
         let steps = Steps {
@@ -237,12 +220,9 @@ impl<'a> Fragment for NameWords<'a> {
 ///
 /// # Errors
 ///
-/// `Failed` where a write failed: the sink was given a beginning of the words.
+/// `Failed`, if a write failed. The sink received a prefix of the words.
 pub fn write_target<W: Sink>(out: &mut W, tree: &Tree, target: &Target) -> Result<(), Failed>
-    ensures whole { OnOk result (W.written out.new ≡ and_all (W.written out.old) (target_words tree.now.tree target.now)) }
-    ensures beginning { OnErr result (TellsBeginning (target_words tree.now.tree target.now) (W.written out.old) (W.written out.new)) }
-    ensures failed { OnErr result (Rose (W.failures out.old) (W.failures out.new)) }
-    ensures quiet { OnOk result (W.failures out.new ≡ W.failures out.old) }
+    ensures { Writes W.Sink (target_words tree.now.tree target.now) out.old out.new result }
 {
     match target {
         Target::Directory(node) => write_node(out, tree, *node),

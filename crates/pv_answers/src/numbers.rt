@@ -1,11 +1,10 @@
-//! Numbers and bytes in a row.
-ghost use Rattle.std.specs.Prelude.{◌≡◌, ◌++◌, codes, map, OnOk, OnErr};
+//! Lists of numbers and of bytes.
+ghost use Rattle.std.specs.Prelude.{◌≡◌, ◌++◌, codes, map};
 ghost use Rattle.std.specs.Fmt.{signed_decimal};
 ghost use Rattle.pv_model.specs.Answers.Lines.{spaced};
 ghost use Rattle.pv_model.specs.Answers.ProcessRecord.{buffer_front, front_text};
-ghost use Rattle.pv_model.specs.Stream.{Rose};
 ghost use Rattle.pv_model.specs.Trace.{hex};
-ghost use Rattle.pv_streams.specs.Sinks.{and_all, TellsBeginning};
+ghost use Rattle.pv_streams.specs.Sinks.{Writes};
 
 use crate::fragments::{Fragment, Plain};
 use crate::lines::Count;
@@ -13,12 +12,9 @@ use itoa::Buffer;
 use pv_model::hex_digit;
 use pv_streams::{Failed, Sink, write_whole};
 
-// Writes a number that may be below 0, in decimal digits.
+// Writes a signed number in decimal digits.
 fn write_signed<W: Sink>(out: &mut W, number: &i32) -> Result<(), Failed>
-    ensures whole { OnOk result (W.written out.new ≡ and_all (W.written out.old) (signed_decimal number.now)) }
-    ensures beginning { OnErr result (TellsBeginning (signed_decimal number.now) (W.written out.old) (W.written out.new)) }
-    ensures failed { OnErr result (Rose (W.failures out.old) (W.failures out.new)) }
-    ensures quiet { OnOk result (W.failures out.new ≡ W.failures out.old) }
+    ensures { Writes W.Sink (signed_decimal number.now) out.old out.new result }
 {
     let mut buffer = Buffer::new();
     write_whole(out, buffer.format(*number).as_bytes())
@@ -26,16 +22,13 @@ fn write_signed<W: Sink>(out: &mut W, number: &i32) -> Result<(), Failed>
 
 // Writes a space and a number.
 fn write_following<W: Sink>(out: &mut W, number: &i32) -> Result<(), Failed>
-    ensures whole { OnOk result (W.written out.new ≡ and_all (W.written out.old) (codes " " ++ signed_decimal number.now)) }
-    ensures beginning { OnErr result (TellsBeginning (codes " " ++ signed_decimal number.now) (W.written out.old) (W.written out.new)) }
-    ensures failed { OnErr result (Rose (W.failures out.old) (W.failures out.new)) }
-    ensures quiet { OnOk result (W.failures out.new ≡ W.failures out.old) }
+    ensures { Writes W.Sink (codes " " ++ signed_decimal number.now) out.old out.new result }
 {
     write_whole(out, b" ")?;
     write_signed(out, number)
 }
 
-/// Numbers, a space between.
+/// Numbers separated by spaces.
 #[derive(Clone, Copy)]
 pub(crate) struct Spaced<'a>(pub(crate) &'a [i32]);
 
@@ -54,7 +47,7 @@ impl<'a> Fragment for Spaced<'a> {
     }
 }
 
-// Bytes in two digits each.
+// Bytes as two hexadecimal digits each.
 #[derive(Clone, Copy)]
 struct Hex<'a>(&'a [u8]);
 
@@ -69,7 +62,7 @@ impl<'a> Fragment for Hex<'a> {
     }
 }
 
-/// The bytes of a buffer up to the last that is not 0: how many they are, and two digits for each.
+/// The bytes of a buffer up to the last nonzero byte: their number, then two hexadecimal digits for each.
 #[derive(Clone, Copy)]
 pub(crate) struct BufferFront<'a>(pub(crate) &'a [u8]);
 
@@ -85,7 +78,7 @@ impl<'a> Fragment for BufferFront<'a> {
     }
 }
 
-// Bytes up to the last that is not 0.
+// Returns the bytes up to the last nonzero byte.
 fn front_of(bytes: &[u8]) -> &[u8]
     ensures { result.now ≡ buffer_front bytes.now }
 {

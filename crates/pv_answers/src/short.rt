@@ -1,13 +1,13 @@
-//! A short line, gathered in place.
+//! Short lines, buffered in place.
 ghost use Rattle.std.specs.Prelude.{◌≡◌, [], Some};
 
 use pv_streams::{Failed, Sink};
 use pv_trace::FixedBuffer;
 
-/// Bytes that a line has at most which is gathered before it is written.
+/// The maximum length of a line that is buffered before it is written.
 const SHORT: usize = 512;
 
-/// A sink that gathers the bytes of a line in place. Where they do not fit, a write fails.
+/// A sink that buffers the bytes of a line in place. A write that does not fit fails.
 #[derive(Drop)]
 pub(crate) struct ShortLine {
     bytes: FixedBuffer<SHORT>,
@@ -15,7 +15,7 @@ pub(crate) struct ShortLine {
 }
 
 impl ShortLine {
-    /// A sink that was given nothing yet.
+    /// Returns an empty sink.
     #[inline]
     pub(crate) fn new() -> ShortLine
         ensures bytes { result.bytes.items ≡ [] }
@@ -27,7 +27,7 @@ impl ShortLine {
         }
     }
 
-    /// The bytes that it was given.
+    /// Returns the bytes written so far.
     #[inline]
     pub(crate) fn as_slice(&self) -> &[u8]
         ensures { result.now ≡ self.now.bytes.items }

@@ -1,69 +1,59 @@
-//! What each process is and has.
-ghost use Rattle.std.specs.Prelude.{◌≡◌, ◌++◌, OnOk, OnErr};
+//! The state of each process.
+ghost use Rattle.std.specs.Prelude.{◌≡◌, ◌++◌};
 ghost use Rattle.std.specs.FinMap.Entries.{find};
 ghost use Rattle.std.specs.Ordering.{nat_cmp};
-ghost use Rattle.pv_answers.specs.Holdings.{held_by, standing_of};
+ghost use Rattle.pv_answers.specs.Holdings.{held_by, location_of};
 ghost use Rattle.pv_model.specs.Answers.Lines.{answer_bytes};
-ghost use Rattle.pv_model.specs.Answers.ProcessRecord.{standings, state_lines};
-ghost use Rattle.pv_model.specs.Stream.{Rose};
-ghost use Rattle.pv_streams.specs.Sinks.{and_all, TellsBeginning};
+ghost use Rattle.pv_model.specs.Answers.ProcessRecord.{locations, state_lines};
+ghost use Rattle.pv_streams.specs.Sinks.{Writes};
 
 use crate::calls::CallRoom;
 use crate::holding::write_held;
-use crate::standing::write_standing;
+use crate::location::write_location;
 use pv_calls_state::Parts;
 use pv_streams::{Failed, Sink};
 
-/// Writes who each process is, by ascending number: of a live one a line PROC, with its parent and the line at which it
-/// stands, and a line NEXT with the call that comes next; of an ended one that waits to be waited for a line PROC.
+/// Writes the location of each process, by ascending number. A live process has a PROC line with its parent and its
+/// line, and a NEXT line with its next call. An ended process that is not yet waited for has a PROC line.
 ///
 /// # Errors
 ///
-/// `Failed` where a write failed: the sink was given a beginning of the lines.
-pub fn write_standings<W: Sink>(out: &mut W, parts: &Parts) -> Result<(), Failed>
-    ensures whole { OnOk result (W.written out.new ≡ and_all (W.written out.old) (answer_bytes (standings parts.now))) }
-    ensures beginning { OnErr result (TellsBeginning (answer_bytes (standings parts.now)) (W.written out.old) (W.written out.new)) }
-    ensures failed { OnErr result (Rose (W.failures out.old) (W.failures out.new)) }
-    ensures quiet { OnOk result (W.failures out.new ≡ W.failures out.old) }
+/// `Failed`, if a write failed. The sink received a prefix of the lines.
+pub fn write_locations<W: Sink>(out: &mut W, parts: &Parts) -> Result<(), Failed>
+    ensures { Writes W.Sink (answer_bytes (locations parts.now)) out.old out.new result }
 {
     parts.invariant();
     let mut room = CallRoom::new();
     let mut last = 0;
     while let Some(pid) = parts.processes().next_number(last) {
-        write_standing(out, parts, &mut room, pid)?;
+        write_location(out, parts, &mut room, pid)?;
         last = pid;
     }
     Ok(())
 }
 
-// Writes the lines of what a process is and has: of a number that is no process nothing.
-#[tactic(auto, using(pv_streams::proofs::Telling::written_both))]
+// Writes the lines of the state of a process. Writes nothing if there is no such process.
+#[tactic(auto, using(pv_streams::proofs::Reporting::written_both))]
 fn write_process<W: Sink>(
     out: &mut W,
     parts: &Parts,
     room: &mut CallRoom,
     pid: u32,
 ) -> Result<(), Failed>
-    ensures whole { OnOk result (W.written out.new ≡ and_all (W.written out.old) (answer_bytes (standing_of pid (find nat_cmp pid parts.now.processes)) ++ answer_bytes (held_by parts.now pid))) }
-    ensures beginning { OnErr result (TellsBeginning (answer_bytes (standing_of pid (find nat_cmp pid parts.now.processes)) ++ answer_bytes (held_by parts.now pid)) (W.written out.old) (W.written out.new)) }
-    ensures failed { OnErr result (Rose (W.failures out.old) (W.failures out.new)) }
-    ensures quiet { OnOk result (W.failures out.new ≡ W.failures out.old) }
+    ensures { Writes W.Sink (answer_bytes (location_of pid (find nat_cmp pid parts.now.processes)) ++ answer_bytes (held_by parts.now pid)) out.old out.new result }
 {
-    write_standing(out, parts, room, pid)?;
+    write_location(out, parts, room, pid)?;
     write_held(out, parts, pid)
 }
 
-/// Writes what each process is and has, by ascending number: of each the lines that `write_standings` writes, and of a live
-/// one those of its working directory, its promises, its table, its descriptors, its registers and its buffer.
+/// Writes the state of each process, by ascending number: the lines that `write_locations` writes and, for a live
+/// process, the lines of its working directory, promises, table, descriptors, registers and buffer.
 ///
 /// # Errors
 ///
-/// `Failed` where a write failed: the sink was given a beginning of the lines.
+/// `Failed`, if a write failed. The sink received a prefix of the lines.
 pub fn write_state<W: Sink>(out: &mut W, parts: &Parts) -> Result<(), Failed>
-    ensures whole { OnOk result (W.written out.new ≡ and_all (W.written out.old) (answer_bytes (state_lines parts.now))) }
-    ensures beginning { OnErr result (TellsBeginning (answer_bytes (state_lines parts.now)) (W.written out.old) (W.written out.new)) }
-    ensures failed { OnErr result (Rose (W.failures out.old) (W.failures out.new)) }
-    ensures quiet { OnOk result (W.failures out.new ≡ W.failures out.old) }
+    ensures { Writes W.Sink (answer_bytes (state_lines parts.now)) out.old out.new result }
 {
     parts.invariant();
     let mut room = CallRoom::new();

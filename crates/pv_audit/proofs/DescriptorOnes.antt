@@ -1,4 +1,4 @@
--- The descriptors on a node, one after the other.
+-- The descriptors on a node, one at a time.
 use Rattle.std.proofs.Common.{◌≡◌, ℕ, zero, suc, ◌+◌, ◌<◌, ◌≤◌, Bool, true, false, [], ◌∷◌, filter, length, Option, None, Some, option_map, refl, ap, sym, ◌∙◌, ⊎_elim, arith}
 use Rattle.std.proofs.lemmas.Bool.{cases_lt}
 use Rattle.pv_model.specs.declared.perms.Perms.{Perms}
@@ -34,11 +34,11 @@ module _ (files : Numbered OpenFile) (ds : Numbered Descriptor) (n : ℕ) (neede
   in-hit : (k : ℕ) → In ℕ k (descriptors_for files ds n needed) → is_hit (at_number ds k) ≡ true
   in-hit k is =
       let e = map-in (ℕ × Descriptor) ℕ (λ (x : ℕ × Descriptor). x.0) (filter hits (numbered ds)) k is in
-      let kept = filter-in (ℕ × Descriptor) hits (numbered ds) e.0 e.1 in
-      let there : at_number ds k ≡ Some e.0.1 = ap (at_number ds) (sym e.2) ∙ at-numbered Descriptor ds e.0 kept.0 in
-      ap is_hit there ∙ kept.1
+      let preserved = filter-in (ℕ × Descriptor) hits (numbered ds) e.0 e.1 in
+      let there : at_number ds k ≡ Some e.0.1 = ap (at_number ds) (sym e.2) ∙ at-numbered Descriptor ds e.0 preserved.0 in
+      ap is_hit there ∙ preserved.1
 
-  -- none below a number
+  -- no descriptor below a number is on the node
   pub IsQuietTo : ℕ → Type 0
   IsQuietTo d = (k : ℕ) → k < d → is_hit (at_number ds k) ≡ false
 

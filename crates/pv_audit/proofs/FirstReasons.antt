@@ -1,4 +1,4 @@
--- What is told of a process of which all is found is what the definitions say of it.
+-- The reason that the code finds for a process is that of the definitions.
 use Rattle.std.proofs.Common.{◌≡◌, ℕ, Bool, true, false, not, ◌&&◌, ◌||◌, if◌then◌else◌, ◌==◌, List, [], ◌∷◌, ◌++◌, map, filter, Option, None, Some, refl, ap, sym, ◌∙◌, append_assoc}
 use Rattle.std.specs.Option.{is_none}
 use Rattle.pv_model.specs.declared.open_flags.Mode.{Mode}
@@ -18,11 +18,11 @@ use Rattle.pv_model.specs.State.{OpenFile, Descriptor, Process, State, reads, wr
 use Rattle.pv_model.specs.Tree.{names_of}
 use Rattle.pv_model.specs.Unveil.{Table}
 use Rattle.pv_procs.specs.Parts.{record_of}
-use Rattle.pv_audit.specs.declared.found.Found.{Found}
+use Rattle.pv_audit.specs.declared.table_access.TableAccess.{TableAccess}
 use Rattle.pv_audit.specs.Findings.{least, nothing, table_of, suspect, noted_by}
-use Rattle.pv_audit.specs.Reasons.{first_of, is_on, descriptors_for, by_number, unless, reason_of_table, reason_of, is_kept_by, is_kept, reason_for, reason_at, kept_for, kept_at}
+use Rattle.pv_audit.specs.Reasons.{first_of, is_on, descriptors_for, by_number, unless, reason_of_table, reason_of, is_preserved_by, is_preserved, reason_for, reason_at, preserved_for, preserved_at}
 use Rattle.pv_audit.proofs.LeastOnes.{least-fold}
-use Rattle.pv_audit.proofs.FoundOnes.{gives-all, above-all, writes-all, noted-pid, noted-found}
+use Rattle.pv_audit.proofs.FoundOnes.{gives-all, above-all, writes-all, noted-pid, noted-table_access}
 
 -- ---- lists of reasons
 
@@ -66,18 +66,18 @@ module _ (s : State) (p : Process) (f : ℕ) where
   descriptors-for : (test : Mode → Bool) (needed : Perms) → ((m : Mode) → test m ≡ covers (permissions_of_mode m) needed) → Sealed.descriptors_on s p f test ≡ descriptors_for s.files p.descriptors f needed
   descriptors-for test needed same = λ i. map (λ (d : ℕ × Descriptor). d.0) (filter (λ (d : ℕ × Descriptor). opens-on test needed same (at_number s.files d.1.file) i) (numbered p.descriptors))
 
-  -- ---- of which all is found
+  -- ---- the access by all names
 
-  -- what is found is what the definitions list
-  pub record IsAllOf (table : Table) (found : Found) : Type 0 where
-    pub gives : found.gives ≡ least (Sealed.giving s p f opens_or_moves table)
-    pub above : found.above ≡ least (Sealed.above s p f table)
-    pub writes : found.writes ≡ not (is_empty (Sealed.giving s p f (λ permissions. permissions.w) table))
+  -- the noted access is the one that the definitions list
+  pub record IsAllOf (table : Table) (table_access : TableAccess) : Type 0 where
+    pub gives : table_access.gives ≡ least (Sealed.giving s p f opens_or_moves table)
+    pub above : table_access.above ≡ least (Sealed.above s p f table)
+    pub writes : table_access.writes ≡ not (is_empty (Sealed.giving s p f (λ permissions. permissions.w) table))
 
-  by_table : (found : Found) (o : Option Table) → ((table : Table) → o ≡ Some table → IsAllOf table found) → first_of (Sealed.leaks_of_table s p f o)
-      ≡ reason_of_table (record_of p) found o
-  by_table found None all = refl
-  by_table found (Some table) all =
+  by_table : (table_access : TableAccess) (o : Option Table) → ((table : Table) → o ≡ Some table → IsAllOf table table_access) → first_of (Sealed.leaks_of_table s p f o)
+      ≡ reason_of_table (record_of p) table_access o
+  by_table table_access None all = refl
+  by_table table_access (Some table) all =
       let is = all table refl in
       let a = Sealed.when (not p.locked) NotLocked in
       let b = Sealed.least_first Gives (Sealed.giving s p f opens_or_moves table) in
@@ -90,41 +90,41 @@ module _ (s : State) (p : Process) (f : ℕ) where
       ∙ (λ i. by_number Gives (sym is.gives i)
       ((first-least Above (Sealed.above s p f table) d ∙ (λ j. by_number Above (sym is.above j) (last-unless (Sealed.is_held_over_exec s p f) Exec j))) i)))
 
-  pub leaks-reason : (found : Found) → ((table : Table) → p.table ≡ Some table → IsAllOf table found) → first_of (Sealed.leaks s p f) ≡ reason_of s.files (record_of p) f found
+  pub leaks-reason : (table_access : TableAccess) → ((table : Table) → p.table ≡ Some table → IsAllOf table table_access) → first_of (Sealed.leaks s p f) ≡ reason_of s.files (record_of p) f table_access
   unfolding Sealed.leaks
-  leaks-reason found all =
+  leaks-reason table_access all =
       first-least Reads (Sealed.descriptors_on s p f reads) _
       ∙ (λ i. by_number Reads (least (descriptors-for reads permission_r reads-r i)) (pick (Sealed.is_pledged_without (Rpath ∷ ExecPromise ∷ Cpath ∷ []) p) i))
     where
-      pick : (b : Bool) → first_of (if b then [] else Sealed.leaks_of_table s p f p.table) ≡ (if b then None else reason_of_table (record_of p) found p.table)
+      pick : (b : Bool) → first_of (if b then [] else Sealed.leaks_of_table s p f p.table) ≡ (if b then None else reason_of_table (record_of p) table_access p.table)
       pick true = refl
-      pick false = by_table found p.table all
+      pick false = by_table table_access p.table all
 
-  kept_by : (found : Found) (o : Option Table) → ((table : Table) → o ≡ Some table → IsAllOf table found) → Sealed.is_kept_by_table s p f o ≡ is_kept_by (record_of p) found o
-  kept_by found None all = refl
-  kept_by found (Some table) all =
+  preserved_by : (table_access : TableAccess) (o : Option Table) → ((table : Table) → o ≡ Some table → IsAllOf table table_access) → Sealed.is_preserved_by_table s p f o ≡ is_preserved_by (record_of p) table_access o
+  preserved_by table_access None all = refl
+  preserved_by table_access (Some table) all =
       let is = all table refl in
       let none = sym (not-not (is_empty (Sealed.giving s p f (λ permissions. permissions.w) table))) ∙ ap not (sym is.writes) in
       ap (λ b. (p.locked && b) && Sealed.is_held_over_exec s p f) none
 
-  pub frozen-kept : (found : Found) → ((table : Table) → p.table ≡ Some table → IsAllOf table found) → Sealed.is_frozen_to s p f ≡ is_kept s.files (record_of p) f found
+  pub frozen-preserved : (table_access : TableAccess) → ((table : Table) → p.table ≡ Some table → IsAllOf table table_access) → Sealed.is_frozen_to s p f ≡ is_preserved s.files (record_of p) f table_access
   unfolding Sealed.is_frozen_to
-  frozen-kept found all = λ i.
+  frozen-preserved table_access all = λ i.
       (sym (none-empty (Sealed.descriptors_on s p f writes)) ∙ ap (λ (ks : List ℕ). is_none (least ks)) (descriptors-for writes permission_w writes-w)) i
-      && (Sealed.is_pledged_without (Wpath ∷ ExecPromise ∷ []) p || kept_by found p.table all i)
+      && (Sealed.is_pledged_without (Wpath ∷ ExecPromise ∷ []) p || preserved_by table_access p.table all i)
 
   module _ (pid : ℕ) (at : process_at s pid ≡ Some p) where
-    abbrev mine : Found
-    mine = (noted_by s (names_of s.tree f) (suspect pid)).found
+    abbrev mine : TableAccess
+    mine = (noted_by s (names_of s.tree f) (suspect pid)).table_access
 
     pub all-of : (table : Table) → p.table ≡ Some table → IsAllOf table mine
     all-of table is =
         let same : table_of (process_at s pid) ≡ table = ap table_of at ∙ ap entries_of_table is in
-        let found = noted-found s (names_of s.tree f) (suspect pid) in
+        let table_access = noted-table_access s (names_of s.tree f) (suspect pid) in
         record {
-          gives = ap (λ (x : Found). x.gives) found ∙ gives-all s.tree (table_of (process_at s pid)) nothing (names_of s.tree f) ∙ ap (λ (t : Table). least (Sealed.giving s p f opens_or_moves t)) same;
-          above = ap (λ (x : Found). x.above) found ∙ above-all s.tree (table_of (process_at s pid)) nothing (names_of s.tree f) ∙ ap (λ (t : Table). least (Sealed.above s p f t)) same;
-          writes = ap (λ (x : Found). x.writes) found ∙ writes-all s.tree (table_of (process_at s pid)) nothing (names_of s.tree f) ∙ ap (λ (t : Table). not (is_empty (Sealed.giving s p f (λ permissions. permissions.w) t))) same;
+          gives = ap (λ (x : TableAccess). x.gives) table_access ∙ gives-all s.tree (table_of (process_at s pid)) nothing (names_of s.tree f) ∙ ap (λ (t : Table). least (Sealed.giving s p f opens_or_moves t)) same;
+          above = ap (λ (x : TableAccess). x.above) table_access ∙ above-all s.tree (table_of (process_at s pid)) nothing (names_of s.tree f) ∙ ap (λ (t : Table). least (Sealed.above s p f t)) same;
+          writes = ap (λ (x : TableAccess). x.writes) table_access ∙ writes-all s.tree (table_of (process_at s pid)) nothing (names_of s.tree f) ∙ ap (λ (t : Table). not (is_empty (Sealed.giving s p f (λ permissions. permissions.w) t))) same;
         }
 
     there : process_at s (noted_by s (names_of s.tree f) (suspect pid)).pid ≡ Some p
@@ -133,5 +133,5 @@ module _ (s : State) (p : Process) (f : ℕ) where
     pub reason-first : reason_at s f (noted_by s (names_of s.tree f) (suspect pid)) ≡ first_of (Sealed.leaks s p f)
     reason-first = ap (λ (o : Option Process). reason_for s f o mine) there ∙ sym (leaks-reason mine all-of)
 
-    pub kept-frozen : kept_at s f (noted_by s (names_of s.tree f) (suspect pid)) ≡ Sealed.is_frozen_to s p f
-    kept-frozen = ap (λ (o : Option Process). kept_for s f o mine) there ∙ sym (frozen-kept mine all-of)
+    pub preserved-frozen : preserved_at s f (noted_by s (names_of s.tree f) (suspect pid)) ≡ Sealed.is_frozen_to s p f
+    preserved-frozen = ap (λ (o : Option Process). preserved_for s f o mine) there ∙ sym (frozen-preserved mine all-of)

@@ -1,4 +1,4 @@
--- What is found by all names of a file.
+-- The access by all names of a file.
 use Rattle.std.proofs.Common.{◌≡◌, ℕ, ◌<◌, Bool, true, false, cond, not, ◌&&◌, ◌||◌, List, [], ◌∷◌, ◌++◌, map, flat_map, fold, length, Option, None, Some, is_some, refl, ap, sym, ◌∙◌, arith, get_or, zero, suc, take, drop}
 use Rattle.std.specs.Bool.{⊤}
 use Rattle.std.proofs.lemmas.Bool.{and_parts}
@@ -10,14 +10,14 @@ use Rattle.pv_model.specs.State.{State, process_at}
 use Rattle.pv_model.specs.Tree.{Tree, ancestors, find_entry, is_directory_at}
 use Rattle.pv_model.specs.Unveil.{Table, permissions_at, directory_rights}
 use Rattle.pv_laws_trees.proofs.Changes.{has_entry-directory}
-use Rattle.pv_audit.specs.declared.found.Found.{Found}
+use Rattle.pv_audit.specs.declared.table_access.TableAccess.{TableAccess}
 use Rattle.pv_audit.specs.declared.suspects.Suspect.{Suspect}
 use Rattle.pv_audit.specs.Findings.{lesser, least, governing, passing, entries_passing, least_above, noted, table_of, note_of, noted_by, are_live}
 use Rattle.pv_tree.specs.NodeNames.{first_after, IsNextNameOfNode}
 use Rattle.pv_audit.proofs.LeastOnes.{lesser-none, lesser-assoc, least-cons, passing-append}
 use Rattle.pv_tree.proofs.Rising.{Named, names_after, names_on, rises, after-next, after-none}
 
--- ---- name by name
+-- ---- one name at a time
 
 abbrev pub with_c : Perms → Bool
 with_c permissions = permissions.c
@@ -26,8 +26,8 @@ abbrev pub with_w : Perms → Bool
 with_w permissions = permissions.w
 
 module _ (t : Tree) (table : Table) where
-  abbrev all_noted : Found → List Named → Found
-  all_noted found ns = fold (λ (f : Found) (name : Named). noted t table f name) found ns
+  abbrev all_noted : TableAccess → List Named → TableAccess
+  all_noted table_access ns = fold (λ (f : TableAccess) (name : Named). noted t table f name) table_access ns
 
   abbrev governed : List Named → List (Option ℕ)
   governed ns = map (governing t table) ns
@@ -35,19 +35,19 @@ module _ (t : Tree) (table : Table) where
   abbrev higher : List Named → List (Option ℕ)
   higher ns = map (directory_rights t table) (flat_map (λ (name : Named). ancestors t name.0) ns)
 
-  pub gives-all : (found : Found) (ns : List Named) → (all_noted found ns).gives ≡ lesser found.gives (least (entries_passing opens_or_moves table (governed ns)))
-  gives-all found [] = sym (lesser-none found.gives)
-  gives-all found (x ∷ ns) =
-      gives-all (noted t table found x) ns
-      ∙ lesser-assoc found.gives (passing opens_or_moves table (governing t table x)) (least (entries_passing opens_or_moves table (governed ns)))
-      ∙ ap (lesser found.gives) (sym (least-cons opens_or_moves table (governing t table x) (governed ns)))
+  pub gives-all : (table_access : TableAccess) (ns : List Named) → (all_noted table_access ns).gives ≡ lesser table_access.gives (least (entries_passing opens_or_moves table (governed ns)))
+  gives-all table_access [] = sym (lesser-none table_access.gives)
+  gives-all table_access (x ∷ ns) =
+      gives-all (noted t table table_access x) ns
+      ∙ lesser-assoc table_access.gives (passing opens_or_moves table (governing t table x)) (least (entries_passing opens_or_moves table (governed ns)))
+      ∙ ap (lesser table_access.gives) (sym (least-cons opens_or_moves table (governing t table x) (governed ns)))
 
-  pub above-all : (found : Found) (ns : List Named) → (all_noted found ns).above ≡ lesser found.above (least (entries_passing with_c table (higher ns)))
-  above-all found [] = sym (lesser-none found.above)
-  above-all found (x ∷ ns) =
-      above-all (noted t table found x) ns
-      ∙ lesser-assoc found.above (least_above t table x.0) (least (entries_passing with_c table (higher ns)))
-      ∙ ap (lesser found.above)
+  pub above-all : (table_access : TableAccess) (ns : List Named) → (all_noted table_access ns).above ≡ lesser table_access.above (least (entries_passing with_c table (higher ns)))
+  above-all table_access [] = sym (lesser-none table_access.above)
+  above-all table_access (x ∷ ns) =
+      above-all (noted t table table_access x) ns
+      ∙ lesser-assoc table_access.above (least_above t table x.0) (least (entries_passing with_c table (higher ns)))
+      ∙ ap (lesser table_access.above)
       (sym (ap (λ (os : List (Option ℕ)). least (entries_passing with_c table os)) (map-append (directory_rights t table) (ancestors t x.0) (flat_map (λ (name : Named). ancestors t name.0) ns))
       ∙ passing-append with_c table (map (directory_rights t table) (ancestors t x.0)) (higher ns)))
 
@@ -68,22 +68,22 @@ module _ (t : Tree) (table : Table) where
   or_false true = refl
   or_false false = refl
 
-  pub writes-all : (found : Found) (ns : List Named) → (all_noted found ns).writes ≡ (found.writes || not (is_empty (entries_passing with_w table (governed ns))))
-  writes-all found [] = sym (or_false found.writes)
-  writes-all found (x ∷ ns) =
-      writes-all (noted t table found x) ns
-      ∙ or_assoc found.writes (is_some (passing with_w table (governing t table x))) (not (is_empty (entries_passing with_w table (governed ns))))
-      ∙ ap (λ b. found.writes || b) (some-cons (governing t table x) (governed ns))
+  pub writes-all : (table_access : TableAccess) (ns : List Named) → (all_noted table_access ns).writes ≡ (table_access.writes || not (is_empty (entries_passing with_w table (governed ns))))
+  writes-all table_access [] = sym (or_false table_access.writes)
+  writes-all table_access (x ∷ ns) =
+      writes-all (noted t table table_access x) ns
+      ∙ or_assoc table_access.writes (is_some (passing with_w table (governing t table x))) (not (is_empty (entries_passing with_w table (governed ns))))
+      ∙ ap (λ b. table_access.writes || b) (some-cons (governing t table x) (governed ns))
 
--- ---- process by process
+-- ---- one process at a time
 
 pub noted-pid : (s : State) (ns : List Named) (x : Suspect) → (noted_by s ns x).pid ≡ x.pid
 noted-pid s [] x = refl
 noted-pid s (n ∷ ns) x = noted-pid s ns (note_of s n x)
 
-pub noted-found : (s : State) (ns : List Named) (x : Suspect) → (noted_by s ns x).found ≡ all_noted s.tree (table_of (process_at s x.pid)) x.found ns
-noted-found s [] x = refl
-noted-found s (n ∷ ns) x = noted-found s ns (note_of s n x)
+pub noted-table_access : (s : State) (ns : List Named) (x : Suspect) → (noted_by s ns x).table_access ≡ all_noted s.tree (table_of (process_at s x.pid)) x.table_access ns
+noted-table_access s [] x = refl
+noted-table_access s (n ∷ ns) x = noted-table_access s ns (note_of s n x)
 
 pub noted-more : (s : State) (x : Named) (ns : List Named) (ys : List Suspect) → map (noted_by s (x ∷ ns)) ys ≡ map (noted_by s ns) (map (note_of s x) ys)
 noted-more s x ns [] = refl
@@ -106,10 +106,10 @@ live-at s [] k d live within = absurd (omega arith)
 live-at s (y ∷ ys) zero d live within = (and_parts (is_some (process_at s y.pid)) (are_live s ys) live).0
 live-at s (y ∷ ys) (suc k) d live within = live-at s ys k d (and_parts (is_some (process_at s y.pid)) (are_live s ys) live).1 (omega arith)
 
--- ---- through the names of a file
+-- ---- all names of a file
 
 module _ (s : State) (ns : List Named) where
-  -- what is found so far, and what the names that are left add, is what all names add
+  -- the access noted so far, with the remaining names noted, is the access by all names
   pub record IsNotedTo (next : Option Named) (old ys : List Suspect) : Type 0 where
     pub same : map (noted_by s ns) old ≡ map (noted_by s (names_on next ns)) ys
     pub live : are_live s ys ≡ true
@@ -138,7 +138,7 @@ module _ (s : State) (ns : List Named) where
     pub noted-fewer : (x : Named) (next : Option Named) → next ≡ first_after (Some x) ns → length (names_on next ns) < length (names_on (Some x) ns)
     noted-fewer x next is = omega (arith, ap length (left x next is))
 
--- a name that comes next is one of the node
+-- the next name is one of the node
 pub IsOfNode : Tree → ℕ → Option Named → Type 0
 IsOfNode t n None = ⊤
 IsOfNode t n (Some x) = find_entry t x.0 x.1 ≡ Some n
@@ -152,7 +152,7 @@ pub of-directory : (t : Tree) (n : ℕ) (x : Named) → IsOfNode t n (Some x) �
 unfolding IsOfNode
 of-directory t n x is = has_entry-directory t x.0 x.1 n is
 
--- ---- place by place
+-- ---- one index at a time
 
 pub undone : (g : Suspect → Suspect) (all : List Suspect) (k : ℕ) (d : Suspect) → k < length all → get_or (map g (take k all) ++ drop k all) k d ≡ get_or all k d
 undone g [] k d within = absurd (omega arith)

@@ -5,7 +5,7 @@ use Rattle.std.proofs.lemmas.Bool.{cases_lt}
 use Rattle.std.proofs.Math.Nat.{min-eq_left, min-eq_right}
 use Rattle.pv_model.specs.declared.perms.Perms.{Perms}
 use Rattle.pv_model.specs.Unveil.{Table, permissions_at}
-use Rattle.pv_laws_trees.proofs.Members.{In, in-map, map-in, in-filter, filter-in, in-kept, kept-in}
+use Rattle.pv_laws_trees.proofs.Members.{In, in-map, map-in, in-filter, filter-in, in-preserved, preserved-in}
 use Rattle.pv_audit.specs.Findings.{lesser, least, passing, entries_passing}
 
 pub lesser-none : (a : Option ℕ) → lesser a None ≡ a
@@ -25,12 +25,12 @@ pub least-append : (xs ys : List ℕ) → least (xs ++ ys) ≡ lesser (least xs)
 least-append [] ys = refl
 least-append (x ∷ xs) ys = ap (lesser (Some x)) (least-append xs ys) ∙ sym (lesser-assoc (Some x) (least xs) (least ys))
 
--- as a fold finds it
+-- the least number as a fold
 pub least-fold : (k : ℕ) (ks : List ℕ) → least (k ∷ ks) ≡ Some (fold min k ks)
 least-fold k [] = refl
 least-fold k (x ∷ ks) = sym (lesser-assoc (Some k) (Some x) (least ks)) ∙ least-fold (min k x) ks
 
--- ---- the least is one of them, and no other is less
+-- ---- the least is an element, and no element is less
 
 first_in : (k m : ℕ) (ks : List ℕ) (o : Option ℕ) → ((j : ℕ) → o ≡ Some j → In ℕ j ks) → lesser (Some k) o ≡ Some m → In ℕ m (k ∷ ks)
 first_in k m ks None later is = let same : k ≡ m = cc is in inl same
@@ -40,7 +40,7 @@ first_in k m ks (Some j) later is =
 
 pub least-in : (ks : List ℕ) (m : ℕ) → least ks ≡ Some m → In ℕ m ks
 least-in [] m is = cc is
-least-in (k ∷ ks) m is = first_in k m ks (least ks) (λ j found. least-in ks j found) is
+least-in (k ∷ ks) m is = first_in k m ks (least ks) (λ j table_access. least-in ks j table_access) is
 
 some_least : (k : ℕ) (o : Option ℕ) → lesser (Some k) o ≡ None → ⊥
 some_least k None is = cc is
@@ -60,7 +60,7 @@ first_low k m j ks (Some i) some later is within =
 
 pub least-low : (ks : List ℕ) (m j : ℕ) → least ks ≡ Some m → In ℕ j ks → m ≤ j
 least-low [] m j is within = absurd within
-least-low (k ∷ ks) m j is within = first_low k m j ks (least ks) refl (λ there i found. least-low ks i j found there) is within
+least-low (k ∷ ks) m j is within = first_low k m j ks (least ks) refl (λ there i table_access. least-low ks i j table_access there) is within
 
 pub least-is : (ks : List ℕ) (m : ℕ) → In ℕ m ks → ((j : ℕ) → In ℕ j ks → m ≤ j) → least ks ≡ Some m
 least-is ks m within low = by (least ks) refl
@@ -73,7 +73,7 @@ pub least-empty : (ks : List ℕ) → ((j : ℕ) → In ℕ j ks → ⊥) → le
 least-empty [] none = refl
 least-empty (k ∷ ks) none = absurd (none k (inl refl))
 
--- lists of the same numbers have the same least
+-- lists with the same elements have the same least element
 pub least-same : (xs ys : List ℕ) → ((k : ℕ) → In ℕ k xs → In ℕ k ys) → ((k : ℕ) → In ℕ k ys → In ℕ k xs) → least xs ≡ least ys
 least-same xs ys there back = by (least ys) refl
   where
@@ -102,10 +102,10 @@ module _ (X : Type 0) (test : Perms → Bool) (table : Table) (g : X → Option 
   pub in-passing : (x : X) → In X x xs → g x ≡ Some k → test (permissions_at table k) ≡ true → In ℕ k (entries_passing test table (map g xs))
   in-passing x within is passes =
       in-filter ℕ (λ j. test (permissions_at table j)) (filter_map (λ (o : Option ℕ). o) (map g xs)) k
-      (in-kept ℕ (map g xs) k (subst (λ o. In (Option ℕ) o (map g xs)) is (in-map X (Option ℕ) g xs x within))) passes
+      (in-preserved ℕ (map g xs) k (subst (λ o. In (Option ℕ) o (map g xs)) is (in-map X (Option ℕ) g xs x within))) passes
 
   pub passing-in : In ℕ k (entries_passing test table (map g xs)) → (x : X) × In X x xs × (g x ≡ Some k) × (test (permissions_at table k) ≡ true)
   passing-in is =
-      let kept = filter-in ℕ (λ j. test (permissions_at table j)) (filter_map (λ (o : Option ℕ). o) (map g xs)) k is in
-      let found = map-in X (Option ℕ) g xs (Some k) (kept-in ℕ (map g xs) k kept.0) in
-      (found.0, found.1, found.2, kept.1)
+      let preserved = filter-in ℕ (λ j. test (permissions_at table j)) (filter_map (λ (o : Option ℕ). o) (map g xs)) k is in
+      let table_access = map-in X (Option ℕ) g xs (Some k) (preserved-in ℕ (map g xs) k preserved.0) in
+      (table_access.0, table_access.1, table_access.2, preserved.1)

@@ -1,7 +1,7 @@
--- Lemmas of audits.
+-- Lemmas about audits.
 -- - the least of some numbers: LeastOnes
--- - what is found: TableEntries, FoundOnes (what all names add), DescriptorOnes, LiveOnes (the processes that are live)
--- - what is told: FirstReasons (it is the first of `leaks`), AllVerdicts
+-- - the access of a process: TableEntries, FoundOnes (all names), DescriptorOnes, LiveOnes (the live processes)
+-- - the verdict: FirstReasons (the reason is the first of `leaks`), AllVerdicts
 pub mod LeastOnes
 pub mod TableEntries
 pub mod FoundOnes

@@ -22,7 +22,7 @@ Living = ℕ × Process
 abbrev pub Recorded : Type 0
 Recorded = ℕ × ProcessRecord
 
--- those with lower numbers
+-- the live processes with lower numbers
 abbrev pub live_below : ℕ → List Recorded → List Living
 live_below n rs = filter (λ (e : Living). nat_lt e.0 n) (live_processes rs)
 
@@ -42,7 +42,7 @@ number-less a b is = less_of (nat_cmp a b) a b (ranks a b) is
 not_lower : (a b : ℕ) → b ≤ a → nat_lt a b ≡ false
 not_lower a b high = never (nat_lt a b) (λ less. let low = ltb-true a b less in absurd (omega arith))
 
--- none is below where all are above
+-- no process is below if all numbers are above
 none_below : (k n : ℕ) (rs : List Recorded) → below_all nat_cmp k rs ≡ true → n ≤ suc k → live_below n rs ≡ []
 none_below k n [] below low = refl
 none_below k n ((j, live p) ∷ rs) below low =
@@ -66,7 +66,7 @@ find_past n k r rs apart = ap (λ b. cond b (Some r) (find nat_cmp n rs)) (sym (
 same_or_not : (n k : ℕ) → (n ≡ k) ⊎ (n ≢ k)
 same_or_not n k = ⊎_elim (λ (low : n < k). inr (λ same. absurd (omega arith))) (λ high. ⊎_elim (λ (more : k < n). inr (λ same. absurd (omega arith))) (λ low. inl (omega (arith, low, high))) (cases_lt k n)) (cases_lt n k)
 
--- one number further
+-- the next number
 pub below-more : (n : ℕ) (rs : List Recorded) → is_sorted nat_cmp rs ≡ true → live_below (n + 1) rs ≡ live_below n rs ++ at_most_one n (live_process (find nat_cmp n rs))
 below-more n [] sorted = refl
 below-more n ((k, live p) ∷ rs) sorted =
@@ -75,12 +75,12 @@ below-more n ((k, live p) ∷ rs) sorted =
     (λ same.
     let here : nat_lt k (n + 1) ≡ true = lt-ltb k (n + 1) (omega (arith, same)) in
     let not_yet : nat_lt k n ≡ false = not_lower k n (omega (arith, same)) in
-    let found : find nat_cmp n ((k, live p) ∷ rs) ≡ Some (live p) = ap (λ j. find nat_cmp j ((k, live p) ∷ rs)) same ∙ find_here k (live p) rs in
+    let table_access : find nat_cmp n ((k, live p) ∷ rs) ≡ Some (live p) = ap (λ j. find nat_cmp j ((k, live p) ∷ rs)) same ∙ find_here k (live p) rs in
     ap (λ b. cond b ((k, p) ∷ live_below (n + 1) rs) (live_below (n + 1) rs)) here
     ∙ ap (λ (xs : List Living). (k, p) ∷ xs) (none_below k (n + 1) rs parts.0 (omega (arith, same)))
     ∙ ap (λ (j : ℕ). (j, p) ∷ []) (sym same)
     ∙ sym
-    ((λ i. ap (λ b. cond b ((k, p) ∷ live_below n rs) (live_below n rs)) not_yet i ++ at_most_one n (live_process (found i)))
+    ((λ i. ap (λ b. cond b ((k, p) ∷ live_below n rs) (live_below n rs)) not_yet i ++ at_most_one n (live_process (table_access i)))
     ∙ ap (λ (xs : List Living). xs ++ ((n, p) ∷ [])) (none_below k n rs parts.0 (omega (arith, same)))))
     (λ apart.
     let further = below-more n rs parts.1 in
@@ -98,10 +98,10 @@ below-more n ((k, ended_record parent status) ∷ rs) sorted =
     let parts = and_parts (below_all nat_cmp k rs) (is_sorted nat_cmp rs) sorted in
     ⊎_elim
     (λ same.
-    let found : find nat_cmp n ((k, ended_record parent status) ∷ rs) ≡ Some (ended_record parent status) =
+    let table_access : find nat_cmp n ((k, ended_record parent status) ∷ rs) ≡ Some (ended_record parent status) =
     ap (λ j. find nat_cmp j ((k, ended_record parent status) ∷ rs)) same ∙ find_here k (ended_record parent status) rs in
     none_below k (n + 1) rs parts.0 (omega (arith, same))
-    ∙ sym ((λ i. live_below n rs ++ at_most_one n (live_process (found i))) ∙ ap (λ (xs : List Living). xs ++ []) (none_below k n rs parts.0 (omega (arith, same)))))
+    ∙ sym ((λ i. live_below n rs ++ at_most_one n (live_process (table_access i))) ∙ ap (λ (xs : List Living). xs ++ []) (none_below k n rs parts.0 (omega (arith, same)))))
     (λ apart. below-more n rs parts.1 ∙ ap (λ (o : Option ProcessRecord). live_below n rs ++ at_most_one n (live_process o)) (sym (find_past n k (ended_record parent status) rs apart)))
     (same_or_not n k)
 
@@ -132,9 +132,9 @@ suspects-more n rs xs ys sorted so lives is = by (live_process (find nat_cmp n r
   where
     by : (o : Option Process) → live_process (find nat_cmp n rs) ≡ o → is_some o ≡ true → ys ≡ map start (live_below (n + 1) rs)
     by None none some = cc some
-    by (Some p) found some =
+    by (Some p) table_access some =
         is ∙ ap (λ (zs : List Suspect). zs ++ suspect n ∷ []) so
-        ∙ sym (ap (map start) (below-more n rs sorted ∙ ap (λ (o : Option Process). live_below n rs ++ at_most_one n o) found) ∙ map-append start (live_below n rs) ((n, p) ∷ []))
+        ∙ sym (ap (map start) (below-more n rs sorted ∙ ap (λ (o : Option Process). live_below n rs ++ at_most_one n o) table_access) ∙ map-append start (live_below n rs) ((n, p) ∷ []))
 
 pub suspects-same : (n : ℕ) (rs : List Recorded) (xs : List Suspect) → is_sorted nat_cmp rs ≡ true → xs ≡ map start (live_below n rs) → is_some (live_process (find nat_cmp n rs)) ≡ false
     → xs ≡ map start (live_below (n + 1) rs)
@@ -147,9 +147,9 @@ suspects-same n rs xs sorted so gone = by (live_process (find nat_cmp n rs)) ref
         nothing : (zs : List Suspect) → zs ++ [] ≡ zs
         nothing [] = refl
         nothing (z ∷ zs) = ap (λ (ws : List Suspect). z ∷ ws) (nothing zs)
-    by (Some p) found some = cc some
+    by (Some p) table_access some = cc some
 
--- there is room for one that is live
+-- there is room for another live process
 pub suspects-few : (n : ℕ) (rs : List Recorded) (xs : List Suspect) → is_sorted nat_cmp rs ≡ true → xs ≡ map start (live_below n rs) → is_some (live_process (find nat_cmp n rs)) ≡ true
     → length xs < length rs
 suspects-few n rs xs sorted so lives =
@@ -161,7 +161,7 @@ suspects-few n rs xs sorted so lives =
     length-started [] = refl
     length-started (p ∷ ps) = ap suc (length-started ps)
 
--- ---- each of them is live
+-- ---- each suspect is live
 
 pub live-in : (rs : List Recorded) (p : Living) → is_sorted nat_cmp rs ≡ true → In Living p (live_processes rs) → find nat_cmp p.0 rs ≡ Some (live p.1)
 live-in [] p sorted within = absurd within

@@ -1,4 +1,4 @@
--- The entries of a table, one after the other, and those of the directories from one on up.
+-- The entries of a table, and those of a directory and its ancestors.
 use Rattle.std.proofs.Common.{◌≡◌, ℕ, suc, Bool, true, false, cond, ◌==◌, List, [], map, flat_map, length, Option, None, Some, refl, ap, sym, ◌∙◌}
 use Rattle.std.specs.Prelude.{option_to_list}
 use Rattle.std.proofs.lemmas.List.{append-nil}
@@ -12,9 +12,9 @@ use Rattle.pv_unveil.specs.Up.{up}
 use Rattle.pv_audit.specs.Findings.{lesser, least, passing, entries_passing, least_above}
 use Rattle.pv_audit.proofs.LeastOnes.{lesser-none, lesser-assoc, least-same, least-cons, in-passing, passing-in}
 
--- ---- the entries of a directory and of those above it
+-- ---- the entries of a directory and its ancestors
 
--- the least entry with c that one of these directories has of its own
+-- the least own entry with c of these directories
 abbrev pub least_own : Table → List ℕ → Option ℕ
 least_own table ds = least (entries_passing (λ permissions. permissions.c) table (map (λ d. entry_for table (Directory d)) ds))
 
@@ -32,19 +32,19 @@ module _ (t : Tree) (table : Table) (left d : ℕ) where
   topmost false None is = refl
   topmost false (Some v) is = cc is
 
-  -- one directory more
+  -- one more directory
   pub own-up : (u : ℕ) → up t d ≡ Some u → least_own table (ancestors_within t (suc left) d) ≡ lesser (own_with_c table d) (least_own table (ancestors_within t left u))
   own-up u is =
       least-cons (λ permissions. permissions.c) table (entry_for table (Directory d)) (map (λ e. entry_for table (Directory e)) (flat_map (ancestors_within t left) (above_or_none t d)))
       ∙ ap (λ (ds : List ℕ). lesser (own_with_c table d) (least_own table ds)) (upward (d == root) (parent t d) u is)
 
-  -- the last one
+  -- the last directory
   pub own-top : up t d ≡ None → least_own table (ancestors_within t (suc left) d) ≡ own_with_c table d
   own-top is =
       least-cons (λ permissions. permissions.c) table (entry_for table (Directory d)) (map (λ e. entry_for table (Directory e)) (flat_map (ancestors_within t left) (above_or_none t d)))
       ∙ ap (λ (ds : List ℕ). lesser (own_with_c table d) (least_own table ds)) (topmost (d == root) (parent t d) is) ∙ lesser-none (own_with_c table d)
 
-  -- found so far, and what is left
+  -- the entry found so far, and the rest
   pub more-up : (so_far : Option ℕ) (u : ℕ) → up t d ≡ Some u
       → lesser so_far (least_own table (ancestors_within t (suc left) d)) ≡ lesser (lesser so_far (own_with_c table d)) (least_own table (ancestors_within t left u))
   more-up so_far u is = ap (lesser so_far) (own-up u is) ∙ sym (lesser-assoc so_far (own_with_c table d) (least_own table (ancestors_within t left u)))
@@ -55,7 +55,7 @@ module _ (t : Tree) (table : Table) (left d : ℕ) where
 pub own-none : (t : Tree) (table : Table) (d : ℕ) (so_far : Option ℕ) → lesser so_far (least_own table (ancestors_within t 0 d)) ≡ so_far
 own-none t table d so_far = lesser-none so_far
 
--- ---- each entry that governs is the own one of a directory at or above
+-- ---- each governing entry is the own entry of a directory or one of its ancestors
 
 at_or_above : (t : Tree) (a b : ℕ) (c : ℕ) → IsAtOrAbove t a b → IsAtOrAbove t b c → IsAtOrAbove t a c
 at_or_above t a b _ high itself = high
@@ -64,7 +64,7 @@ at_or_above t a b _ high (above d u apart is low) = above d u apart is (at_or_ab
 module _ (t : Tree) (table : Table) where
   owner : (d k : ℕ) → Governs t table d k → (e : ℕ) × IsAtOrAbove t e d × (entry_for table (Directory e) ≡ Some k)
   owner _ _ (own d k is) = (d, itself, is)
-  owner _ _ (from_above d u k apart none is governs) = let found = owner u k governs in (found.0, above d u apart is found.1, found.2)
+  owner _ _ (from_above d u k apart none is governs) = let table_access = owner u k governs in (table_access.0, above d u apart is table_access.1, table_access.2)
 
   abbrev mine : ℕ → Option ℕ
   mine e = entry_for table (Directory e)
@@ -76,15 +76,15 @@ module _ (t : Tree) (table : Table) where
   own-governs d well =
       least-same (entries_passing (λ permissions. permissions.c) table (map mine (ancestors t d))) (entries_passing (λ permissions. permissions.c) table (map rights (ancestors t d)))
       (λ k within.
-      let found = passing-in ℕ (λ permissions. permissions.c) table mine (ancestors t d) k within in
-      in-passing ℕ (λ permissions. permissions.c) table rights (ancestors t d) k found.0 found.1 (directory_rights-Governs t table found.0 k (own found.0 k found.2)) found.3)
+      let table_access = passing-in ℕ (λ permissions. permissions.c) table mine (ancestors t d) k within in
+      in-passing ℕ (λ permissions. permissions.c) table rights (ancestors t d) k table_access.0 table_access.1 (directory_rights-Governs t table table_access.0 k (own table_access.0 k table_access.2)) table_access.3)
       (λ k within.
-      let found = passing-in ℕ (λ permissions. permissions.c) table rights (ancestors t d) k within in
-      let o = owner found.0 k (Governs-directory_rights t table found.0 k found.2) in
-      let low = (ancestors-above t well d found.0).0 (in-any found.0 (ancestors t d) found.1) in
-      in-passing ℕ (λ permissions. permissions.c) table mine (ancestors t d) k o.0 (any-in o.0 (ancestors t d) ((ancestors-above t well d o.0).1 (at_or_above t o.0 found.0 d o.1 low))) o.2 found.3)
+      let table_access = passing-in ℕ (λ permissions. permissions.c) table rights (ancestors t d) k within in
+      let o = owner table_access.0 k (Governs-directory_rights t table table_access.0 k table_access.2) in
+      let low = (ancestors-above t well d table_access.0).0 (in-any table_access.0 (ancestors t d) table_access.1) in
+      in-passing ℕ (λ permissions. permissions.c) table mine (ancestors t d) k o.0 (any-in o.0 (ancestors t d) ((ancestors-above t well d o.0).1 (at_or_above t o.0 table_access.0 d o.1 low))) o.2 table_access.3)
 
--- as many steps as there are numbers
+-- the number of nodes bounds the climb
 pub ancestors-within : (t : Tree) (count d : ℕ) → length t.nodes ≡ count → ancestors t d ≡ ancestors_within t count d
 unfolding ancestors
 ancestors-within t count d is = ap (λ n. ancestors_within t n d) is

@@ -1,4 +1,4 @@
-//! The entries of a table with the permission c that govern directories.
+//! The unveil entries with permission c that govern directories.
 ghost use Rattle.std.specs.Prelude.{◌≡◌, ◌<◌, length, IsTrue, IfSome};
 ghost use Rattle.pv_audit.specs.Findings.{least_above, lesser, passing};
 ghost use Rattle.pv_model.specs.Calls.Restraints.{entries_of_table};
@@ -7,7 +7,7 @@ ghost use Rattle.pv_model.specs.Tree.{is_directory_at};
 use pv_tree::Tree;
 use pv_unveil::{Table, above};
 
-/// The lesser of two numbers that may be absent.
+/// Returns the lesser of two numbers, either of which may be absent.
 pub(crate) fn lesser(a: Option<u8>, b: Option<u8>) -> Option<u8>
     ensures { result ≡ lesser a b }
 {
@@ -18,7 +18,7 @@ pub(crate) fn lesser(a: Option<u8>, b: Option<u8>) -> Option<u8>
     }
 }
 
-// An entry, where it has the permission c.
+// Returns an entry if it has permission c.
 fn with_c(table: &Table, entry: Option<u8>) -> Option<u8>
     requires { IfSome entry (λ k. k < length (entries_of_table table.now.table)) }
     ensures { result ≡ passing (λ permissions. permissions.c) (entries_of_table table.now.table) entry }
@@ -29,7 +29,8 @@ fn with_c(table: &Table, entry: Option<u8>) -> Option<u8>
     }
 }
 
-/// The least entry with c that governs a directory, or one above it: each such entry is the own one of one of these.
+/// Returns the least entry with permission c that governs a directory or one of its ancestors. Each such entry is the
+/// own entry of one of these directories.
 pub(crate) fn least_above(table: &Table, tree: &Tree, directory: u16) -> Option<u8>
     requires { IsTrue (is_directory_at tree.now.tree directory) }
     ensures { result ≡ least_above tree.now.tree (entries_of_table table.now.table) directory }

@@ -1,15 +1,15 @@
-//! Whether a process is closed to a file, and whether it can write it.
+//! Whether a process is closed to a file, and whether it can write the file.
 ghost use Rattle.std.specs.Prelude.{◌≡◌, not, option_map, IsSome, Some};
 ghost use Rattle.std.specs.List.{list_all};
 ghost use Rattle.pv_audit.specs.Findings.{least};
-ghost use Rattle.pv_audit.specs.Reasons.{descriptors_for, first_of, is_held as is_held_over_exec_by, is_kept, is_on as is_open_on, kept_at, reason_at, reason_of as first_reason_of, reason_of_table as table_reason_of};
+ghost use Rattle.pv_audit.specs.Reasons.{descriptors_for, first_of, is_held as is_held_over_exec_by, is_preserved, is_on as is_open_on, preserved_at, reason_at, reason_of as first_reason_of, reason_of_table as table_reason_of};
 ghost use Rattle.pv_model.specs.Numbered.{at_number};
 ghost use Rattle.pv_model.specs.Promises.{contains};
 ghost use Rattle.pv_model.specs.Sealed.{has_none_of, is_frozen_to, leaks};
 ghost use Rattle.pv_model.specs.State.{Process, process_at};
 
-use crate::found::Found;
 use crate::suspects::{Suspect, note_names};
+use crate::table_access::TableAccess;
 use bitflags::Flags;
 use pv_calls_state::Parts;
 use pv_files::{Descriptors, OpenFiles};
@@ -18,21 +18,21 @@ use pv_model::{Perms, Promise, Promises, Why};
 use pv_procs::ProcessRecord;
 use pv_promises::Pledge;
 
-// Whether a promise is in a set.
+// Returns whether a set contains a promise.
 fn has(held: Promises, promise: Promise) -> bool
     ensures { result ≡ contains held.0 promise }
 {
     held.contains(Promises::from_bits_retain(1 << promise.bit()))
 }
 
-// Whether a set has none of these promises.
+// Returns whether a set contains none of these promises.
 fn has_none(held: Promises, promises: &[Promise]) -> bool
     ensures { result ≡ list_all (λ promise. not (contains held.0 promise)) promises.now }
 {
     promises.iter().all(|promise| !has(held, *promise))
 }
 
-// Whether a process is pledged, without any of these promises.
+// Returns whether a process is pledged, without any of these promises.
 fn is_pledged_without(pledge: &Pledge, promises: &[Promise]) -> bool
     ensures { result ≡ has_none_of promises.now pledge.now.promises }
 {
@@ -42,28 +42,28 @@ fn is_pledged_without(pledge: &Pledge, promises: &[Promise]) -> bool
     }
 }
 
-// Whether a program that is executed has restraints of its own, or none can be.
+// Returns whether the process stays restricted over execve(2): it cannot make the call, or it has execpromises.
 fn is_held_over_exec(pledge: &Pledge) -> bool
     ensures { result ≡ is_held_over_exec_by pledge.now }
 {
     is_pledged_without(pledge, &[Promise::Exec]) || pledge.execpromises().is_some()
 }
 
-// Whether a number is that of an open file on a node, whose mode has these permissions.
+// Returns whether `file` is open on a node in a mode that has these permissions.
 fn is_open_on(files: &OpenFiles, file: usize, node: u16, needed: Perms) -> bool
     ensures { result ≡ is_open_on node needed (at_number files.now.files file) }
 {
     files.is_open(file) && files.node(file) == node && files.mode(file).permissions().covers(needed)
 }
 
-// The number of the open file of a descriptor, where there is one.
+// Returns the open file of a descriptor, if it is open.
 fn file_at(descriptors: &Descriptors, d: u8) -> Option<usize>
     ensures { result ≡ option_map (λ e. e.file) (at_number descriptors.now d) }
 {
     descriptors.at(i32::from(d)).ok()
 }
 
-// The least descriptor on a node, with a mode that has these permissions.
+// Returns the least descriptor on a node in a mode that has these permissions.
 fn least_descriptor(
     files: &OpenFiles,
     descriptors: &Descriptors,
@@ -83,9 +83,9 @@ fn least_descriptor(
     None
 }
 
-// Why the table of a process leaves a file open.
-fn reason_of_table(record: &ProcessRecord, found: &Found) -> Option<Why>
-    ensures { result ≡ table_reason_of record.now found.now record.now.unveiled.table }
+// Returns the first reason why the unveil table of a process does not close it to a file.
+fn reason_of_table(record: &ProcessRecord, table_access: &TableAccess) -> Option<Why>
+    ensures { result ≡ table_reason_of record.now table_access.now record.now.unveiled.table }
 {
     if record.unveiled.is_empty() {
         return Some(Why::NoTable);
@@ -93,10 +93,10 @@ fn reason_of_table(record: &ProcessRecord, found: &Found) -> Option<Why>
     if !record.unveiled.is_locked() {
         return Some(Why::NotLocked);
     }
-    if let Some(k) = found.gives {
+    if let Some(k) = table_access.gives {
         return Some(Why::Gives(k));
     }
-    if let Some(k) = found.above {
+    if let Some(k) = table_access.above {
         return Some(Why::Above(k));
     }
     if is_held_over_exec(&record.pledge) {
@@ -106,9 +106,14 @@ fn reason_of_table(record: &ProcessRecord, found: &Found) -> Option<Why>
     }
 }
 
-// The first reason why a process is not closed to a file.
-fn first_reason(record: &ProcessRecord, files: &OpenFiles, node: u16, found: &Found) -> Option<Why>
-    ensures { result ≡ first_reason_of files.now.files record.now node found.now }
+// Returns the first reason why a process is not closed to a file.
+fn first_reason(
+    record: &ProcessRecord,
+    files: &OpenFiles,
+    node: u16,
+    table_access: &TableAccess,
+) -> Option<Why>
+    ensures { result ≡ first_reason_of files.now.files record.now node table_access.now }
 {
     if let Some(d) = least_descriptor(files, &record.descriptors, node, Perms::R) {
         return Some(Why::Reads(d));
@@ -117,13 +122,18 @@ fn first_reason(record: &ProcessRecord, files: &OpenFiles, node: u16, found: &Fo
     if is_pledged_without(&record.pledge, &opening) {
         None
     } else {
-        reason_of_table(record, found)
+        reason_of_table(record, table_access)
     }
 }
 
-// Whether a process can't write a file, beside what keeps it closed.
-fn can_not_write(record: &ProcessRecord, files: &OpenFiles, node: u16, found: &Found) -> bool
-    ensures { result ≡ is_kept files.now.files record.now node found.now }
+// Returns whether a process that is closed to a file can't write it either.
+fn can_not_write(
+    record: &ProcessRecord,
+    files: &OpenFiles,
+    node: u16,
+    table_access: &TableAccess,
+) -> bool
+    ensures { result ≡ is_preserved files.now.files record.now node table_access.now }
 {
     if least_descriptor(files, &record.descriptors, node, Perms::W).is_some() {
         return false;
@@ -133,11 +143,11 @@ fn can_not_write(record: &ProcessRecord, files: &OpenFiles, node: u16, found: &F
     }
     !record.unveiled.is_empty()
         && record.unveiled.is_locked()
-        && !found.writes
+        && !table_access.writes
         && is_held_over_exec(&record.pledge)
 }
 
-/// The first reason why a process is not closed to a file, of which all is found.
+/// Returns the first reason why a process is not closed to a file. All names of the file must be noted in `suspect`.
 pub(crate) fn reason_for(parts: &Parts, suspect: &Suspect, node: u16) -> Option<Why>
     requires { IsSome (process_at parts.now suspect.now.pid) }
     ensures { result ≡ reason_at parts.now node suspect.now }
@@ -146,26 +156,28 @@ pub(crate) fn reason_for(parts: &Parts, suspect: &Suspect, node: u16) -> Option<
         parts.record(suspect.pid),
         parts.files(),
         node,
-        &suspect.found,
+        &suspect.table_access,
     )
 }
 
-/// Whether a process can't write a file, of which all is found, beside what keeps it closed.
-pub(crate) fn is_kept_from(parts: &Parts, suspect: &Suspect, node: u16) -> bool
+/// Returns whether a process that is closed to a file can't write it either. All names of the file must be noted in
+/// `suspect`.
+pub(crate) fn is_preserved_from(parts: &Parts, suspect: &Suspect, node: u16) -> bool
     requires { IsSome (process_at parts.now suspect.now.pid) }
-    ensures { result ≡ kept_at parts.now node suspect.now }
+    ensures { result ≡ preserved_at parts.now node suspect.now }
 {
     can_not_write(
         parts.record(suspect.pid),
         parts.files(),
         node,
-        &suspect.found,
+        &suspect.table_access,
     )
 }
 
-/// Why a live process is not closed to a file: the first reason, by its descriptors, then its table, its lock, an entry for a
-/// name of the file, one for a directory above it, and execve(2). None where it is closed: it reads the file by no
-/// descriptor, and never will.
+/// Returns the first reason why a live process is not closed to a file, in this order: its descriptors, its table, its
+/// lock, an entry for a name of the file, an entry for a directory above it, and execve(2).
+///
+/// Returns `None` if the process is closed to the file: no descriptor of it reads the file, and none ever will.
 pub fn leak(parts: &Parts, pid: u32, node: u16) -> Option<Why>
     requires { IsSome (process_at parts.now pid) }
     ensures { (p : Process) → process_at parts.now pid ≡ Some p → result ≡ first_of (leaks parts.now p node) }
@@ -175,12 +187,13 @@ pub fn leak(parts: &Parts, pid: u32, node: u16) -> Option<Why>
     reason_for(parts, &suspects[0], node)
 }
 
-/// Whether a live process writes a file by no descriptor, and never will, if it is closed to it.
+/// Returns whether a live process that is closed to a file has no descriptor that writes the file, and can never get
+/// one.
 pub fn frozen_to(parts: &Parts, pid: u32, node: u16) -> bool
     requires { IsSome (process_at parts.now pid) }
     ensures { (p : Process) → process_at parts.now pid ≡ Some p → result ≡ is_frozen_to parts.now p node }
 {
     let mut suspects = [Suspect::new(pid)];
     note_names(parts, node, &mut suspects);
-    is_kept_from(parts, &suspects[0], node)
+    is_preserved_from(parts, &suspects[0], node)
 }

@@ -1,4 +1,4 @@
-//! The live processes, with what is found of each.
+//! The live processes, with their access to the audited file.
 ghost use Rattle.std.specs.Prelude.{◌≡◌, map, true, IsTrue, IsSome};
 ghost use Rattle.std.specs.FinMap.Entries.{is_sorted};
 ghost use Rattle.std.specs.Ordering.{nat_cmp};
@@ -7,47 +7,47 @@ ghost use Rattle.pv_model.specs.Held.{live_processes};
 ghost use Rattle.pv_model.specs.State.{process_at};
 ghost use Rattle.pv_model.specs.Tree.{is_directory_at, names_of};
 
-use crate::found::Found;
+use crate::table_access::TableAccess;
 use arrayvec::ArrayVec;
 use pv_calls_state::Parts;
 use pv_model::Name;
 use pv_model::limits::{LAST_PROCESS, PROCESSES};
 
-/// A live process, with what is found of its table and a file.
+/// A live process, with the access that its table gives to the audited file.
 #[derive(Clone, Copy, Debug, PartialEq, Eq, Default)]
 pub(crate) struct Suspect {
     /// The number of the process.
     pub(crate) pid: u32,
-    /// What is found.
-    pub(crate) found: Found,
+    /// The access that its table gives by the names noted so far.
+    pub(crate) table_access: TableAccess,
 }
 
 /// All live processes.
 pub(crate) type Suspects = ArrayVec<Suspect, PROCESSES>;
 
 impl Suspect {
-    /// A process of which nothing is found yet.
+    /// Returns a process for which no name is noted yet.
     pub(crate) fn new(pid: u32) -> Suspect
         ensures { result ≡ suspect pid }
     {
         Suspect {
             pid,
-            found: Found::nothing(),
+            table_access: TableAccess::nothing(),
         }
     }
 
-    // Adds what the table of the process leaves open by another name of the file.
+    // Adds the access that the table of the process gives by another name of the file.
     fn note(&mut self, parts: &Parts, directory: u16, name: &Name)
         requires live { IsSome (process_at parts.now self.old.pid) }
         requires directory { IsTrue (is_directory_at parts.now.tree directory) }
         ensures { self.new ≡ note_of parts.now (directory, name.now) self.old }
     {
         let table = &parts.record(self.pid).unveiled;
-        self.found.note(table, parts.tree(), directory, name);
+        self.table_access.note(table, parts.tree(), directory, name);
     }
 }
 
-// Adds what the table of each process leaves open by another name of the file.
+// Adds the access that the table of each process gives by another name of the file.
 fn note_name(parts: &Parts, suspects: &mut [Suspect], directory: u16, name: &Name)
     requires live { are_live parts.now suspects.old ≡ true }
     requires directory { IsTrue (is_directory_at parts.now.tree directory) }
@@ -58,13 +58,13 @@ fn note_name(parts: &Parts, suspects: &mut [Suspect], directory: u16, name: &Nam
     }
 }
 
-/// Goes once through the names of a file, and adds to each process what its table leaves open by them.
+/// Enumerates the names of a file, and adds to each process the access that its table gives by them.
 pub(crate) fn note_names(parts: &Parts, node: u16, suspects: &mut [Suspect])
     requires { are_live parts.now suspects.old ≡ true }
     ensures { suspects.new ≡ map (noted_by parts.now (names_of parts.now.tree node)) suspects.old }
 {
     let tree = parts.tree();
-    // What its sizes tell with them: every tree is well-formed.
+    // The contract of `invariant` states that the tree is well-formed.
     tree.invariant();
     let mut next = tree.next_name(node, None);
     while let Some((directory, name)) = next {
@@ -73,7 +73,7 @@ pub(crate) fn note_names(parts: &Parts, node: u16, suspects: &mut [Suspect])
     }
 }
 
-// All live processes, of which nothing is found yet, in the order of their numbers.
+// Returns all live processes in the order of their numbers, with no name noted.
 fn live_suspects(parts: &Parts) -> Suspects
     ensures { result.items ≡ map (λ p. suspect p.0) (live_processes parts.now.processes) }
 {
@@ -87,7 +87,7 @@ fn live_suspects(parts: &Parts) -> Suspects
     suspects
 }
 
-/// All live processes, with all that is found of each and a file, in the order of their numbers.
+/// Returns all live processes in the order of their numbers, with all names of the file noted.
 pub(crate) fn found_suspects(parts: &Parts, node: u16) -> Suspects
     ensures items { result.items ≡ map (noted_by parts.now (names_of parts.now.tree node)) (map (λ p. suspect p.0) (live_processes parts.now.processes)) }
     ensures ordered { is_sorted nat_cmp parts.now.processes ≡ true }

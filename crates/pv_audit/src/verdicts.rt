@@ -1,13 +1,13 @@
-//! What an audit finds of a file, by its number or by a path.
+//! The audit of a file, by its node or by a path.
 ghost use Rattle.std.specs.Prelude.{◌≡◌, true, IsSome};
 ghost use Rattle.std.specs.List.{list_all};
 ghost use Rattle.pv_audit.specs.Findings.{are_live};
-ghost use Rattle.pv_audit.specs.Reasons.{kept_at, leak_among};
+ghost use Rattle.pv_audit.specs.Reasons.{preserved_at, leak_among};
 ghost use Rattle.pv_model.specs.Sealed.{audit as audit_by_definition, audit_node as audit_of, is_file, verdict};
 ghost use Rattle.pv_model.specs.Effect.{node_of};
 ghost use Rattle.pv_model.specs.Tree.{node_at};
 
-use crate::reasons::{is_kept_from, reason_for};
+use crate::reasons::{is_preserved_from, reason_for};
 use crate::suspects::{Suspect, found_suspects};
 use pv_calls_state::Parts;
 use pv_model::limits::ROOT;
@@ -15,7 +15,7 @@ use pv_model::{AuditFault, Errno, Follow, Kind, Leak, Place, Verdict};
 use pv_namei::{PlainLookup, resolve};
 use pv_tree::{PlaceRef, Tree};
 
-// The first process that is not closed to a file, with its first reason.
+// Returns the first process that is not closed to a file, with its first reason.
 fn first_leak(parts: &Parts, suspects: &[Suspect], node: u16) -> Option<Leak>
     requires { are_live parts.now suspects.now ≡ true }
     ensures { result ≡ leak_among parts.now node suspects.now }
@@ -31,21 +31,21 @@ fn first_leak(parts: &Parts, suspects: &[Suspect], node: u16) -> Option<Leak>
     None
 }
 
-// Whether no process can write a file, beside what keeps each closed.
-fn are_all_kept(parts: &Parts, suspects: &[Suspect], node: u16) -> bool
+// Returns whether no process can write a file, given that each is closed to it.
+fn are_all_preserved(parts: &Parts, suspects: &[Suspect], node: u16) -> bool
     requires { are_live parts.now suspects.now ≡ true }
-    ensures { result ≡ list_all (kept_at parts.now node) suspects.now }
+    ensures { result ≡ list_all (preserved_at parts.now node) suspects.now }
 {
     for suspect in suspects {
-        if !is_kept_from(parts, suspect, node) {
+        if !is_preserved_from(parts, suspect, node) {
             return false;
         }
     }
     true
 }
 
-/// What is found of a file: sealed, sealed and frozen, or exposed to the least process that is not closed to it. None
-/// where the file has no name.
+/// Returns the verdict on a file: sealed, sealed and frozen, or exposed to the least process that is not closed to it.
+/// Returns `None` if the file has no name.
 pub fn verdict_of(parts: &Parts, node: u16) -> Option<Verdict>
     requires { IsSome (node_at parts.now.tree node) }
     ensures { result ≡ verdict parts.now node }
@@ -53,31 +53,32 @@ pub fn verdict_of(parts: &Parts, node: u16) -> Option<Verdict>
     if parts.tree().names(node) == 0 {
         return None;
     }
-    let found = found_suspects(parts, node);
-    let suspects = found.as_slice();
+    let table_access = found_suspects(parts, node);
+    let suspects = table_access.as_slice();
     if let Some(leak) = first_leak(parts, suspects, node) {
         return Some(Verdict::Exposed(leak));
     }
-    if are_all_kept(parts, suspects, node) {
+    if are_all_preserved(parts, suspects, node) {
         Some(Verdict::Frozen)
     } else {
         Some(Verdict::Sealed)
     }
 }
 
-// Whether a number is that of a file.
+// Returns whether a number is the node of a file.
 fn is_file(tree: &Tree, node: u16) -> bool
     ensures { result ≡ is_file (node_at tree.now.tree node) }
 {
     tree.is_used(node) && matches!(tree.kind(node), Kind::File | Kind::Executable)
 }
 
-/// What is found of a file by its number: sealed, sealed and frozen, or exposed to the least process that is not closed to
-/// it, with the first reason. It takes no memory.
+/// Audits the file of a node. The verdict is sealed, sealed and frozen, or exposed to the least process that is not
+/// closed to it, with the first reason. Does not allocate.
 ///
 /// # Errors
 ///
-/// `NotFile` where no file has the number, and `Walk` with `ENOENT` where the file has no name.
+/// - `NotFile`, if the node is not a file.
+/// - `Walk` with `ENOENT`, if the file has no name.
 pub fn audit_node(parts: &Parts, node: u16) -> Result<Verdict, AuditFault>
     ensures { result ≡ audit_of parts.now (Some node) }
 {
@@ -85,12 +86,12 @@ pub fn audit_node(parts: &Parts, node: u16) -> Result<Verdict, AuditFault>
         return Err(AuditFault::NotFile);
     }
     match verdict_of(parts, node) {
-        Some(found) => Ok(found),
+        Some(table_access) => Ok(table_access),
         None => Err(AuditFault::Walk(Errno::ENOENT)),
     }
 }
 
-// What is found at a place.
+// Audits the file at a place.
 fn audit_place(parts: &Parts, place: &Place) -> Result<Verdict, AuditFault>
     ensures { result ≡ audit_of parts.now (node_of place.now) }
 {
@@ -100,13 +101,14 @@ fn audit_place(parts: &Parts, place: &Place) -> Result<Verdict, AuditFault>
     }
 }
 
-/// What is found of the file that a path names, walked from the root, following links, unjudged: sealed, sealed and frozen,
-/// or exposed to the least process that is not closed to it, with the first reason. It takes no memory.
+/// Audits the file at a path. The path is walked from the root; links are followed, and no unveil table applies. The
+/// verdict is sealed, sealed and frozen, or exposed to the least process that is not closed to it, with the first
+/// reason. Does not allocate.
 ///
 /// # Errors
 ///
-/// `Walk` with the error that the walk answers, or `ENOENT` where it ends with no node; `NotFile` where the path names no
-/// file.
+/// - `Walk` with the error of the walk, or with `ENOENT` if nothing exists at the path.
+/// - `NotFile`, if the path does not name a file.
 pub fn audit(parts: &Parts, path: &[u8]) -> Result<Verdict, AuditFault>
     ensures { result ≡ audit_by_definition parts.now path.now }
 {

@@ -1,4 +1,4 @@
--- An inode that is in use stays so.
+-- An inode that is in use stays in use.
 use Rattle.std.proofs.Common.{◌≡◌, ℕ, zero, suc, [], ◌∷◌, ◌<◌, length, Option, Some, IsSome, IfSome, Result, Ok, Err, OnOk, OnErr, refl, sym, subst, arith}
 use Rattle.pv_model.specs.declared.kind.Kind.{Kind}
 use Rattle.pv_model.specs.Numbered.{Numbered, at_number, with_number}
@@ -17,21 +17,21 @@ module _ {X : Type 0} where
 used-new : (f : Files) (n : ℕ) (sort : Kind) → n < length f.nodes → IsUsed (with_new f n sort) n
 used-new f n sort below = used-with_number f.nodes n (record { sort = sort; bytes = [] }) below
 
--- where bytes were written over its own
+-- after a write to it
 pub used-written : (f : Files) (n at : ℕ) (bytes : Bytes) → IsUsed f n → IsUsed (written f n at bytes) n
 used-written f n at [] used = used
 used-written f n at (b ∷ bytes) used = used-with_bytes f n (overwrite (bytes_at f n) at (b ∷ bytes)) used
 
--- where its bytes were cut
+-- after its truncation
 pub used-cut : (f : Files) (n size : ℕ) → IsUsed f n → IsUsed (cut f n size) n
 used-cut f n size used = used-with_bytes f n (resize (bytes_at f n) size) used
 
--- after a call that may fail, and then changes nothing
+-- after a call that can fail and then changes nothing
 pub used-after : {A E : Type 0} (r : Result A E) (old new changed : Files) (n : ℕ) → OnOk r (new ≡ changed) → OnErr r (new ≡ old) → IsUsed old n → IsUsed changed n → IsUsed new n
 used-after (Ok _) old new changed n ok err used still = subst (λ (f : Files). IsUsed f n) (sym ok) still
 used-after (Err _) old new changed n ok err used still = subst (λ (f : Files). IsUsed f n) (sym err) used
 
--- after a call that gave a new one
+-- after a call that allocated a new one
 pub used-fresh : (r : Option ℕ) (old new : Files) (n : ℕ) (sort : Kind) → r ≡ Some n → IfSome r (λ m. m < length old.nodes) → IfSome r (λ m. new ≡ with_new old m sort) → IsUsed new n
 used-fresh r old new n sort is within after =
     let below : n < length old.nodes = rw is at within in

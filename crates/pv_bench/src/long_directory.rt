@@ -1,4 +1,4 @@
-//! A directory of many names.
+//! A directory with many names.
 use crate::image::{INODES, blocks_of};
 use anyhow::{Context, Result, ensure};
 use pv_dirs::Directories;
@@ -6,17 +6,17 @@ use pv_model::limits::BLOCK;
 use pv_model::{Kind, Name, Version, is_name};
 use std::alloc::{AllocError, Global};
 
-/// The greatest number of names.
+/// The maximum number of names.
 pub const MOST: u32 = 2_000;
 
-// An image with room for one content of the greatest length, which is more than so many names need.
+// Creates an image with room for contents of the maximum length, which is more than `MOST` names need.
 fn empty_image(alloc: Global, version: Version) -> Result<Directories, AllocError> {
     let blocks = blocks_of(version);
     let zeros = vec![in alloc; 0; BLOCK * blocks as usize]?;
     Directories::empty(alloc, zeros, blocks, INODES, version)
 }
 
-/// A directory in an image that has room for the greatest number of names, and a file for them.
+/// A directory in an image that has room for the maximum number of names, and a file that has these names.
 #[derive(Drop)]
 pub struct LongDirectory {
     directories: Directories,
@@ -24,8 +24,8 @@ pub struct LongDirectory {
     file: u16,
 }
 
-/// The name of this number, counted from 0: an `n` and five digits. The names are in the order of their
-/// numbers.
+/// Returns the name with this number, counted from 0: an `n` and five digits. The byte order of the names is the order
+/// of their numbers.
 pub fn name_of(number: u32) -> [u8; 6] {
     let digit = |place: u32| b'0' + (number / place % 10) as u8;
     [
@@ -39,11 +39,11 @@ pub fn name_of(number: u32) -> [u8; 6] {
 }
 
 impl LongDirectory {
-    /// A directory without names, in an image of a version.
+    /// Creates a directory without names, in an image of this version.
     ///
     /// # Errors
     ///
-    /// Where memory was refused.
+    /// Returns an error if memory cannot be allocated.
     pub fn new(alloc: Global, version: Version) -> Result<LongDirectory> {
         let mut directories = empty_image(alloc, version)?;
         let number = directories
@@ -57,11 +57,11 @@ impl LongDirectory {
         })
     }
 
-    /// Gives the file one more name.
+    /// Adds a name to the file.
     ///
     /// # Errors
     ///
-    /// Where it is no name, is there, or has no room.
+    /// Returns an error if the name is invalid, exists already, or has no room.
     pub fn add(&mut self, name: &[u8]) -> Result<()> {
         ensure!(
             is_name(self.directories.version(), name),
@@ -81,13 +81,13 @@ impl LongDirectory {
             .context("the image has room")
     }
 
-    /// Whether a name is there.
+    /// Returns whether the directory has a name.
     pub fn has(&self, name: &[u8]) -> bool {
         self.directories.is_directory(self.number)
             && self.directories.find(self.number, name).is_some()
     }
 
-    /// The next name after the last one, in byte order.
+    /// Returns the name that follows `last` in byte order.
     pub fn next_after(&self, last: Option<&[u8]>) -> Option<Name> {
         if !self.directories.is_directory(self.number) {
             return None;

@@ -1,4 +1,4 @@
-//! A file of the greatest length.
+//! A file of the maximum length.
 ghost use Rattle.std.specs.Prelude.{◌≡◌, ◌-◌, ◌≤◌, ◌++◌, min, length, take, drop, OnOk, OnErr};
 ghost use Rattle.pv_inodes.specs.Files.{IsUsed, bytes_at, written};
 ghost use Rattle.pv_model.specs.declared.version.Version.TheVariants.{V1};
@@ -11,14 +11,14 @@ use pv_model::limits::BLOCK;
 use pv_model::{Kind, Version};
 use std::alloc::{AllocError, Global};
 
-// An image with room for one content of the greatest length.
+// Creates an image with room for contents of the maximum length.
 fn empty_image(alloc: Global, version: Version) -> Result<Inodes, AllocError> {
     let blocks = blocks_of(version);
     let zeros = vec![in alloc; 0; BLOCK * blocks as usize]?;
     Ok(Inodes::empty(zeros, blocks, INODES, version))
 }
 
-/// A file in an image that has room for a content of the greatest length, and for nothing more.
+/// A file in an image that has room for exactly one file of the maximum length.
 #[derive(Drop)]
 pub struct LongFile {
     inodes: Inodes,
@@ -29,11 +29,11 @@ pub struct LongFile {
 }
 
 impl LongFile {
-    /// A file of the greatest length that an image of a version has room for, of zeros.
+    /// Creates a file of zeros with the maximum length of an image of this version.
     ///
     /// # Errors
     ///
-    /// Where memory was refused.
+    /// Returns an error if memory cannot be allocated.
     pub fn new(alloc: Global, version: Version) -> Result<LongFile> {
         let length = version.layout().greatest_length;
         let mut inodes = empty_image(alloc, version)?;
@@ -49,7 +49,7 @@ impl LongFile {
         })
     }
 
-    /// Its length, in bytes.
+    /// Returns the length of the file in bytes.
     pub fn length(&self) -> u32
         ensures value { result ≡ self.now.length }
         ensures long { greatest_length V1 ≤ result }
@@ -57,7 +57,11 @@ impl LongFile {
         self.length
     }
 
-    /// Writes bytes over the file's, from `at` on.
+    /// Writes `bytes` to the file at offset `at`.
+    ///
+    /// # Errors
+    ///
+    /// Returns the reason if the bytes do not fit. The file then does not change.
     pub fn write(&mut self, at: u32, bytes: &[u8]) -> Result<(), Space>
         ensures ok { OnOk result (self.new.inodes ≡ written self.old.inodes self.old.number at bytes.now) }
         ensures err { OnErr result (self.new.inodes ≡ self.old.inodes) }
@@ -67,7 +71,8 @@ impl LongFile {
         self.inodes.write_at(self.number, at, bytes)
     }
 
-    /// Copies the file's bytes, from `at` on, to the front of the buffer; the result is how many.
+    /// Copies the contents of the file from offset `at` to the front of `buffer`, and returns the number of bytes
+    /// copied.
     pub fn read(&self, at: u32, buffer: &mut [u8]) -> usize
         ensures count { result ≡ min (length buffer.old) (length (bytes_at self.now.inodes self.now.number) - at) }
         ensures bytes { buffer.new ≡ take result (drop at (bytes_at self.now.inodes self.now.number)) ++ drop result buffer.old }

@@ -1,11 +1,11 @@
-//! `pv_bench`: how fast files and directories on blocks are.
+//! `pv_bench`: a benchmark of files and directories on blocks.
 //!
-//! It measures both versions of images, one after the other. With no words it makes a small round, and
-//! writes what it did and what the bytes sum to, which is the same each time. With the word `full` it makes
-//! a million operations of each kind, and also writes how long they took.
+//! It measures images of both versions in turn. Without arguments it runs a small round and prints what it did and the
+//! checksum of the bytes, which are the same on each run. With the argument `full` it runs a million operations of each
+//! kind and also prints the times.
 //!
-//! `image` has the sizes of the images, `long_file` the file that is measured, `rounds` what is done to it,
-//! `long_directory` the directory, and `report` the lines that are written.
+//! `image` has the sizes of the images, `long_file` the file that is measured, `rounds` the operations on it,
+//! `long_directory` the directory, and `report` prints the results.
 #![tactic(auto)]
 
 ghost use Rattle.std.specs.Prelude.{◌≡◌, ◌<◌, ◌≤◌, length};
@@ -69,7 +69,7 @@ fn measure_chunks(
     Ok(())
 }
 
-// Measures a file of the greatest length, and then writes what its bytes sum to.
+// Measures a file of the maximum length, and prints the checksum of its bytes.
 fn measure_file(rt: &HostRuntime, scale: Scale, version: Version) -> Result<()> {
     let mut file = LongFile::new(rt.alloc(), version)?;
     for size in SIZES {
@@ -83,7 +83,7 @@ fn measure_file(rt: &HostRuntime, scale: Scale, version: Version) -> Result<()> 
     Ok(())
 }
 
-// Gives a directory names, looks each up, and lists them.
+// Adds names to a directory, looks up each, and lists them.
 fn measure_directory(rt: &HostRuntime, scale: Scale, version: Version) -> Result<()> {
     let mut directory = LongDirectory::new(rt.alloc(), version)?;
     let start = Instant::now(rt)?;
@@ -105,7 +105,7 @@ fn measure_directory(rt: &HostRuntime, scale: Scale, version: Version) -> Result
     Ok(())
 }
 
-// Lists the names of a directory in their order, at most so many; the result is how many are there.
+// Lists the names of a directory in order, at most `most`, and returns their number.
 fn list(directory: &LongDirectory, most: u32) -> u32 {
     let mut last: Option<Name> = None;
     for listed in 0..most {
@@ -117,7 +117,7 @@ fn list(directory: &LongDirectory, most: u32) -> u32 {
     most
 }
 
-// How much the words of the command line ask for, of which the first is the program's name.
+// Returns the scale that the command line requests. The first word is the name of the program.
 fn scale_of(words: &[String]) -> Result<Scale> {
     match words {
         [] | [_] => Ok(Scale::Small),

@@ -1,4 +1,4 @@
-//! The lines that are written of a round.
+//! Printing results.
 ghost use Rattle.std.specs.Prelude.{◌≡◌, ◌*◌, ◌/◌, max};
 
 use crate::long_directory::MOST;
@@ -6,17 +6,17 @@ use crate::rounds::Moved;
 use std::io;
 use std::time::Duration;
 
-/// How much is done.
+/// The number of operations of a round.
 #[derive(Clone, Copy, Debug, PartialEq, Eq)]
 pub enum Scale {
-    /// A few thousand operations of each kind, without their times.
+    /// A few thousand operations of each kind, without times.
     Small,
-    /// A million operations of each kind, with their times.
+    /// A million operations of each kind, with times.
     Full,
 }
 
 impl Scale {
-    /// Operations in a round.
+    /// Returns the number of operations in a round.
     pub fn operations(self) -> u32 {
         match self {
             Scale::Small => 3_000,
@@ -24,7 +24,7 @@ impl Scale {
         }
     }
 
-    /// Names in the directory.
+    /// Returns the number of names in the directory.
     pub fn names(self) -> u32 {
         match self {
             Scale::Small => 200,
@@ -33,29 +33,30 @@ impl Scale {
     }
 }
 
-/// What was measured.
+/// A measurement.
 #[derive(Clone, Copy)]
 pub struct Measured {
-    /// What was done.
+    /// The kind of operation.
     pub work: &'static str,
-    /// How many bytes at a time.
+    /// The number of bytes of each operation.
     pub size: usize,
-    /// How many times.
+    /// The number of operations.
     pub operations: u32,
-    /// What was moved.
+    /// The bytes that the operations moved.
     pub moved: Moved,
-    /// How long it took.
+    /// The time that they took.
     pub time: Duration,
 }
 
-// Operations a second, where so many took so many microseconds, or one where they took none.
+// Returns the operations per second of `operations` that took `micros` microseconds. A time of zero counts as one
+// microsecond.
 fn rate(operations: u32, micros: u64) -> u64
     ensures { result ≡ operations * 1_000_000 / max micros 1 }
 {
     u64::from(operations) * 1_000_000 / micros.max(1)
 }
 
-// Writes, at full scale, how long so many operations took, and ends the line.
+// Prints the time of the operations if the scale is full, and ends the line.
 fn end_line<R: Print>(rt: &R, scale: Scale, operations: u32, time: Duration) -> io::Result<()> {
     if scale == Scale::Full {
         let micros = u64::try_from(time.as_micros()).unwrap_or(u64::MAX);
@@ -66,7 +67,7 @@ fn end_line<R: Print>(rt: &R, scale: Scale, operations: u32, time: Duration) -> 
     println!(rt)
 }
 
-/// Writes a line of what was measured with names; at full scale with its time.
+/// Prints the line of a measurement with names. If the scale is full, the line has the time.
 pub fn report_names<R: Print>(
     rt: &R,
     scale: Scale,
@@ -78,7 +79,7 @@ pub fn report_names<R: Print>(
     end_line(rt, scale, names, time)
 }
 
-/// Writes a line of what was measured; at full scale with its time.
+/// Prints the line of a measurement. If the scale is full, the line has the time.
 pub fn report<R: Print>(rt: &R, scale: Scale, measured: &Measured) -> io::Result<()> {
     let Measured {
         work,

@@ -1,22 +1,22 @@
-//! What is done to a file: chunks of one length, from its front to its end, and again from its front.
+//! Rounds of reads and writes of a file: chunks of one length from its start to its end, then again from its start.
 ghost use Rattle.std.specs.Prelude.{◌≡◌, ◌+◌, ◌*◌, ◌/◌, ◌%◌, ◌<◌, ◌≤◌, length};
 
 use crate::long_file::LongFile;
 use pv_inodes::Space;
 
-/// What a round moved between a buffer and a file.
+/// The bytes that a round moved between a buffer and a file.
 #[derive(Clone, Copy, Debug, PartialEq, Eq)]
 pub struct Moved {
-    /// How many bytes.
+    /// The number of bytes.
     pub bytes: u64,
-    /// What the first bytes of the chunks sum to.
+    /// The sum of the first bytes of the chunks.
     pub sum: u64,
 }
 
 impl Moved {
     const NOTHING: Moved = Moved { bytes: 0, sum: 0 };
 
-    // With one chunk more.
+    // Adds a chunk.
     fn with(self, bytes: usize, first: u8) -> Moved {
         Moved {
             bytes: self.bytes.wrapping_add(bytes as u64),
@@ -25,8 +25,8 @@ impl Moved {
     }
 }
 
-/// Where the chunk of this number, counted from 0, begins in a file of this length. As many as fit the file
-/// stand in it one after the other, and the next is at its front again.
+/// Returns the offset of the chunk with this number, counted from 0, in a file of this length. Chunks are consecutive,
+/// and after the last one that fits in the file, the next is at its start.
 fn place(number: u32, size: u32, file_length: u32) -> u32
     requires some { 0 < size }
     requires fits { size ≤ file_length }
@@ -37,7 +37,7 @@ fn place(number: u32, size: u32, file_length: u32) -> u32
     number % chunks * size
 }
 
-/// Fills a buffer with numbers that count up, modulo 251.
+/// Fills a buffer with consecutive numbers modulo 251.
 pub fn fill(buffer: &mut [u8])
     ensures { length buffer.new ≡ length buffer.old }
 {
@@ -46,8 +46,11 @@ pub fn fill(buffer: &mut [u8])
     }
 }
 
-/// Writes the buffer over so many chunks of the file. The first byte of each is the number of the chunk,
-/// modulo 256.
+/// Writes the buffer to `count` chunks of the file. The first byte of each is the number of the chunk modulo 256.
+///
+/// # Errors
+///
+/// Returns the reason if a chunk does not fit.
 pub fn write_round(file: &mut LongFile, buffer: &mut [u8], count: u32) -> Result<Moved, Space>
     requires some { 0 < length buffer.old }
     requires fits { length buffer.old ≤ file.old.length }
@@ -66,7 +69,7 @@ pub fn write_round(file: &mut LongFile, buffer: &mut [u8], count: u32) -> Result
     Ok(moved)
 }
 
-/// Reads so many chunks of the file into the buffer.
+/// Reads `count` chunks of the file into the buffer.
 pub fn read_round(file: &LongFile, buffer: &mut [u8], count: u32) -> Moved
     requires some { 0 < length buffer.old }
     requires fits { length buffer.old ≤ file.now.length }
@@ -82,7 +85,7 @@ pub fn read_round(file: &LongFile, buffer: &mut [u8], count: u32) -> Moved
     moved
 }
 
-/// What bytes sum to, modulo 2 to the 64th.
+/// Returns the sum of the bytes modulo 2 to the 64th.
 pub fn sum_of(bytes: &[u8]) -> u64 {
     let mut sum = 0_u64;
     for &byte in bytes {

@@ -1,4 +1,4 @@
--- One bit of a list of words of 64 bits.
+-- One bit of a list of 64-bit words.
 use Rattle.std.proofs.Common.{◌≡◌, ℕ, ◌*◌, ◌/◌, ◌%◌, ◌-◌, ◌^◌, ◌<◌, ◌≢◌, Bool, false, not, ◌&&◌, ◌||◌, eqb, List, length, get_or, set, replicate, refl, ap, inl, inr, arith}
 use Rattle.std.specs.Int.{bit_at, w64}
 use Rattle.std.specs.Int.RustNames.{bit_or}
@@ -7,11 +7,9 @@ use Rattle.std.proofs.lemmas.Bool.{cases_eq, cases_lt, eq-eqb, ne_eqb}
 use Rattle.std.proofs.lemmas.List.{get_or-set_same, get_or-set_other, get_or-replicate, get_or_past, length-replicate}
 use Rattle.std.proofs.lemmas.Nat.Bits.{bit_at-zero, bit_at_set_same, bit_at_set_other, bit_at_clear_same, bit_at_clear_other}
 
--- bit k of the words is set
 abbrev pub is_set : List ℕ → ℕ → Bool
 is_set words k = eqb (bit_at (get_or words (k / 64) 0) (k % 64)) 1
 
--- no bit of words that are 0 is set
 pub is_set-zeros : (n k : ℕ) → is_set (replicate n 0) k ≡ false
 is_set-zeros n k = elim (cases_lt (k / 64) n) [
   | inl within ↦ rw (get_or-replicate {A = ℕ} n (k / 64) 0 0 within, bit_at-zero (k % 64)) refl

@@ -1,4 +1,4 @@
--- Bytes as blocks, and the flags of the free ones.
+-- Bytes as blocks, and the free flags.
 use Rattle.std.proofs.Common.{◌≡◌, ℕ, zero, suc, ◌+◌, ◌*◌, ◌-◌, ◌<◌, ◌≤◌, ◌≢◌, Bool, true, false, not, ◌&&◌, ◌||◌, cond, eqb, ltb, leb, List, map, length, get_or, set, take, drop, count_by, Some, refl, sym, ap, ◌∙◌, inl, inr, arith}
 use Rattle.std.specs.List.{range_with_len, slice_get}
 use borrow.Rule.Slice.PartMut.{put_mid}
@@ -15,7 +15,6 @@ use Rattle.std.proofs.lemmas.List.FromFn.{length-map-range_with_len, get_or-map-
 use Rattle.std.proofs.lemmas.List.Sums.{sum_by-cons, sum_by-set}
 use Rattle.std.proofs.lemmas.Slice.{take-put_mid_below, drop-put_mid, between-put_mid}
 
--- a block within the bytes has 512 of them
 pub length-block : (bytes : Bytes) (k : ℕ) → 512 * k + 512 ≤ length bytes → length (block bytes k) ≡ 512
 length-block bytes k within = omega (arith, length-take 512 (drop (512 * k) bytes), length-drop (512 * k) bytes)
 
@@ -29,7 +28,7 @@ module _ (bytes new : Bytes) (k : ℕ) (within : 512 * k + 512 ≤ length bytes)
   pub length-put_mid : length (put_mid (512 * k) 512 bytes new) ≡ length bytes
   length-put_mid = simp (length-append, length-take, length-drop) (omega arith)
 
-  -- a write of a block changes that block
+  -- a write to a block changes that block
   block-put_mid_same : block (put_mid (512 * k) 512 bytes new) k ≡ new
   block-put_mid_same =
       let size : 512 * k + 512 - 512 * k ≡ 512 = omega arith in
@@ -63,7 +62,7 @@ length-free_outside taken count = length-map-range_with_len (λ k. not (is_membe
 pub get_or-free_outside : (taken : BlockSet) (count k : ℕ) (d : Bool) → k < count → get_or (free_outside taken count) k d ≡ not (is_member taken k)
 get_or-free_outside taken count k d within = get_or-map-range_with_len (λ k. not (is_member taken k)) 0 count k k d within (omega arith)
 
--- a set that differs at one number has one other flag
+-- a set that differs at one number changes one flag
 pub free_outside-set : (old new : BlockSet) (count k : ℕ) (flag : Bool) → k < count → not (is_member new k) ≡ flag → ((j : ℕ) → j ≢ k → is_member new j ≡ is_member old j) → free_outside new count ≡ set (free_outside old count) k flag
 free_outside-set old new count k flag within here elsewhere =
     let length_new = length-free_outside new count in
@@ -77,7 +76,7 @@ free_outside-set old new count k flag within here elsewhere =
 abbrev weight : Bool → ℕ
 weight f = cond f 1 0
 
--- one flag less, or more, is set
+-- clearing or setting a flag changes the count by one
 pub count-cleared : (flags : List Bool) (k : ℕ) → k < length flags → get_or flags k false ≡ true → count_by (λ f. f) (set flags k false) + 1 ≡ count_by (λ f. f) flags
 count-cleared flags k within is_set =
     let change = sum_by-set weight flags k false false within in
@@ -90,7 +89,7 @@ count-raised flags k within is_clear =
     let none : weight (get_or flags k true) ≡ 0 = ap weight is_clear in
     omega (arith, change, none)
 
--- no flag is set where the test fails at each number
+-- no flag is set if the test fails for each number
 pub count-none : (test : ℕ → Bool) (a n : ℕ) → ((k : ℕ) → a ≤ k → k < a + n → test k ≡ false) → count_by (λ f. f) (map test (range_with_len a n)) ≡ 0
 count-none test a zero fails = refl
 count-none test a (suc n) fails =
@@ -99,7 +98,7 @@ count-none test a (suc n) fails =
     let both = sum_by-cons weight (test a) (map test (range_with_len (a + 1) n)) in
     omega (arith, first, rest, both)
 
--- what giving back a block that is in use does to the flags
+-- the effect of freeing a block on the flags
 pub record GivesBack (old new : BlockSet) (count k : ℕ) : Type 0 where
   pub within : k < count
   pub others : (j : ℕ) → j ≢ k → is_member new j ≡ is_member old j
@@ -120,7 +119,7 @@ gives_back old new count k was after =
       counted = ap (count_by (λ f. f)) flags ∙ count-raised (free_outside old count) k (rw length_old within) (get_or_from_slice_get (free_outside old count) k false true was);
     }
 
--- what taking a free block does to them
+-- the effect of allocating a block on the flags
 pub record Takes (old new : BlockSet) (count k : ℕ) : Type 0 where
   pub was_free : slice_get (free_outside old count) k ≡ Some true
   pub others : (j : ℕ) → j ≢ k → is_member new j ≡ is_member old j
@@ -143,14 +142,14 @@ takes old new count k within absent after =
       counted = ap (λ (fs : List Bool). count_by (λ f. f) fs + 1) flags ∙ count-cleared (free_outside old count) k (rw length_old within) (flag false);
     }
 
--- a block whose flag is set is not in the set, and may be put into it
+-- a block whose flag is set is not in the set, and can be allocated
 pub takes_free : (old new : BlockSet) (count k : ℕ) → slice_get (free_outside old count) k ≡ Some true → ((j : ℕ) → is_member new j ≡ (eqb j k || is_member old j)) → Takes old new count k
 takes_free old new count k was after =
     let within : k < count = omega (arith, length-free_outside old count, slice_get_within (free_outside old count) k true was) in
     let flag : not (is_member old k) ≡ true = sym (get_or-free_outside old count k false within) ∙ get_or_from_slice_get (free_outside old count) k true false was in
     takes old new count k within (not-true (is_member old k) flag) after
 
--- a block that is not in the set has its flag set, so that some block is free
+-- the flag of a block that is not in the set is set
 pub free_flag : (taken : BlockSet) (count k : ℕ) → k < count → is_member taken k ≡ false → slice_get (free_outside taken count) k ≡ Some true
 free_flag taken count k within absent =
     slice_get-get_or (free_outside taken count) k true (rw (length-free_outside taken count) within) ∙ ap Some (get_or-free_outside taken count k true within ∙ ap not absent)
@@ -159,15 +158,14 @@ pub some_free : (taken : BlockSet) (count k : ℕ) → k < count → is_member t
 some_free taken count k within absent =
     omega (arith, count-cleared (free_outside taken count) k (rw (length-free_outside taken count) within) (get_or-free_outside taken count k false within ∙ ap not absent))
 
--- no block is free where each is in the set
+-- no block is free if all are in the set
 pub count-all_taken : (taken : BlockSet) (count : ℕ) → AllMembers taken 0 count → count_by (λ f. f) (free_outside taken count) ≡ 0
 count-all_taken taken count all = count-none (λ k. not (is_member taken k)) 0 count (λ k from below. ap not (all k from (omega arith)))
 
--- one number more makes no difference to another
 ltb-other : (j k : ℕ) → j ≢ k → ltb j (k + 1) ≡ ltb j k
 ltb-other j k other = grind (arith, nat_tests)
 
--- a loop over the blocks so far has put those in use into a set, and counted the others
+-- a loop over the blocks has added those in use to the set, and counted the others
 pub record TakesUpTo (taken used : BlockSet) (first k free : ℕ) : Type 0 where
   pub taken_so_far : (j : ℕ) → is_member taken j ≡ (ltb j first || (ltb j k && is_member used j))
   pub counted : free ≡ count_by (λ f. f) (free_from first used k)
@@ -222,7 +220,7 @@ module _ (taken used : BlockSet) (first k free : ℕ) (so_far : TakesUpTo taken 
         | inr above ↦ rw (le-ltb j first above, le-leb first j above) refl
       ]
 
-  -- what is in the set, from the first on, is below the last
+  -- all blocks below the first are in the set
   pub first_taken : (j : ℕ) → j < first → is_member taken j ≡ true
   first_taken j below = so_far.taken_so_far j ∙ rw (lt-ltb j first below) refl
 

@@ -1,4 +1,4 @@
--- Blocks, and which of them are free.
+-- Blocks and their free flags.
 use Rattle.std.specs.Prelude.{◌≡◌, ℕ, ◌*◌, ◌<◌, ◌≤◌, Bool, true, false, not, ◌&&◌, nat_le, List, map, length, count_by, slice_get, slice_set, Some}
 use Rattle.std.specs.List.{range_with_len}
 use Rattle.pv_model.specs.declared.limits.TheConstants.{BLOCK}
@@ -7,29 +7,27 @@ use Rattle.pv_model.specs.Image.{block}
 use Rattle.pv_blocks.specs.declared.block_set.BlockSet.{BlockSet}
 use Rattle.pv_blocks.specs.BlockSet.{is_member}
 
--- the blocks, whether each is free, and the first that may be
+-- the blocks, a free flag for each, and the first block that can be free
 pub record BlockStore : Type 0 where
   pub blocks : List Bytes
   pub free : List Bool
   pub first : ℕ
 
--- the first blocks of some bytes
+-- the first `count` blocks of some bytes
 abbrev pub blocks_of : ℕ → Bytes → List Bytes
 blocks_of count bytes = map (block bytes) (range_with_len 0 count)
 
--- whether each of the first blocks is free: it is not in the set of those that are taken
+-- the free flags of the first `count` blocks: a block is free if it is not in the set
 abbrev pub free_outside : BlockSet → ℕ → List Bool
 free_outside taken count = map (λ k. not (is_member taken k)) (range_with_len 0 count)
 
--- whether each of the first blocks is free where those below one are in use, and those of a set
+-- the free flags of the first `count` blocks: a block is free if it is neither below `first` nor in the set
 abbrev pub free_from : ℕ → BlockSet → ℕ → List Bool
 free_from first used count = map (λ k. nat_le first k && not (is_member used k)) (range_with_len 0 count)
 
--- how many blocks are free
 abbrev pub free_count : BlockStore → ℕ
 free_count s = count_by (λ free. free) s.free
 
--- block k is free
 abbrev pub IsFree : BlockStore → ℕ → Type 0
 IsFree s k = slice_get s.free k ≡ Some true
 
@@ -37,20 +35,17 @@ IsFree s k = slice_get s.free k ≡ Some true
 abbrev pub IsTaken : BlockStore → ℕ → Type 0
 IsTaken s k = slice_get s.free k ≡ Some false
 
--- the store with block k in use
 abbrev pub take : BlockStore → ℕ → BlockStore
 take s k = record s { free = slice_set s.free k false }
 
--- the store with block k free
 abbrev pub give_back : BlockStore → ℕ → BlockStore
 give_back s k = record s { free = slice_set s.free k true }
 
--- the store with other bytes in block k
 abbrev pub with_block : BlockStore → ℕ → Bytes → BlockStore
 with_block s k bytes = record s { blocks = slice_set s.blocks k bytes }
 
--- what the fields of a store of blocks keep
-pub record IsKept (bytes : Bytes) (taken : BlockSet) (first count free least : ℕ) : Type 0 where
+-- the invariant of a store of blocks
+pub record IsConsistent (bytes : Bytes) (taken : BlockSet) (first count free least : ℕ) : Type 0 where
   pub whole : length bytes ≡ BLOCK * count
   pub first_within : first ≤ count
   pub reserved : (k : ℕ) → k < first → is_member taken k ≡ true

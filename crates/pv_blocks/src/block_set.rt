@@ -2,21 +2,21 @@
 ghost use Rattle.std.specs.Prelude.{◌≡◌, ℕ, ◌+◌, ◌*◌, ◌<◌, ◌≤◌, true, false, not, ◌==◌, ◌&&◌, ◌||◌, IfNone, IfSome, IsTrue};
 ghost use Rattle.pv_blocks.specs.BlockSet.{is_member, AllMembers};
 
-/// A set of block numbers, from 0 to 65,535. It has one size, and takes no memory from an allocator.
+/// A set of block numbers from 0 to 65,535. Its size is fixed, and it allocates no memory.
 #[derive(Drop)]
 pub struct BlockSet {
     words: [u64; 1024],
 }
 
 impl BlockSet {
-    /// The set of no numbers.
+    /// Creates an empty set.
     pub fn new() -> BlockSet
         ensures empty { (k : ℕ) → is_member result k ≡ false }
     {
         BlockSet { words: [0; 1024] }
     }
 
-    /// Puts a number into the set, where it may stand already.
+    /// Adds a number to the set. If the set contains it already, nothing changes.
     pub fn insert(&mut self, k: u16)
         ensures after { (j : ℕ) → is_member self.new j ≡ (j == k || is_member self.old j) }
     {
@@ -24,7 +24,7 @@ impl BlockSet {
         self.words[at] |= 1 << (k % 64);
     }
 
-    /// Takes a number out of the set, where it may be absent.
+    /// Removes a number from the set. If the set does not contain it, nothing changes.
     pub fn remove(&mut self, k: u16)
         ensures after { (j : ℕ) → is_member self.new j ≡ (not (j == k) && is_member self.old j) }
     {
@@ -32,14 +32,14 @@ impl BlockSet {
         self.words[at] &= !(1 << (k % 64));
     }
 
-    /// Whether the number is in the set.
+    /// Returns whether the set contains the number.
     pub fn contains(&self, k: u16) -> bool
         ensures { result ≡ is_member self.now k }
     {
         (self.words[k as usize / 64] >> (k % 64)) & 1 == 1
     }
 
-    /// The least number from `from` on, below `end`, that is not in the set; None where there is none.
+    /// Returns the least number in `from..end` that is not in the set, or `None` if the set contains all of them.
     pub fn least_absent(&self, from: u16, end: u16) -> Option<u16>
         ensures none { IfNone result (AllMembers self.now from end) }
         ensures absent { IfSome result (λ k. is_member self.now k ≡ false) }
@@ -60,7 +60,7 @@ impl BlockSet {
         None
     }
 
-    // Whether all 64 numbers of a word are in the set.
+    // Returns whether the set contains all 64 numbers of a word.
     fn is_full(&self, word: u32) -> bool
         requires { word < 1024 }
         ensures { IsTrue result → AllMembers self.now (64 * word) (64 * word + 64) }

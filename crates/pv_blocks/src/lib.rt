@@ -1,8 +1,8 @@
-//! Blocks of 512 bytes over one `Vec<u8>`, and which of them are free.
+//! A block allocator: blocks of 512 bytes in one `Vec<u8>`, each free or in use.
 //!
-//! `Blocks` takes and gives back whole blocks by their numbers, and reads and writes them. A contract
-//! sees a `BlockStore`: the list of the blocks, which of them are free, and the first that may be.
-//! `block_set` has `BlockSet`, a set of block numbers of fixed size, and `blocks` has `Blocks`.
+//! `Blocks` allocates and frees blocks by number, and reads and writes them. Contracts see a `BlockStore`: the list of
+//! blocks, a flag for each free block, and the first block that can be free. `block_set` defines `BlockSet`, a set of
+//! block numbers of fixed size, and `blocks` defines `Blocks`.
 #![tactic(auto)]
 
 pub mod block_set;

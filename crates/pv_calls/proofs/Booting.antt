@@ -1,4 +1,4 @@
--- The first state of the kernel, and what comes next in a live process.
+-- The first state of the kernel, and the next instruction of a live process.
 use Rattle.std.proofs.Common.{◌≡◌, ◌∙◌, ◌<◌, ◌≤◌, arith, ap, sym, subst, refl, ℕ, zero, suc, true, false, ◌⊎◌, inl, inr, [], ◌∷◌, Option, None, Some, Result, Ok, Err}
 use Rattle.std.specs.Prelude.{is_some}
 use Rattle.pv_model.specs.declared.fault.ParseFault.{ParseFault}
@@ -22,22 +22,22 @@ use Rattle.pv_procs.specs.declared.processes.Fetched.TheVariants.{Gone, Register
 use Rattle.pv_procs.specs.ProcessTable.{ProcessTable, process_in}
 use Rattle.pv_procs.specs.Turns.{AwaitsCall, IsFetched, RegisterNext, context_of}
 use Rattle.pv_script.specs.Context.{is_inside}
-use Rattle.pv_laws_states.specs.States.{IsFirstTree, IsRunning, IsWhole, is_program, is_call}
+use Rattle.pv_laws_states.specs.States.{IsFirstTree, IsRunning, IsValid, is_program, is_call}
 use Rattle.pv_laws_states.proofs.BySteps.{IsGoodNext, good-next, first-whole}
 use Rattle.pv_laws_states.proofs.Running.{SameHolds, whole-inside}
 use Rattle.pv_script.specs.Passing.{Passes}
-use Rattle.pv_laws_runs.proofs.Ranges.{program_of-spells}
+use Rattle.pv_laws_runs.proofs.Ranges.{program_of-encodes}
 use Rattle.std.specs.Result.{result_ok}
 
--- a call that comes next in a process of a whole state may be made
-callable : (s : State) (pid : ℕ) (me : Process) (call : Call) → IsWhole s → process_at s pid ≡ Some me → next me ≡ calls_for call → is_call call ≡ true
+-- in a valid state, the next call of a process is well-formed
+callable : (s : State) (pid : ℕ) (me : Process) (call : Call) → IsValid s → process_at s pid ≡ Some me → next me ≡ calls_for call → is_call call ≡ true
 callable s pid me call whole at is = subst (IsGoodNext me) is (good-next me (whole.processes.running pid me at))
 
--- an instruction inside a process leaves it in its ranges, and using and holding what it did
+-- an instruction inside a process keeps its ranges, its open files and its references
 stays-running : (p q : Process) → IsRunning p → next p ≡ inside q → IsRunning q × SameHolds p q
 stays-running p q running is = subst (IsGoodNext p) is (good-next p running)
 
--- so do several
+-- the same for several instructions
 all-running : (n : ℕ) (p q : Process) → IsRunning p → Passes n p q → IsRunning q × SameHolds p q
 all-running n p q running made = (ran n p q running made, passes-same n p q made)
   where
@@ -45,7 +45,7 @@ all-running n p q running made = (ran n p q running made, passes-same n p q made
     ran zero p q running same = subst IsRunning (sym same) running
     ran (suc n) p q running made = (stays-running made.0 q (ran n p made.0 running made.1) made.2).0
 
--- the process that is live, as the tables of processes have it
+-- the live process, as the process tables have it
 pub live-in : (s : State) (ps qs : ProcessTable) (pid : ℕ) → ps ≡ processes_of s → qs ≡ processes_of s → true ≡ is_some (process_in ps pid)
     → (me : Process) × (process_at s pid ≡ Some me) × (process_in qs pid ≡ Some me)
 live-in s ps qs pid one two live =
@@ -55,22 +55,22 @@ live-in s ps qs pid one two live =
 -- ---- a process that changes by its instructions
 
 module _ (s t : State) (pid : ℕ) where
-  -- the state stays whole, and the tree as it was
-  moved-whole : (by : Process → Process → Type 0) → ((p q : Process) → IsRunning p → by p q → IsRunning q × SameHolds p q) → IsWhole s → MovesInside by s pid t → IsWhole t
+  -- the state stays valid, and the tree unchanged
+  moved-whole : (by : Process → Process → Type 0) → ((p q : Process) → IsRunning p → by p q → IsRunning q × SameHolds p q) → IsValid s → MovesInside by s pid t → IsValid t
   moved-whole by stays whole made =
       let good = stays made.me made.after (whole.processes.running pid made.me made.lives) made.step in
-      subst IsWhole (sym made.only) (whole-inside s pid made.me made.after whole made.lives good.1 good.0)
+      subst IsValid (sym made.only) (whole-inside s pid made.me made.after whole made.lives good.1 good.0)
 
   moved-tree : (by : Process → Process → Type 0) → MovesInside by s pid t → t.tree ≡ s.tree
   moved-tree by made = ap (λ (x : State). x.tree) made.only
 
-  -- what came next in a process and was made
-  pub registered-whole : (step_or_fetch : Fetched) → IsWhole s → IsRegistered step_or_fetch pid s t → IsWhole t
-  registered-whole Gone whole same = subst IsWhole (sym same.1) whole
+  -- the next instruction was carried out
+  pub registered-whole : (step_or_fetch : Fetched) → IsValid s → IsRegistered step_or_fetch pid s t → IsValid t
+  registered-whole Gone whole same = subst IsValid (sym same.1) whole
   registered-whole Register whole made = moved-whole (λ me after. next me ≡ inside after) stays-running whole made
-  registered-whole (AtCall call) whole same = subst IsWhole (sym same.1) whole
+  registered-whole (AtCall call) whole same = subst IsValid (sym same.1) whole
 
-  pub registered-callable : (step_or_fetch : Fetched) → IsWhole s → IsRegistered step_or_fetch pid s t → IsCallable step_or_fetch
+  pub registered-callable : (step_or_fetch : Fetched) → IsValid s → IsRegistered step_or_fetch pid s t → IsCallable step_or_fetch
   registered-callable Gone whole same = tt
   registered-callable Register whole made = tt
   registered-callable (AtCall call) whole same = callable s pid same.0.0 (call_of call) whole same.0.1 same.0.2
@@ -80,22 +80,22 @@ module _ (s t : State) (pid : ℕ) where
   registered-tree Register made = moved-tree (λ me after. next me ≡ inside after) made
   registered-tree (AtCall call) same = ap (λ (x : State). x.tree) same.1
 
-  -- several, one after another
-  pub passed-whole : (n : ℕ) → IsWhole s → PassesInside n pid s t → IsWhole t
-  passed-whole zero whole same = subst IsWhole (sym same) whole
+  -- several instructions were carried out in sequence
+  pub passed-whole : (n : ℕ) → IsValid s → PassesInside n pid s t → IsValid t
+  passed-whole zero whole same = subst IsValid (sym same) whole
   passed-whole (suc n) whole made = moved-whole (Passes (suc n)) (all-running (suc n)) whole made
 
   pub passed-tree : (n : ℕ) → PassesInside n pid s t → t.tree ≡ s.tree
   passed-tree zero same = ap (λ (x : State). x.tree) same
   passed-tree (suc n) made = moved-tree (Passes (suc n)) made
 
--- a call that was fetched may be made
-pub fetched-callable : (s : State) (pid : ℕ) (came : Fetched) → IsWhole s → IsFetched came (process_at s pid) → IsCallable came
+-- a fetched call is well-formed
+pub fetched-callable : (s : State) (pid : ℕ) (came : Fetched) → IsValid s → IsFetched came (process_at s pid) → IsCallable came
 fetched-callable s pid Gone whole is = tt
 fetched-callable s pid Register whole is = tt
 fetched-callable s pid (AtCall call) whole is = callable s pid is.0 (call_of call) whole is.1 is.2
 
--- at most one instruction, and not none where one comes next, is one
+-- at most one instruction was carried out, and at least one because one was next: so exactly one
 pub registered-one : (s t : State) (pid n : ℕ) → RegisterNext (process_at s pid) → n ≤ 1 → PassesInside n pid s t → (n < 1 → AwaitsCall (process_at t pid)) → StepsInside s pid t
 registered-one s t pid zero at few same whole =
     let call : is_inside at.0.program (context_of at.0) ≡ false = whole (omega arith) at.0 (ap (λ x. process_at x pid) same ∙ at.1) in
@@ -116,23 +116,23 @@ pub boot-made : (t u : Tree) (program : Program) → u ≡ t → program_in (ini
 unfolding booted
 boot-made t u program same is = ap (λ r. and_then (λ f. f) r (λ program. Ok (first_state t program))) (ap (λ x. program_in (init_of x)) (sym same) ∙ is)
 
-spelled : (r : Result Program ParseFault) (program : Program) → and_then of_init r (λ p. Ok p) ≡ Ok program → result_ok r ≡ Some program
-spelled (Ok p) program is = ap (λ x. result_ok (forget x)) is
+encoded : (r : Result Program ParseFault) (program : Program) → and_then of_init r (λ p. Ok p) ≡ Ok program → result_ok r ≡ Some program
+encoded (Ok p) program is = ap (λ x. result_ok (forget x)) is
   where
     forget : Result Program BootFault → Result Program ParseFault
     forget (Ok q) = Ok q
     forget (Err f) = Err ParseMemory
-spelled (Err (Line n what)) program is = absurd cc
-spelled (Err ParseMemory) program is = absurd cc
+encoded (Err (Line n what)) program is = absurd cc
+encoded (Err ParseMemory) program is = absurd cc
 
--- the first program is one in its ranges
+-- the first program is within its ranges
 first-good : (node : Option Node) (program : Program) → program_in node ≡ Ok program → is_program program ≡ true
 first-good None [] is = refl
 first-good None (i ∷ is) e = absurd cc
-first-good (Some (file_node true bytes)) program is = program_of-spells.spells bytes program (spelled (read_program bytes) program is)
+first-good (Some (file_node true bytes)) program is = program_of-encodes.encodes bytes program (encoded (read_program bytes) program is)
 first-good (Some (file_node false bytes)) program is = absurd cc
 first-good (Some (directory_node es)) program is = absurd cc
 first-good (Some (link_node text)) program is = absurd cc
 
-pub boot-whole : (t u : Tree) (program : Program) → IsFirstTree t → u ≡ t → program_in (init_of u) ≡ Ok program → IsWhole (first_state t program)
+pub boot-whole : (t u : Tree) (program : Program) → IsFirstTree t → u ≡ t → program_in (init_of u) ≡ Ok program → IsValid (first_state t program)
 boot-whole t u program first same is = first-whole t program first (first-good (init_of u) program is)

@@ -1,4 +1,4 @@
--- From what a call comes to, by its promises, to what it answers.
+-- From the result of a call, by its promises, to its answer.
 use Rattle.std.proofs.Common.{◌≡◌, ◌∙◌, ap, sym, subst, refl, ℕ, negsuc, Bool, true, false, Option, None, Some, Result, Ok, Err}
 use Rattle.std.specs.Prelude.{IsSome, IfErr, IfOk, option_map}
 use Rattle.pv_model.specs.declared.call.Call.{Call}
@@ -15,28 +15,28 @@ use Rattle.std.specs.Ordering.{nat_cmp}
 use Rattle.pv_calls.proofs.Waiting.{waits-next}
 use Rattle.pv_model.specs.Calls.Processes.{end_process, wait, with_result}
 use Rattle.pv_model.specs.Grammar.Programs.{program_of}
-use Rattle.pv_model.specs.Held.{trim}
+use Rattle.pv_model.specs.Held.{collect}
 use Rattle.pv_model.specs.Needs.{needs}
 use Rattle.pv_model.specs.Promises.{Promises, is_lenient, missing_promise}
 use Rattle.pv_model.specs.State.{Process, State, process_at, with_process}
 use Rattle.pv_promises.specs.Decision.{unless_missing, decision}
 use Rattle.pv_promises.specs.declared.pledge.Decision.TheVariants.{Allowed, Kill, Refuse}
 use Rattle.pv_calls_plain.specs.declared.answer.Answer.{Answer}
-use Rattle.pv_calls.specs.Calls.{IsCarriedOut, IsBlocked, goes_on}
+use Rattle.pv_calls.specs.Calls.{IsCarriedOut, IsBlocked, continues}
 use Rattle.pv_calls.specs.Loading.{Loads, LoadsProgram}
 use Rattle.pv_calls_plain.specs.declared.answer.Refused.{Refused}
 use Rattle.pv_calls_plain.specs.Performed.{answered, IsAnswered}
-use Rattle.pv_laws_states.specs.States.{IsWhole}
+use Rattle.pv_laws_states.specs.States.{IsValid}
 use Rattle.pv_laws_states.proofs.Processes.{process_at-same, update-is, tree-update}
 use Rattle.pv_laws_states.proofs.Replies.{whole-at_call}
-use Rattle.pv_laws_states.proofs.Trim.{tree-trim, held_after}
+use Rattle.pv_laws_states.proofs.Collect.{tree-collect, held_after}
 use Rattle.pv_model.specs.Bytes.{Bytes}
 use Rattle.pv_model.specs.Errno.{errno_number}
 use Rattle.pv_model.specs.Tree.{find_entry, IsWellFormed}
 use Rattle.pv_procs.specs.declared.record.ProcessRecord.{ProcessRecord}
 use Rattle.pv_procs.specs.Parts.{record_of}
 use Rattle.pv_promises.specs.declared.pledge.Decision.{Decision}
-use Rattle.pv_laws_trees.specs.Kept.{wanted}
+use Rattle.pv_laws_trees.specs.Preserved.{wanted}
 use Rattle.pv_laws_trees.proofs.Keeping.{find-only, wanted-covers}
 use Rattle.pv_laws_trees.proofs.Trees.{sound}
 use Rattle.pv_calls_state.proofs.Alone.{some-at}
@@ -59,13 +59,13 @@ refuses true (Some q) p h = let same : q ≡ p = cc in (ap Some same, refl)
 refuses false (Some q) p h = cc
 
 module _ (s : State) (pid : ℕ) (call : Call) where
-  -- nobody is live there
+  -- the process is not live
   pub answer-gone : process_at s pid ≡ None → answer program_of s pid call ≡ record { after = s; outcome = Gone; walks = 0 }
   unfolding answer
   answer-gone none = rw none refl
 
   module _ (me : Process) (at : process_at s pid ≡ Some me) where
-    -- where nothing is missing, the call is made from the next line
+    -- if no promise is missing, the call is made from the next line
     pub answer-allowed : (new : State) (a : Answer) → decision me.promises (needs call) ≡ Allowed → IsCarriedOut s pid call new a → answer program_of s pid call ≡ answered new a
     unfolding answer
     answer-allowed new a allowed carried =
@@ -79,44 +79,44 @@ module _ (s : State) (pid : ℕ) (call : Call) where
         rw (at, parts.0, parts.1) refl
 
     pub answer-killed : (p : Promise) → decision me.promises (needs call) ≡ Kill p
-        → answer program_of s pid call ≡ record { after = trim (end_process s pid (at_next_line me) 6); outcome = Killed p; walks = 0 }
+        → answer program_of s pid call ≡ record { after = collect (end_process s pid (at_next_line me) 6); outcome = Killed p; walks = 0 }
     unfolding answer
     answer-killed p kill =
         let parts = kills (is_lenient me.promises) (missing_promise me.promises (needs call)) p kill in
         rw (at, parts.0, parts.1) refl
 
--- what is left of a process does not depend on its line
+-- the state after the end of a process does not depend on its line
 pub end-next_line : (s : State) (pid : ℕ) (me : Process) (status : ℕ) → end_process s pid (at_next_line me) status ≡ end_process s pid me status
 unfolding end_process
 end-next_line s pid me status = refl
 
 -- ---- after the next line
 
--- a process that goes on is live, and its state is whole
+-- a process that has advanced is live, and its state is valid
 pub next-live : (s s1 : State) (pid : ℕ) → s1 ≡ update s pid at_next_line → IsSome (process_at s pid) → IsSome (process_at s1 pid)
 next-live s s1 pid is live =
     let me = some-at (process_at s pid) live in
     subst (λ x. IsSome (process_at x pid)) (sym (is ∙ update-is s pid at_next_line me.0 me.1))
     (subst IsSome (sym (process_at-same s pid (at_next_line me.0))) refl)
 
-pub next-whole : (s s1 : State) (pid : ℕ) → s1 ≡ update s pid at_next_line → IsSome (process_at s pid) → IsWhole s → IsWhole s1
+pub next-whole : (s s1 : State) (pid : ℕ) → s1 ≡ update s pid at_next_line → IsSome (process_at s pid) → IsValid s → IsValid s1
 next-whole s s1 pid is live whole =
     let me = some-at (process_at s pid) live in
-    subst IsWhole (sym (is ∙ update-is s pid at_next_line me.0 me.1)) (whole-at_call s pid me.0 whole me.1)
+    subst IsValid (sym (is ∙ update-is s pid at_next_line me.0 me.1)) (whole-at_call s pid me.0 whole me.1)
 
--- the effect for a process that went on is what the call comes to
+-- the effect for a process that has advanced is the result of the call
 pub carried-on : (s s1 : State) (pid : ℕ) (call : Call) (new : State) (a : Answer) → s1 ≡ update s pid at_next_line
     → IsAnswered (λ x m. effect program_of x pid m call) s1 pid new a → IsCarriedOut s pid call new a
 carried-on s s1 pid call new a is performed = λ me at.
     subst (λ x. IsAnswered (λ y m. effect program_of y pid m call) x pid new a) (is ∙ update-is s pid at_next_line me at) performed s (at_next_line me)
     (process_at-same s pid (at_next_line me))
 
-pub told-tree : (before s : State) (pid : ℕ) (me : Process) (r : Refused) (new : State) (a : Answer)
+pub reported-tree : (before s : State) (pid : ℕ) (me : Process) (r : Refused) (new : State) (a : Answer)
     → answer_by_attempt before s pid me (refused r.walks r.errno r.cause) ≡ answered new a → new.tree ≡ s.tree
-told-tree before s pid me r new a is =
+reported-tree before s pid me r new a is =
     ap (λ (x : Answered). x.after.tree) (sym is) ∙ tree-update s pid (λ p. with_result p (negsuc 0) (errno_number r.errno))
 
--- ---- what is decided
+-- ---- the decision
 
 promises-of : (o : Option Process) (me : Process) (r : ProcessRecord) → o ≡ Some me → option_map record_of o ≡ Some r → r.pledge.promises ≡ me.promises
 promises-of o me r is has = let same : Some (record_of me) ≡ Some r = ap (λ x. option_map record_of x) (sym is) ∙ has in ap (λ x. promises_in x) (sym same)
@@ -129,16 +129,16 @@ pub decided : (s : State) (pid : ℕ) (r : ProcessRecord) (call : Call) (d : Dec
     → (me : Process) → process_at s pid ≡ Some me → decision me.promises (needs call) ≡ d
 decided s pid r call d has is me at = ap (λ h. decision h (needs call)) (sym (promises-of (process_at s pid) me r at has)) ∙ sym is
 
--- ---- names stay where what is not held goes
+-- ---- collection keeps the names
 
-pub find-trim : (s : State) → IsWellFormed s.tree → (d : ℕ) (name : Bytes) → find_entry (trim s).tree d name ≡ find_entry s.tree d name
-find-trim s well d name =
-    ap (λ t. find_entry t d name) (tree-trim s) ∙ find-only s.tree (wanted s.tree (held_after s)) (sound s.tree well) (wanted-covers s.tree (held_after s)) d name
+pub find-collect : (s : State) → IsWellFormed s.tree → (d : ℕ) (name : Bytes) → find_entry (collect s).tree d name ≡ find_entry s.tree d name
+find-collect s well d name =
+    ap (λ t. find_entry t d name) (tree-collect s) ∙ find-only s.tree (wanted s.tree (held_after s)) (sound s.tree well) (wanted-covers s.tree (held_after s)) d name
 
 -- ---- waits
 
-pub next-goes_on : (s s1 : State) (pid : ℕ) (call : Call) → s1 ≡ update s pid at_next_line → IsSome (process_at s pid) → is_sorted nat_cmp s.processes ≡ true → goes_on s pid call → goes_on s1 pid call
-next-goes_on s s1 pid Wait is live sorted on = λ x at-x waits-x.
+pub next-continues : (s s1 : State) (pid : ℕ) (call : Call) → s1 ≡ update s pid at_next_line → IsSome (process_at s pid) → is_sorted nat_cmp s.processes ≡ true → continues s pid call → continues s1 pid call
+next-continues s s1 pid Wait is live sorted on = λ x at-x waits-x.
     let me = some-at (process_at s pid) live in
     let same : s1 ≡ with_process s pid (at_next_line me.0) = is ∙ update-is s pid at_next_line me.0 me.1 in
     let here : x ≡ at_next_line me.0 = some_is (sym at-x ∙ ap (λ y. process_at y pid) same ∙ process_at-same s pid (at_next_line me.0)) in
@@ -146,7 +146,7 @@ next-goes_on s s1 pid Wait is live sorted on = λ x at-x waits-x.
   where
     some_is : {x y : Process} → Some x ≡ Some y → x ≡ y
     some_is {x} {y} e = cc e
-next-goes_on s s1 pid call is live sorted on = tt
+next-continues s s1 pid call is live sorted on = tt
 
 pub blocked-carried : (s : State) (pid : ℕ) (call : Call) → is_sorted nat_cmp s.processes ≡ true → IsBlocked s pid call → IsCarriedOut s pid call s (record { outcome = Blocked; walks = 0 })
 unfolding effect
@@ -154,9 +154,9 @@ blocked-carried s pid Wait sorted blocked = λ me at.
     ap (answer_by_attempt s (with_process s pid (at_next_line me)) pid (at_next_line me)) ((waits-next s pid me sorted at).1 (blocked me at))
 blocked-carried s pid call sorted blocked = absurd blocked
 
--- ---- what carry_out is shown by
+-- ---- the lemmas for carry_out
 
--- whose record is told, and that nobody is live where none is
+-- a process with a record is live, and a process without one is not
 pub live-of : (s : State) (pid : ℕ) (r : ProcessRecord) → option_map record_of (process_at s pid) ≡ Some r → (me : Process) × (process_at s pid ≡ Some me)
 live-of s pid r has = by (process_at s pid) refl has
   where
@@ -183,13 +183,13 @@ loads-if s pid call me at (Err e) allowed loads =
     record { me = me; lives = at; promised = nothing_missing (is_lenient me.promises) (missing_promise me.promises (needs call)) allowed; loads = loads me at }
 
 pub killed-so : (s : State) (pid : ℕ) (call : Call) (me : Process) → process_at s pid ≡ Some me → (p : Promise) (new : State) → decision me.promises (needs call) ≡ Kill p
-    → new ≡ trim (end_process s pid me 6) → answer program_of s pid call ≡ answered new (record { outcome = Killed p; walks = 0 })
+    → new ≡ collect (end_process s pid me 6) → answer program_of s pid call ≡ answered new (record { outcome = Killed p; walks = 0 })
 killed-so s pid call me at p new kill is =
     answer-killed s pid call me at p kill
-    ∙ ap (λ after. let a : Answered = record { after = after; outcome = Killed p; walks = 0 } in a) (ap trim (end-next_line s pid me 6) ∙ sym is)
+    ∙ ap (λ after. let a : Answered = record { after = after; outcome = Killed p; walks = 0 } in a) (ap collect (end-next_line s pid me 6) ∙ sym is)
 
-pub find-end : (s : State) (pid : ℕ) (me : Process) (status : ℕ) (new : State) → IsWhole s → new ≡ trim (end_process s pid me status)
+pub find-end : (s : State) (pid : ℕ) (me : Process) (status : ℕ) (new : State) → IsValid s → new ≡ collect (end_process s pid me status)
     → (d : ℕ) (name : Bytes) → find_entry new.tree d name ≡ find_entry s.tree d name
 find-end s pid me status new whole is d name =
-    ap (λ x. find_entry x.tree d name) is ∙ find-trim (end_process s pid me status) (subst IsWellFormed (sym (tree-end s pid me status)) whole.tree.well_formed) d name
+    ap (λ x. find_entry x.tree d name) is ∙ find-collect (end_process s pid me status) (subst IsWellFormed (sym (tree-end s pid me status)) whole.tree.well_formed) d name
     ∙ ap (λ t. find_entry t d name) (tree-end s pid me status)

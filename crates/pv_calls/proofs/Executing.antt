@@ -1,4 +1,4 @@
--- An execve that is made before its process goes to its next line.
+-- An execve that is made before its process moves to the next line.
 use Rattle.std.proofs.Common.{◌≡◌, ap, refl, ℕ, Option, None, Some}
 use Rattle.pv_model.specs.declared.errno.Errno.TheVariants.{ENOENT, EACCES, ENOEXEC}
 use Rattle.pv_model.specs.declared.place.Place.{Place}
@@ -34,7 +34,7 @@ module _ (put other : Program → State) (same : (p : Program) → put p ≡ oth
   by-walk (done walks place) judged = ap (λ a. after_walks walks (judged place >> a)) (by-node (node_of place))
   by-walk (refused walks errno cause) judged = refl
 
--- it comes to the same from the next line
+-- the result from the next line is the same
 pub execve-next : (s : State) (pid : ℕ) (me : Process) (path : Bytes)
     → execve (with_process s pid (at_next_line me)) pid (at_next_line me) program_of path ≡ execve s pid me program_of path
 execve-next s pid me path =

@@ -1,5 +1,6 @@
--- Lemmas of the kernel: Carrying (from what a call comes to, by its promises, to its answer), Performing (what calls leave),
--- Waiting (whether a wait would wait), Living (a process lives on after a call on paths), Executing (an execve), Booting.
+-- Lemmas about the kernel: Carrying (from the result of a call, by its promises, to its answer), Performing (the state
+-- after a call), Waiting (whether a wait would block), Living (a process stays live after a call on paths), Executing
+-- (execve), Loading (the outcomes of an execve that loads a program), Booting.
 pub mod Booting
 pub mod Carrying
 pub mod Executing

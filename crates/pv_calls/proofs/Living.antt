@@ -1,4 +1,4 @@
--- A process lives on after a call that answers a number.
+-- A process stays live after a call that answers a number.
 use Rattle.std.proofs.Common.{◌≡◌, ℕ, List, ◌∷◌, Bool, true, false, cond, Option, None, Some, refl, subst, sym}
 use Rattle.std.specs.Prelude.{IsSome, if◌then◌else◌, []}
 use Rattle.pv_model.specs.declared.call.Call.{Call}
@@ -24,7 +24,7 @@ use Rattle.pv_model.specs.Unveil.{target_of}
 use Rattle.pv_model.specs.Walks.{Walk, execve_walk, open_walk, chdir_walk, stat_walk, lstat_walk, readlink_walk, mkdir_walk, symlink_walk, linked_walk, new_link_walk, unlink_walk, rmdir_walk, rename_walk, unveil_walk}
 use Rattle.pv_laws_states.proofs.Attempts.{Leads, leads-bind, leads-then, leads-refuse_if, leads-demand, leads-walk, leads-place, leads-room, leads-any}
 use Rattle.pv_laws_states.proofs.Processes.{process_at-same}
-use Rattle.pv_laws_states.specs.States.{IsWhole}
+use Rattle.pv_laws_states.specs.States.{IsValid}
 use Rattle.pv_calls.proofs.Performing.{LivesOn, Stays, lives-on, leads-weaker, stays-fork, stays-pledge, stays-close, stays-dup, stays-dup2, stays-read, stays-write, stays-lseek, stays-fstat, stays-ftruncate, stays-getdents, stays-fchdir}
 
 abbrev Lives : ℕ → Effect → Type 0
@@ -144,38 +144,38 @@ module _ (s : State) (pid : ℕ) (me : Process) (at : process_at s pid ≡ Some 
       leads-place (Lives pid) s me me.directory (execve_walk path).follow path (execve_walk path).needed _ (λ place found.
       leads-demand (Lives pid) ENOENT (node_of place) _ (λ n is.
       leads-demand (Lives pid) EACCES (executable_bytes (node_at s.tree n)) _ (λ bytes has.
-      leads-demand (Lives pid) ENOEXEC (program_of bytes) _ (λ program spelled. with-it s (with_program s pid me program)))))
+      leads-demand (Lives pid) ENOEXEC (program_of bytes) _ (λ program encoded. with-it s (with_program s pid me program)))))
 
-  tells-stat : (w : Walk) → Leads (LivesOn pid) (stat_at s pid me w)
-  tells-stat w =
+  reports-stat : (w : Walk) → Leads (LivesOn pid) (stat_at s pid me w)
+  reports-stat w =
       leads-place (LivesOn pid) s me (start_directory s me w.start w.path) w.follow w.path w.needed _ (λ place found.
       leads-demand (LivesOn pid) ENOENT (node_of place) _ (λ n is. tt))
 
-  tells-readlink : (path : Bytes) → Leads (LivesOn pid) (readlink s pid me path)
-  tells-readlink path =
+  reports-readlink : (path : Bytes) → Leads (LivesOn pid) (readlink s pid me path)
+  reports-readlink path =
       leads-place (LivesOn pid) s me me.directory (readlink_walk path).follow path (readlink_walk path).needed _ (λ place found.
       leads-demand (LivesOn pid) ENOENT (node_of place) _ (λ n is.
       leads-demand (LivesOn pid) EINVAL (link_text (node_at s.tree n)) _ (λ text has. tt)))
 
-  tells-reap : (ss : List (ℕ × ℕ)) → Leads (LivesOn pid) (reap s pid me ss)
-  tells-reap [] = tt
-  tells-reap ((number, status) ∷ ss) = tt
+  reports-reap : (ss : List (ℕ × ℕ)) → Leads (LivesOn pid) (reap s pid me ss)
+  reports-reap [] = tt
+  reports-reap ((number, status) ∷ ss) = tt
 
   on : (a : Attempt Effect) → Leads (Lives pid) a → Leads (LivesOn pid) a
   on a = leads-weaker (Lives pid) (LivesOn pid) a (lives-on pid)
 
-  module _ (whole : IsWhole s) where
+  module _ (whole : IsValid s) where
     stays : (a : Attempt Effect) → Leads (Stays s pid) a → Leads (LivesOn pid) a
     stays a = leads-weaker (Stays s pid) (LivesOn pid) a (λ e both. lives-on pid e both.1)
 
-    -- the process of a call that answers a number lives on
+    -- the process of a call that answers a number stays live
     pub lives : (call : Call) → Leads (LivesOn pid) (effect program_of s pid me call)
     unfolding effect
     lives (Exit code) = tt
     lives GetPid = live
     lives GetPpid = live
     lives Fork = stays (fork s pid me) (stays-fork s pid me whole at)
-    lives Wait = leads-then (LivesOn pid) (refuse_if ECHILD (is_empty (children s pid me))) (reap s pid me (statuses (children s pid me))) (tells-reap (statuses (children s pid me)))
+    lives Wait = leads-then (LivesOn pid) (refuse_if ECHILD (is_empty (children s pid me))) (reap s pid me (statuses (children s pid me))) (reports-reap (statuses (children s pid me)))
     lives (Pledge promises execpromises) = stays (pledge s pid me promises execpromises) (stays-pledge s pid me whole at promises execpromises)
     lives (Unveil path permissions) = on (unveil s pid me path permissions) (lives-unveil path permissions)
     lives (Execve path) = on (execve s pid me program_of path) (lives-execve path)
@@ -192,9 +192,9 @@ module _ (s : State) (pid : ℕ) (me : Process) (at : process_at s pid ≡ Some 
     lives (Getdents d) = stays (getdents s pid me d) (stays-getdents s pid me whole at d)
     lives (Fchdir d) = stays (fchdir s pid me d) (stays-fchdir s pid me whole at d)
     lives (Chdir path) = on (chdir s pid me path) (lives-chdir path)
-    lives (Stat path) = tells-stat (stat_walk path)
-    lives (Lstat path) = tells-stat (lstat_walk path)
-    lives (Readlink path) = tells-readlink path
+    lives (Stat path) = reports-stat (stat_walk path)
+    lives (Lstat path) = reports-stat (lstat_walk path)
+    lives (Readlink path) = reports-readlink path
     lives (Mkdir path) = on (mkdir s pid me path) (lives-make (mkdir_walk path) _)
     lives (Symlink text path) = on (symlink s pid me text path) (lives-symlink text path)
     lives (Link path new) = on (link s pid me path new) (lives-link path new)

@@ -1,4 +1,4 @@
--- What an execve comes to that has a program to load.
+-- The outcomes of an execve that has a program to load.
 use Rattle.std.proofs.Common.{◌≡◌, ℕ, inl, inr, Option, None, Some, refl, sym, subst}
 use Rattle.pv_calls.specs.Loading.{IsOfLoading, LoadsProgram}
 use Rattle.pv_calls.proofs.Executing.{execve-next}
@@ -18,7 +18,7 @@ use Rattle.pv_model.specs.Tree.{Tree, node_at}
 use Rattle.pv_model.specs.Walks.{execve_walk}
 use Rattle.pv_calls_path.specs.Execve.{LeadsToProgram}
 
--- an attempt that is not refused
+-- the attempt is not refused
 abbrev IsDone : {A : Type 0} → Attempt A → Type 0
 IsDone (done walks value) = Unit {0}
 IsDone (refused walks errno cause) = ⊥
@@ -27,7 +27,7 @@ done-after : {A : Type 0} (n : ℕ) (a : Attempt A) → IsDone (after_walks n a)
 done-after n (done walks value) is = tt
 done-after n (refused walks errno cause) is = is
 
--- an attempt that answers 0, or is refused with ENOEXEC
+-- the attempt answers 0, or is refused with ENOEXEC
 abbrev IsLoaded : Attempt Effect → Type 0
 IsLoaded (done walks effect) = effect.1 ≡ returns 0
 IsLoaded (refused walks errno cause) = (errno ≡ ENOEXEC) × (cause ≡ Plain)

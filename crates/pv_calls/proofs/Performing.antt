@@ -1,4 +1,4 @@
--- What system calls leave: their process lives on, and names stay where no path is walked.
+-- The state after a system call: its process stays live, and names stay if no path is walked.
 use Rattle.std.proofs.Common.{rules, ◌≤◌, w32, to_z, of_z, ◌≡◌, ◌∙◌, ℕ, zero, suc, ℤ, pos, negsuc, ◌+ℤ◌, true, false, not, ◌||◌, if◌then◌else◌, nat_le, nat_lt, ◌+◌, length, take, drop, List, [], ◌∷◌, Option, None, Some, Result, Ok, Err, refl, ap, sym, subst}
 use Rattle.std.specs.Prelude.{IsSome, OnErr}
 use Rattle.std.proofs.lemmas.Bool.{leb-true}
@@ -6,12 +6,12 @@ use Rattle.std.proofs.lemmas.Int.{to_z-of_z}
 use Rattle.pv_calls_plain.specs.declared.answer.Answer.{Answer}
 use Rattle.pv_calls_plain.specs.declared.answer.Done.{Done}
 use Rattle.pv_calls_plain.specs.declared.answer.Refused.{Refused}
-use Rattle.pv_calls_state.specs.Attempts.{trimmed}
+use Rattle.pv_calls_state.specs.Attempts.{collected}
 use Rattle.pv_calls_plain.specs.Performed.{IsAnswered, IsPerformed, attempt_of, answered}
 use Rattle.pv_calls_state.proofs.Alone.{some-at}
-use Rattle.pv_calls.proofs.Carrying.{find-trim}
-use Rattle.pv_calls_plain.proofs.Telling.{process_at-trim}
-use Rattle.pv_laws_states.specs.States.{IsWhole, is_word}
+use Rattle.pv_calls.proofs.Carrying.{find-collect}
+use Rattle.pv_calls_plain.proofs.Reporting.{process_at-collect}
+use Rattle.pv_laws_states.specs.States.{IsValid, is_word}
 use Rattle.pv_laws_states.proofs.Attempts.{Leads, leads-bind, leads-then, leads-demand, leads-room, leads-any}
 use Rattle.pv_laws_states.proofs.Ending.{tree-end}
 use Rattle.pv_laws_states.proofs.Processes.{process_at-same, tree-update}
@@ -30,7 +30,7 @@ use Rattle.pv_model.specs.Calls.Restraints.{asked_promises, pledge, unless_refus
 use Rattle.pv_model.specs.Effect.{Effect, returns, returns_bytes, ends, waits, answers, answers_bytes, bytes_of, descriptor_at, open_file, overwrite, resize, status, with_file, with_room}
 use Rattle.pv_model.specs.Errno.{errno_number}
 use Rattle.pv_model.specs.Grammar.Programs.{program_of}
-use Rattle.pv_model.specs.Held.{trim}
+use Rattle.pv_model.specs.Held.{collect}
 use Rattle.pv_model.specs.Numbered.{least_free, with_number}
 use Rattle.pv_model.specs.Promises.{Promises, is_lenient, narrow_promises}
 use Rattle.pv_model.specs.State.{Descriptor, OpenFile, Process, State, process_at, reads, with_process, with_tree, writes}
@@ -39,9 +39,9 @@ use Rattle.pv_laws_trees.proofs.Edits.{stays-content}
 use Rattle.pv_laws_trees.proofs.Found.{alike-content}
 use Rattle.pv_laws_trees.specs.Found.{Alike}
 
--- ---- what is told
+-- ---- reports
 
--- a process lives on after an effect that answers a number
+-- the process stays live after an effect that answers a number
 abbrev pub LivesOn : ℕ → Effect → Type 0
 LivesOn pid (after, returns n) = IsSome (process_at after pid)
 LivesOn pid (after, returns_bytes n bytes) = Unit {0}
@@ -57,51 +57,51 @@ lives-on pid (after, waits) live = tt
 other-reply : (n m : ℕ) (x y : Effect) → done n x ≡ done m y → x ≡ y
 other-reply n m x y is = cc is
 
--- a system call's process lives on, where the definitions' effect lets it live
-pub performed-live : (s new : State) (pid : ℕ) (performed : Result Done Refused) (a : Attempt Effect) → trimmed a ≡ attempt_of new performed → OnErr performed (new ≡ s) → IsSome (process_at s pid)
+-- if the effect of the definitions keeps the process live, so does the code
+pub performed-live : (s new : State) (pid : ℕ) (performed : Result Done Refused) (a : Attempt Effect) → collected a ≡ attempt_of new performed → OnErr performed (new ≡ s) → IsSome (process_at s pid)
     → Leads (LivesOn pid) a → IsSome (process_at new pid)
 performed-live s new pid (Ok d) (done walks (after, returns n)) is same live lives =
-    let left : trim after ≡ new = ap (λ (x : Effect). x.0) (other-reply walks d.walks (trim after, returns n) (new, returns d.value) is) in
-    subst (λ x. IsSome (process_at x pid)) left (subst IsSome (sym (process_at-trim after pid)) lives)
+    let left : collect after ≡ new = ap (λ (x : Effect). x.0) (other-reply walks d.walks (collect after, returns n) (new, returns d.value) is) in
+    subst (λ x. IsSome (process_at x pid)) left (subst IsSome (sym (process_at-collect after pid)) lives)
 performed-live s new pid (Ok d) (done walks (after, returns_bytes n bytes)) is same live lives =
-    let reply : returns_bytes n bytes ≡ returns d.value = ap (λ (x : Effect). x.1) (other-reply walks d.walks (trim after, returns_bytes n bytes) (new, returns d.value) is) in absurd cc
+    let reply : returns_bytes n bytes ≡ returns d.value = ap (λ (x : Effect). x.1) (other-reply walks d.walks (collect after, returns_bytes n bytes) (new, returns d.value) is) in absurd cc
 performed-live s new pid (Ok d) (done walks (after, ends status)) is same live lives =
-    let reply : ends status ≡ returns d.value = ap (λ (x : Effect). x.1) (other-reply walks d.walks (trim after, ends status) (new, returns d.value) is) in absurd cc
+    let reply : ends status ≡ returns d.value = ap (λ (x : Effect). x.1) (other-reply walks d.walks (collect after, ends status) (new, returns d.value) is) in absurd cc
 performed-live s new pid (Ok d) (done walks (after, waits)) is same live lives =
-    let reply : waits ≡ returns d.value = ap (λ (x : Effect). x.1) (other-reply walks d.walks (trim after, waits) (new, returns d.value) is) in absurd cc
+    let reply : waits ≡ returns d.value = ap (λ (x : Effect). x.1) (other-reply walks d.walks (collect after, waits) (new, returns d.value) is) in absurd cc
 performed-live s new pid (Ok d) (refused walks errno cause) is same live lives = cc
 performed-live s new pid (Err r) a is same live lives = subst (λ x. IsSome (process_at x pid)) (sym same) live
 
--- so it may be told
-pub told-live : (f : State → Process → Attempt Effect) (s new : State) (pid : ℕ) (performed : Result Done Refused) → IsPerformed f s pid new performed → IsSome (process_at s pid)
+-- so its result can be reported
+pub reported-live : (f : State → Process → Attempt Effect) (s new : State) (pid : ℕ) (performed : Result Done Refused) → IsPerformed f s pid new performed → IsSome (process_at s pid)
     → ((me : Process) → process_at s pid ≡ Some me → Leads (LivesOn pid) (f s me)) → IsSome (process_at new pid)
-told-live f s new pid performed is live lives =
+reported-live f s new pid performed is live lives =
     let mine = some-at (process_at s pid) live in
     performed-live s new pid performed (f s mine.0) (is.as_defined mine.0 mine.1) is.unchanged live (lives mine.0 mine.1)
 
 -- the end of a process
-pub exited : (s new : State) (pid : ℕ) (code : ℤ) (n : ℕ) → n ≡ exit_status code → ((me : Process) → process_at s pid ≡ Some me → new ≡ trim (end_process s pid me n))
+pub exited : (s new : State) (pid : ℕ) (code : ℤ) (n : ℕ) → n ≡ exit_status code → ((me : Process) → process_at s pid ≡ Some me → new ≡ collect (end_process s pid me n))
     → (before : State) (me : Process) → process_at s pid ≡ Some me → answer_by_attempt before s pid me (effect program_of s pid me (Exit code)) ≡ answered new (record { outcome = Exited; walks = 0 })
 unfolding effect
 exited s new pid code n is left before me at =
-    ap (λ x. let a : Answered = record { after = trim (end_process s pid me x); outcome = Exited; walks = 0 } in a) (sym is)
+    ap (λ x. let a : Answered = record { after = collect (end_process s pid me x); outcome = Exited; walks = 0 } in a) (sym is)
     ∙ ap (λ x. let a : Answered = record { after = x; outcome = Exited; walks = 0 } in a) (sym (left me at))
 
--- a word is read back as it was written
+-- a register word survives the conversion to bits and back
 pub word-back : (z : ℤ) → is_word z ≡ true → to_z w32 (of_z w32 z) ≡ z
 word-back (pos n) is = let low : n ≤ 2147483647 = leb-true n 2147483647 is in to_z-of_z w32 (pos n) (search rules)
 word-back (negsuc n) is = let low : n ≤ 2147483647 = leb-true n 2147483647 is in to_z-of_z w32 (negsuc n) (search rules)
 
 -- ---- names
 
--- an effect leaves each name where it led
+-- an effect keeps every name
 abbrev pub IsQuiet : State → Effect → Type 0
 IsQuiet s e = IsWellFormed e.0.tree × Alike (find_entry s.tree) (find_entry e.0.tree)
 
-left-alike : (s x after new : State) → x.tree ≡ after.tree → IsWellFormed after.tree → Alike (find_entry s.tree) (find_entry after.tree) → trim x ≡ new
+left-alike : (s x after new : State) → x.tree ≡ after.tree → IsWellFormed after.tree → Alike (find_entry s.tree) (find_entry after.tree) → collect x ≡ new
     → Alike (find_entry s.tree) (find_entry new.tree)
 left-alike s x after new tree well alike is d name =
-    ap (λ y. find_entry y.tree d name) (sym is) ∙ find-trim x (subst IsWellFormed (sym tree) well) d name ∙ ap (λ t. find_entry t d name) tree ∙ alike d name
+    ap (λ y. find_entry y.tree d name) (sym is) ∙ find-collect x (subst IsWellFormed (sym tree) well) d name ∙ ap (λ t. find_entry t d name) tree ∙ alike d name
 
 quiet-answer : (s new : State) (pid : ℕ) (me : Process) (answer : Answer) (a : Attempt Effect) → Leads (IsQuiet s) a
     → answer_by_attempt s s pid me a ≡ answered new answer → Alike (find_entry s.tree) (find_entry new.tree)
@@ -121,11 +121,11 @@ pub leads-weaker : {A : Type 0} (P Q : A → Type 0) (a : Attempt A) → ((x : A
 leads-weaker P Q (done walks value) weaker is = weaker value is
 leads-weaker P Q (refused walks errno cause) weaker is = tt
 
--- each name leads where it led, and the process lives on
+-- every name is kept, and the process stays live
 abbrev pub Stays : State → ℕ → Effect → Type 0
 Stays s pid e = IsQuiet s e × IsSome (process_at e.0 pid)
 
--- what a call is performed as, or answers, leaves names where its effect does
+-- a performed or answered call keeps names if its effect does
 module _ (f : State → Process → Attempt Effect) (s new : State) (pid : ℕ) (live : IsSome (process_at s pid)) where
   pub names-performed : (performed : Result Done Refused) → IsPerformed f s pid new performed → ((me : Process) → process_at s pid ≡ Some me → Leads (Stays s pid) (f s me))
       → Alike (find_entry s.tree) (find_entry new.tree)
@@ -133,10 +133,10 @@ module _ (f : State → Process → Attempt Effect) (s new : State) (pid : ℕ) 
       let mine = some-at (process_at s pid) live in
       performed-quiet s new (f s mine.0) performed (is.as_defined mine.0 mine.1) is.unchanged (stays mine.0 mine.1)
     where
-      performed-quiet : (s new : State) (a : Attempt Effect) (performed : Result Done Refused) → trimmed a ≡ attempt_of new performed → OnErr performed (new ≡ s) → Leads (Stays s pid) a
+      performed-quiet : (s new : State) (a : Attempt Effect) (performed : Result Done Refused) → collected a ≡ attempt_of new performed → OnErr performed (new ≡ s) → Leads (Stays s pid) a
           → Alike (find_entry s.tree) (find_entry new.tree)
       performed-quiet s new (done walks (after, reply)) (Ok d) is same stays =
-          left-alike s after after new refl stays.0.0 stays.0.1 (ap (λ (x : Effect). x.0) (other-reply walks d.walks (trim after, reply) (new, returns d.value) is))
+          left-alike s after after new refl stays.0.0 stays.0.1 (ap (λ (x : Effect). x.0) (other-reply walks d.walks (collect after, reply) (new, returns d.value) is))
       performed-quiet s new (refused walks errno cause) (Ok d) is same stays = cc
       performed-quiet s new a (Err r) is same stays = λ d name. ap (λ x. find_entry x.tree d name) same
 
@@ -147,7 +147,7 @@ module _ (f : State → Process → Attempt Effect) (s new : State) (pid : ℕ) 
 
 -- ---- calls without a path
 
-module _ (s : State) (pid : ℕ) (me : Process) (whole : IsWhole s) (at : process_at s pid ≡ Some me) where
+module _ (s : State) (pid : ℕ) (me : Process) (whole : IsValid s) (at : process_at s pid ≡ Some me) where
   pub quiet : IsWellFormed s.tree × Alike (find_entry s.tree) (find_entry s.tree)
   quiet = (whole.tree.well_formed, λ d name. refl)
 
@@ -178,9 +178,9 @@ module _ (s : State) (pid : ℕ) (me : Process) (whole : IsWhole s) (at : proces
 
   module _ (promises execpromises : Option Bytes) where
     abbrev pledge_3 : Option Promises → Option Promises → Attempt Effect
-    pledge_3 exec_asked kept =
+    pledge_3 exec_asked preserved =
         unless_refused (narrow_promises (is_lenient me.promises) me.execpromises exec_asked)
-        >>= (λ exec_kept. answers (with_process s pid (record me { promises = kept; execpromises = exec_kept })) 0)
+        >>= (λ exec_preserved. answers (with_process s pid (record me { promises = preserved; execpromises = exec_preserved })) 0)
 
     abbrev pledge_2 : Option Promises → Option Promises → Attempt Effect
     pledge_2 asked exec_asked = unless_refused (narrow_promises (is_lenient me.promises) me.promises asked) >>= pledge_3 exec_asked
@@ -193,10 +193,10 @@ module _ (s : State) (pid : ℕ) (me : Process) (whole : IsWhole s) (at : proces
         leads-bind (Stays s pid) (λ _. Unit {0}) (asked_promises promises) pledge_1 (leads-any (asked_promises promises)) (λ asked _.
         leads-bind (Stays s pid) (λ _. Unit {0}) (asked_promises execpromises) (pledge_2 asked) (leads-any (asked_promises execpromises)) (λ exec_asked _.
         leads-bind (Stays s pid) (λ _. Unit {0}) (unless_refused (narrow_promises (is_lenient me.promises) me.promises asked)) (pledge_3 exec_asked)
-        (leads-any (unless_refused (narrow_promises (is_lenient me.promises) me.promises asked))) (λ kept _.
+        (leads-any (unless_refused (narrow_promises (is_lenient me.promises) me.promises asked))) (λ preserved _.
         leads-bind (Stays s pid) (λ _. Unit {0}) (unless_refused (narrow_promises (is_lenient me.promises) me.execpromises exec_asked))
-        (λ exec_kept. answers (with_process s pid (record me { promises = kept; execpromises = exec_kept })) 0)
-        (leads-any (unless_refused (narrow_promises (is_lenient me.promises) me.execpromises exec_asked))) (λ exec_kept _. inside (record me { promises = kept; execpromises = exec_kept })))))
+        (λ exec_preserved. answers (with_process s pid (record me { promises = preserved; execpromises = exec_preserved })) 0)
+        (leads-any (unless_refused (narrow_promises (is_lenient me.promises) me.execpromises exec_asked))) (λ exec_preserved _. inside (record me { promises = preserved; execpromises = exec_preserved })))))
 
   pub stays-close : (d : ℤ) → Leads (Stays s pid) (close s pid me d)
   stays-close d =

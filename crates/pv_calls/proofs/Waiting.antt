@@ -1,4 +1,4 @@
--- Whether a wait would wait does not depend on the line of its process.
+-- Whether a wait would block does not depend on the line of its process.
 use Rattle.std.proofs.Common.{◌≡◌, ◌∙◌, ap, sym, subst, refl, ℕ, ◌↔◌, Bool, true, false, cond, List, [], ◌∷◌, Some}
 use Rattle.std.specs.Prelude.{filter, ◌==◌}
 use Rattle.std.specs.FinMap.Entries.{by_order, find, put, is_sorted, below_all}
@@ -16,7 +16,7 @@ use Rattle.std.proofs.lemmas.Bool.{and_parts}
 use Rattle.pv_laws_states.proofs.Members.{live-found}
 use Rattle.pv_laws_states.proofs.Running.{not_before}
 
--- among ended and live processes, those that a test takes: whether there are any, and the statuses of those that ended
+-- two lists of processes agree on whether a test selects any, and on the statuses of the ended ones that it selects
 abbrev SameChildren : (ℕ × ProcessRecord → Bool) → List (ℕ × ProcessRecord) → List (ℕ × ProcessRecord) → Type 0
 SameChildren test xs ys = (is_empty (filter test xs) ≡ is_empty (filter test ys)) × (statuses (filter test xs) ≡ statuses (filter test ys))
 
@@ -64,35 +64,35 @@ module _ (parent : ℕ) where
 value_of : {a b : ℕ} {x y : Effect} → done a x ≡ done b y → x ≡ y
 value_of {a} {b} {x} {y} is = cc is
 
--- a wait would wait just where there are children and none has ended
+-- a wait blocks exactly if there are children and none has ended
 abbrev waiting : Bool → List (ℕ × ℕ) → Bool
 waiting true ss = false
 waiting false [] = true
 waiting false (e ∷ ss) = false
 
 module _ (s : State) (pid : ℕ) (me : Process) where
-  told : (b : Bool) (ss : List (ℕ × ℕ)) → (refuse_if ECHILD b >> reap s pid me ss) ≡ give (s, waits) → waiting b ss ≡ true
-  told true ss is = cc
-  told false [] is = refl
-  told false ((k, status) ∷ ss) is = let reply = ap (λ (x : Effect). x.1) (value_of is) in cc reply
+  reported : (b : Bool) (ss : List (ℕ × ℕ)) → (refuse_if ECHILD b >> reap s pid me ss) ≡ give (s, waits) → waiting b ss ≡ true
+  reported true ss is = cc
+  reported false [] is = refl
+  reported false ((k, status) ∷ ss) is = let reply = ap (λ (x : Effect). x.1) (value_of is) in cc reply
 
-  tells : (b : Bool) (ss : List (ℕ × ℕ)) → waiting b ss ≡ true → (refuse_if ECHILD b >> reap s pid me ss) ≡ give (s, waits)
-  tells true ss is = cc
-  tells false [] is = refl
-  tells false (e ∷ ss) is = cc
+  reports : (b : Bool) (ss : List (ℕ × ℕ)) → waiting b ss ≡ true → (refuse_if ECHILD b >> reap s pid me ss) ≡ give (s, waits)
+  reports true ss is = cc
+  reports false [] is = refl
+  reports false (e ∷ ss) is = cc
 
-  waits-told : wait s pid me ≡ give (s, waits) → waiting (is_empty (children s pid me)) (statuses (children s pid me)) ≡ true
-  waits-told = told (is_empty (children s pid me)) (statuses (children s pid me))
+  waits-reported : wait s pid me ≡ give (s, waits) → waiting (is_empty (children s pid me)) (statuses (children s pid me)) ≡ true
+  waits-reported = reported (is_empty (children s pid me)) (statuses (children s pid me))
 
-  waits-tells : waiting (is_empty (children s pid me)) (statuses (children s pid me)) ≡ true → wait s pid me ≡ give (s, waits)
-  waits-tells = tells (is_empty (children s pid me)) (statuses (children s pid me))
+  waits-reports : waiting (is_empty (children s pid me)) (statuses (children s pid me)) ≡ true → wait s pid me ≡ give (s, waits)
+  waits-reports = reports (is_empty (children s pid me)) (statuses (children s pid me))
 
 module _ (s : State) (pid : ℕ) (me : Process) (sorted : is_sorted nat_cmp s.processes ≡ true) (at : process_at s pid ≡ Some me) where
-  -- the same would wait from the next line
+  -- the same wait would block from the next line
   pub waits-next : wait (with_process s pid (at_next_line me)) pid (at_next_line me) ≡ give (with_process s pid (at_next_line me), waits) ↔ (wait s pid me ≡ give (s, waits))
   waits-next =
       let t = with_process s pid (at_next_line me) in
       let same = put-children pid s.processes pid me (at_next_line me) sorted (live-found s pid me at) refl in
       let equal : waiting (is_empty (children t pid (at_next_line me))) (statuses (children t pid (at_next_line me))) ≡ waiting (is_empty (children s pid me)) (statuses (children s pid me)) =
       ap (λ b. waiting b (statuses (children t pid (at_next_line me)))) same.0 ∙ ap (waiting (is_empty (children s pid me))) same.1 in
-      (λ is. waits-tells s pid me (sym equal ∙ waits-told t pid (at_next_line me) is), λ is. waits-tells t pid (at_next_line me) (equal ∙ waits-told s pid me is))
+      (λ is. waits-reports s pid me (sym equal ∙ waits-reported t pid (at_next_line me) is), λ is. waits-reports t pid (at_next_line me) (equal ∙ waits-reported s pid me is))

@@ -1,9 +1,9 @@
--- What a call of a live process that no promise forbids comes to.
+-- The answers of a live process's call that the promises allow.
 use Rattle.std.specs.Prelude.{◌≡◌, ◌≢◌, ⊤, ℕ, Bool, true, false, Some}
 use Rattle.pv_calls_plain.specs.declared.answer.Answer.{Answer}
 use Rattle.pv_calls_plain.specs.Performed.{IsAnswered, IsPerformed, answered}
 use Rattle.pv_calls.specs.declared.carry.Reply.{Reply}
-use Rattle.pv_calls.specs.declared.carry.Reply.TheVariants.{Performed, Told}
+use Rattle.pv_calls.specs.declared.carry.Reply.TheVariants.{Performed, Reported}
 use Rattle.pv_model.specs.declared.call.Call.{Call}
 use Rattle.pv_model.specs.declared.call.Call.TheVariants.{Wait, Execve}
 use Rattle.pv_model.specs.Answer.{answer_by_attempt, at_next_line, effect}
@@ -19,24 +19,24 @@ is_execve call = false
 
 -- ---- replies
 
--- a live process's call replied so, and left that state
+-- the call of a live process has this reply and leaves this state
 abbrev pub IsReply : (State → Process → Attempt Effect) → State → ℕ → State → Reply → Type 0
 IsReply performed old pid new (Performed result) = IsPerformed performed old pid new result
-IsReply performed old pid new (Told answer) = IsAnswered performed old pid new answer
+IsReply performed old pid new (Reported answer) = IsAnswered performed old pid new answer
 
 -- ---- waits
 
--- a wait is one that does not wait
-abbrev pub goes_on : State → ℕ → Call → Type 0
-goes_on s pid Wait = (me : Process) → process_at s pid ≡ Some me → wait s pid me ≢ give (s, waits)
-goes_on s pid call = ⊤
+-- if the call is a wait(2), it does not block
+abbrev pub continues : State → ℕ → Call → Type 0
+continues s pid Wait = (me : Process) → process_at s pid ≡ Some me → wait s pid me ≢ give (s, waits)
+continues s pid call = ⊤
 
--- a call is a wait, and waits
+-- the call is a wait(2) that blocks
 abbrev pub IsBlocked : State → ℕ → Call → Type 0
 IsBlocked s pid Wait = (me : Process) → process_at s pid ≡ Some me → wait s pid me ≡ give (s, waits)
 IsBlocked s pid call = ⊥
 
--- the process goes to its next line, and the system call then answers so
+-- the process moves to its next line, and the system call then has this answer
 abbrev pub IsCarriedOut : State → ℕ → Call → State → Answer → Type 0
 IsCarriedOut s pid call new a =
     (me : Process) → process_at s pid ≡ Some me

@@ -1,4 +1,4 @@
--- The kernel, as clauses see it.
+-- The kernel as contracts see it.
 use Rattle.std.specs.Prelude.{⊤, ℕ, IsTrue}
 use Rattle.pv_laws_states.specs.States.{is_call}
 use Rattle.pv_model.specs.CallRef.{call_of}
@@ -6,12 +6,12 @@ use Rattle.pv_model.specs.State.{State}
 use Rattle.pv_procs.specs.declared.processes.Fetched.{Fetched}
 use Rattle.pv_procs.specs.declared.processes.Fetched.TheVariants.{Gone, Register, Call}
 
--- the state of the machine, and how many walks the last call began
+-- the state of the machine, and the number of walks that the last call began
 pub record Running : Type 0 where
   pub state : State
   pub walks : ℕ
 
--- a call that comes next may be made
+-- if the next instruction is a call, the call is well-formed
 abbrev pub IsCallable : Fetched → Type 0
 IsCallable Gone = ⊤
 IsCallable Register = ⊤

@@ -1,4 +1,4 @@
--- Where a call asks for memory: an execve that has a program to load, and no other.
+-- Calls that need memory: only an execve that has a program to load.
 use Rattle.std.specs.Prelude.{◌≡◌, ◌⊎◌, ℕ, None, Some}
 use Rattle.pv_model.specs.declared.call.Call.{Call}
 use Rattle.pv_model.specs.declared.call.Call.TheVariants.{Execve}
@@ -11,18 +11,19 @@ use Rattle.pv_model.specs.Promises.{missing_promise}
 use Rattle.pv_model.specs.State.{Process, State, process_at}
 use Rattle.pv_calls_path.specs.Execve.{LeadsToProgram}
 
--- a call is an execve that leads to an executable file, which the process's table allows
+-- the call is an execve that leads to an executable file that the table of the process allows
 abbrev pub Loads : State → Process → Call → Type 0
 Loads s me (Execve path) = LeadsToProgram s me path
 Loads s me call = ⊥
 
--- the call of a live process, which no promise forbids, is an execve that leads to an executable file, which its table allows
+-- the call of a live process is allowed by its promises, and is an execve that leads to an executable file that its
+-- table allows
 pub record LoadsProgram (s : State) (pid : ℕ) (call : Call) : Type 0 where
   pub me : Process
   pub lives : process_at s pid ≡ Some me
   pub promised : missing_promise me.promises (needs call) ≡ None
   pub loads : Loads s me call
 
--- what such a call may come to: the program is loaded, or the file's bytes are none
+-- the possible outcomes of such a call: the program is loaded, or the file does not parse as a program
 abbrev pub IsOfLoading : Outcome → Type 0
 IsOfLoading outcome = (outcome ≡ Value 0) ⊎ (outcome ≡ Failed ENOEXEC Plain)

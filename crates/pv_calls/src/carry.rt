@@ -1,8 +1,8 @@
-//! What a call answers, from its promises on.
+//! Calls, from the pledge check to the answer.
 ghost use Rattle.std.specs.Prelude.{◌≡◌, IfErr, IfOk, OnErr, IsTrue, IsSome, Some, true, false};
-ghost use Rattle.pv_calls.specs.Calls.{IsBlocked, IsCarriedOut, IsReply, goes_on, is_execve};
+ghost use Rattle.pv_calls.specs.Calls.{IsBlocked, IsCarriedOut, IsReply, continues, is_execve};
 ghost use Rattle.pv_calls.specs.Loading.{Loads, LoadsProgram};
-ghost use Rattle.pv_laws_states.specs.States.{IsWhole, is_call};
+ghost use Rattle.pv_laws_states.specs.States.{IsValid, is_call};
 ghost use Rattle.pv_model.specs.declared.call.Call.TheVariants.{Execve, Exit};
 ghost use Rattle.pv_model.specs.Answer.{answer, effect};
 ghost use Rattle.pv_model.specs.CallRef.{call_of};
@@ -11,7 +11,7 @@ ghost use Rattle.pv_model.specs.State.{Process, process_at};
 ghost use Rattle.pv_model.specs.Tree.{find_entry};
 ghost use Rattle.pv_calls_plain.specs.Performed.{answered, IsAnswered};
 
-use Reply::{Performed, Told};
+use Reply::{Performed, Reported};
 use pv_calls_path::chdir::chdir;
 use pv_calls_path::execve::{ExecveFault, execve};
 use pv_calls_path::looking::{lstat, readlink, stat};
@@ -20,7 +20,7 @@ use pv_calls_path::opening::open_at;
 use pv_calls_path::rename::rename;
 use pv_calls_path::system::System;
 use pv_calls_path::unveil::unveil;
-use pv_calls_plain::answer::{Answer, Done, Refused, tell};
+use pv_calls_plain::answer::{Answer, Done, Refused, report};
 use pv_calls_plain::descriptors::{close, dup, dup2, fchdir};
 use pv_calls_plain::files::{fstat, ftruncate, getdents, lseek, read, write};
 use pv_calls_plain::pledge::pledge;
@@ -31,17 +31,17 @@ use pv_namei::Lookup;
 use pv_promises::Decision;
 use std::alloc::Global;
 
-/// What a call came to.
+/// The result of a dispatched call.
 pub(crate) enum Reply {
-    /// It answers a number, or is refused; its process is not told yet.
+    /// A value or a refusal that is not yet reported to the process.
     Performed(Result<Done, Refused>),
-    /// Its process is told already, or has ended.
-    Told(Answer),
+    /// An answer that is already reported to the process, or the process has ended.
+    Reported(Answer),
 }
 
-// The end of a process, exit(3).
+// Ends a process, as exit(3).
 fn exit(parts: &mut Parts, pid: u32, code: i32) -> Answer
-    requires whole { IsWhole parts.old }
+    requires whole { IsValid parts.old }
     requires live { IsSome (process_at parts.old pid) }
     ensures performed { IsAnswered (λ s me. effect program_of s pid me (Exit code)) parts.old pid parts.new result }
 {
@@ -52,25 +52,25 @@ fn exit(parts: &mut Parts, pid: u32, code: i32) -> Answer
     }
 }
 
-// What a call that no promise forbids comes to, after its process's line. An execve(2) and a wait(2) that would wait do
-// not come here.
+// Makes a call that the promises allow, after its process has moved to the next line. Must not be used for execve(2),
+// nor for a wait(2) that would block.
 #[inline(always)]
 fn dispatch<L: Lookup + Drop>(system: &mut System<L>, pid: u32, call: CallRef<'_>) -> Reply
-    requires whole { IsWhole system.old.parts }
+    requires whole { IsValid system.old.parts }
     requires live { IsSome (process_at system.old.parts pid) }
     requires call { IsTrue (is_call (call_of call)) }
     requires no_execve { is_execve (call_of call) ≡ false }
-    requires goes_on { goes_on system.old.parts pid (call_of call) }
+    requires continues { continues system.old.parts pid (call_of call) }
     requires agrees { L.agrees system.old.lookup (find_entry system.old.parts.tree) }
     ensures replied { IsReply (λ s me. effect program_of s pid me (call_of call.entry)) system.old.parts pid system.new.parts result }
     ensures agrees { L.agrees system.new.lookup (find_entry system.new.parts.tree) }
 {
     match call {
-        CallRef::Exit(code) => Told(exit(&mut system.parts, pid, code)),
+        CallRef::Exit(code) => Reported(exit(&mut system.parts, pid, code)),
         CallRef::GetPid => Performed(getpid(&mut system.parts, pid)),
         CallRef::GetPpid => Performed(getppid(&mut system.parts, pid)),
         CallRef::Fork => Performed(fork(&mut system.parts, pid)),
-        CallRef::Wait => Told(wait(&mut system.parts, pid)),
+        CallRef::Wait => Reported(wait(&mut system.parts, pid)),
         CallRef::Pledge(now, later) => Performed(pledge(&mut system.parts, pid, now, later)),
         CallRef::Unveil(path, perms) => Performed(unveil(system, pid, path, perms)),
         CallRef::Execve(_) => unreachable!(),
@@ -85,17 +85,17 @@ fn dispatch<L: Lookup + Drop>(system: &mut System<L>, pid: u32, call: CallRef<'_
         CallRef::Close(d) => Performed(close(&mut system.parts, pid, d)),
         CallRef::Dup(d) => Performed(dup(&mut system.parts, pid, d)),
         CallRef::Dup2(d, e) => Performed(dup2(&mut system.parts, pid, d, e)),
-        CallRef::Read(d, n) => Told(read(&mut system.parts, pid, d, n)),
+        CallRef::Read(d, n) => Reported(read(&mut system.parts, pid, d, n)),
         CallRef::Write(d, n) => Performed(write(&mut system.parts, pid, d, n)),
         CallRef::Lseek(d, by, whence) => Performed(lseek(&mut system.parts, pid, d, by, whence)),
-        CallRef::Fstat(d) => Told(fstat(&mut system.parts, pid, d)),
+        CallRef::Fstat(d) => Reported(fstat(&mut system.parts, pid, d)),
         CallRef::Ftruncate(d, n) => Performed(ftruncate(&mut system.parts, pid, d, n)),
-        CallRef::Getdents(d) => Told(getdents(&mut system.parts, pid, d)),
+        CallRef::Getdents(d) => Reported(getdents(&mut system.parts, pid, d)),
         CallRef::Fchdir(d) => Performed(fchdir(&mut system.parts, pid, d)),
         CallRef::Chdir(path) => Performed(chdir(system, pid, path)),
-        CallRef::Stat(path) => Told(stat(system, pid, path)),
-        CallRef::Lstat(path) => Told(lstat(system, pid, path)),
-        CallRef::Readlink(path) => Told(readlink(system, pid, path)),
+        CallRef::Stat(path) => Reported(stat(system, pid, path)),
+        CallRef::Lstat(path) => Reported(lstat(system, pid, path)),
+        CallRef::Readlink(path) => Reported(readlink(system, pid, path)),
         CallRef::Mkdir(path) => Performed(mkdir(system, pid, path)),
         CallRef::Symlink(text, path) => Performed(symlink(system, pid, text.as_slice(), path)),
         CallRef::Link(path, new) => Performed(link(system, pid, path, new)),
@@ -105,32 +105,32 @@ fn dispatch<L: Lookup + Drop>(system: &mut System<L>, pid: u32, call: CallRef<'_
     }
 }
 
-// What such a call answers.
+// Makes such a call and reports its result to the process.
 #[inline(always)]
 fn perform<L: Lookup + Drop>(system: &mut System<L>, pid: u32, call: CallRef<'_>) -> Answer
-    requires whole { IsWhole system.old.parts }
+    requires whole { IsValid system.old.parts }
     requires live { IsSome (process_at system.old.parts pid) }
     requires call { IsTrue (is_call (call_of call)) }
     requires no_execve { is_execve (call_of call) ≡ false }
-    requires goes_on { goes_on system.old.parts pid (call_of call) }
+    requires continues { continues system.old.parts pid (call_of call) }
     requires agrees { L.agrees system.old.lookup (find_entry system.old.parts.tree) }
     ensures performed { IsAnswered (λ s me. effect program_of s pid me (call_of call.entry)) system.old.parts pid system.new.parts result }
     ensures agrees { L.agrees system.new.lookup (find_entry system.new.parts.tree) }
 {
     match dispatch(system, pid, call) {
-        Performed(performed) => tell(&mut system.parts, pid, performed),
-        Told(answer) => answer,
+        Performed(performed) => report(&mut system.parts, pid, performed),
+        Reported(answer) => answer,
     }
 }
 
-// What an execve(2) answers that no promise forbids, before its process goes on.
+// Makes an execve(2) that the promises allow, before its process moves to the next line.
 fn execute<L: Lookup + Drop>(
     alloc: Global,
     system: &mut System<L>,
     pid: u32,
     path: &Text,
 ) -> Result<Answer, StepFault>
-    requires whole { IsWhole system.old.parts }
+    requires whole { IsValid system.old.parts }
     requires live { IsSome (process_at system.old.parts pid) }
     requires call { IsTrue (is_call (Execve path.now)) }
     requires agrees { L.agrees system.old.lookup (find_entry system.old.parts.tree) }
@@ -140,20 +140,20 @@ fn execute<L: Lookup + Drop>(
     ensures memory { IfErr result (λ _. (me : Process) → process_at system.old.parts pid ≡ Some me → Loads system.old.parts me (Execve path.now)) }
 {
     match execve(alloc, system, pid, path) {
-        Ok(told) => Ok(tell(&mut system.parts, pid, Ok(told))),
+        Ok(reported) => Ok(report(&mut system.parts, pid, Ok(reported))),
         Err(ExecveFault::Refused(why)) => {
             system.parts.advance(pid);
-            Ok(tell(&mut system.parts, pid, Err(why)))
+            Ok(report(&mut system.parts, pid, Err(why)))
         }
         Err(ExecveFault::Memory) => Err(StepFault::NoMemory),
     }
 }
 
-// Whether a call is a wait(2) that would wait.
+// Returns whether a call is a wait(2) that would block.
 fn is_blocked(parts: &Parts, pid: u32, call: CallRef<'_>) -> bool
     requires { IsSome (process_at parts.now pid) }
     ensures blocked { result ≡ true → IsBlocked parts.now pid (call_of call.entry) }
-    ensures goes_on { result ≡ false → goes_on parts.now pid (call_of call.entry) }
+    ensures continues { result ≡ false → continues parts.now pid (call_of call.entry) }
 {
     match call {
         CallRef::Wait => would_wait(parts, pid),
@@ -161,7 +161,7 @@ fn is_blocked(parts: &Parts, pid: u32, call: CallRef<'_>) -> bool
     }
 }
 
-// What a call answers that no promise forbids.
+// Makes a call that the promises allow.
 #[inline(always)]
 fn carry_on<L: Lookup + Drop>(
     alloc: Global,
@@ -169,7 +169,7 @@ fn carry_on<L: Lookup + Drop>(
     pid: u32,
     call: CallRef<'_>,
 ) -> Result<Answer, StepFault>
-    requires whole { IsWhole system.old.parts }
+    requires whole { IsValid system.old.parts }
     requires live { IsSome (process_at system.old.parts pid) }
     requires call { IsTrue (is_call (call_of call)) }
     requires agrees { L.agrees system.old.lookup (find_entry system.old.parts.tree) }
@@ -191,13 +191,14 @@ fn carry_on<L: Lookup + Drop>(
     Ok(perform(system, pid, call))
 }
 
-/// What a call of a process answers, by its promises first: pledge(2). A missing promise kills the process, and is
-/// ENOSYS where `error` is promised. A call that waits leaves its process at its line, each other one moves it on.
+/// Makes a call of a process. The promises are checked first, as pledge(2): a missing promise kills the process, or is
+/// ENOSYS if `error` is promised. A call that blocks leaves its process at its line; every other call moves it to the
+/// next.
 ///
 /// # Errors
 ///
-/// `NoMemory` where memory was refused for the program of an execve(2) that would have loaded one, or have been
-/// `ENOEXEC`; nothing has then changed.
+/// `NoMemory`, if there is no memory for the program of an execve(2), which would otherwise have succeeded or failed
+/// with `ENOEXEC`. The state is then unchanged.
 #[inline(always)]
 pub(crate) fn carry_out<L: Lookup + Drop>(
     alloc: Global,
@@ -205,7 +206,7 @@ pub(crate) fn carry_out<L: Lookup + Drop>(
     pid: u32,
     call: CallRef<'_>,
 ) -> Result<Answer, StepFault>
-    requires whole { IsWhole system.old.parts }
+    requires whole { IsValid system.old.parts }
     requires call { IsTrue (is_call (call_of call)) }
     requires agrees { L.agrees system.old.lookup (find_entry system.old.parts.tree) }
     ensures answered { IfOk result (λ a. answer program_of system.old.parts pid (call_of call.entry) ≡ answered system.new.parts a) }
@@ -235,7 +236,7 @@ pub(crate) fn carry_out<L: Lookup + Drop>(
                 errno: Errno::ENOSYS,
                 cause: Cause::Promise(promise),
             };
-            Ok(tell(&mut system.parts, pid, Err(refused)))
+            Ok(report(&mut system.parts, pid, Err(refused)))
         }
     }
 }

@@ -1,6 +1,6 @@
-//! The kernel: the parts of the system, and the calls on them.
+//! The kernel: the state of the machine, and the calls on it.
 ghost use Rattle.std.specs.Prelude.{◌≡◌, ◌⊎◌, ◌<◌, ◌≤◌, IfOk, IfErr, OnErr, IsSome, IsTrue, Ok, Err, Some, length};
-ghost use Rattle.pv_laws_states.specs.States.{IsFirstTree, IsWhole, is_call};
+ghost use Rattle.pv_laws_states.specs.States.{IsFirstTree, IsValid, is_call};
 ghost use Rattle.pv_model.specs.declared.limits.TheConstants.{BUFFER};
 ghost use Rattle.pv_model.specs.Answer.{answer};
 ghost use Rattle.pv_model.specs.CallRef.{call_of};
@@ -30,9 +30,9 @@ use pv_tree::{Store, Tree};
 use std::alloc::Global;
 use std::marker::Model;
 
-/// The kernel: the tree, the open files and the processes, and a lookup of names.
+/// The state of the machine, with a name lookup.
 ///
-/// Between any two calls the state is one that a run may reach (`IsWhole`), and the lookup agrees with the tree.
+/// Between two calls, the state satisfies the invariant of all runs (`IsValid`), and the lookup agrees with the tree.
 #[derive(Drop)]
 pub struct Kernel<L: Lookup + Drop> {
     system: System<L>,
@@ -45,20 +45,20 @@ impl<L: Lookup + Drop> Model for Kernel<L> {
 
     ghost Value = { Running };
 
-    ghost use Rattle.pv_laws_states.specs.States.{IsWhole};
+    ghost use Rattle.pv_laws_states.specs.States.{IsValid};
     ghost use Rattle.pv_model.specs.Tree.{find_entry};
 
     ghost view = { λ k. record { state = k.system.parts; walks = k.walks } };
 
-    ghost invariant = { λ k. IsWhole k.system.parts × L.agrees k.system.lookup (find_entry k.system.parts.tree) };
+    ghost invariant = { λ k. IsValid k.system.parts × L.agrees k.system.lookup (find_entry k.system.parts.tree) };
 }
 
 impl Kernel<CachedLookup> {
-    /// The kernel before the first step on a tree, with the name cache.
+    /// Returns the kernel before the first step on a tree, with a name cache.
     ///
     /// # Errors
     ///
-    /// As `boot_with`.
+    /// As for `boot_with`.
     pub fn boot(alloc: Global, store: Store) -> Result<Kernel<CachedLookup>, BootFault>
         requires { IsFirstTree store }
         ensures booted { IfOk result (λ k. (booted store ≡ Ok k.state) × (k.walks ≡ 0)) }
@@ -70,13 +70,14 @@ impl Kernel<CachedLookup> {
 }
 
 impl<L: Lookup + Drop> Kernel<L> {
-    /// The kernel before the first step on a tree, with a lookup that agrees with it: process 1 has the program of the
-    /// file `init` in the root, or the program of no lines where that has no such name.
+    /// Returns the kernel before the first step on a tree, with a lookup that agrees with it. Process 1 runs the
+    /// program of the file `init` in the root, or the empty program if that name does not exist.
     ///
     /// # Errors
     ///
-    /// `Init(0)` where `init` is no executable file, `Init(n)` where line n of its program is the least that is no
-    /// instruction, and `Memory` where memory was refused.
+    /// - `Init(0)`, if `init` is not an executable file.
+    /// - `Init(n)`, if line n is the first line of its program that is not an instruction.
+    /// - `Memory`, if there is no memory.
     pub fn boot_with(alloc: Global, store: Store, lookup: L) -> Result<Kernel<L>, BootFault>
         requires first { IsFirstTree store }
         requires agrees { L.agrees lookup (find_entry store) }
@@ -96,8 +97,9 @@ impl<L: Lookup + Drop> Kernel<L> {
         Ok(Kernel { system, walks: 0 })
     }
 
-    /// What comes next in a process: nothing where it is not live, an instruction on registers or a jump, or a call, with its
-    /// texts kept: past the last line, an exit. Nothing is made.
+    /// Returns the next instruction of a process: none if the process is not live, an instruction on registers or a
+    /// jump, or a call, whose texts are kept in `texts`. Past the last line the call is `exit 0`. The instruction is
+    /// not carried out.
     pub fn fetch<'a>(&self, pid: u32, texts: &'a mut CallTexts) -> Fetched<'a>
         ensures next { IsFetched result (process_at self.now.state pid) }
         ensures callable { IsCallable result }
@@ -105,7 +107,8 @@ impl<L: Lookup + Drop> Kernel<L> {
         self.system.parts.processes().fetch(pid, texts)
     }
 
-    /// Makes the instruction on registers or the jump that comes next in a process. Where `fetch` answers `Register`, one does.
+    /// Carries out the next instruction of a process, which must be an instruction on registers or a jump, as reported
+    /// by `fetch`.
     pub fn register(&mut self, pid: u32)
         requires { RegisterNext (process_at self.old.state pid) }
         ensures made { StepsInside self.old.state pid self.new.state }
@@ -114,8 +117,8 @@ impl<L: Lookup + Drop> Kernel<L> {
         self.pass(pid, 1);
     }
 
-    /// What comes next in a process: an instruction on registers or a jump, which is made, or a call, with its texts
-    /// kept: past the last line, an exit.
+    /// Takes the next instruction of a process. An instruction on registers or a jump is carried out. A call is
+    /// returned, with its texts kept in `texts`; past the last line the call is `exit 0`.
     pub fn step_or_fetch<'a>(&mut self, pid: u32, texts: &'a mut CallTexts) -> Fetched<'a>
         ensures state { IsRegistered result pid self.old.state self.new.state }
         ensures callable { IsCallable result }
@@ -124,8 +127,8 @@ impl<L: Lookup + Drop> Kernel<L> {
         self.system.parts.step_or_fetch(pid, texts)
     }
 
-    /// Makes the instructions on registers and the jumps that come next in a process, at most so many, one after
-    /// another: answers how many. Where the process is not live, they are none.
+    /// Carries out the next register instructions and jumps of a process, at most `most`, and returns their number: 0
+    /// if the process is not live.
     pub fn pass(&mut self, pid: u32, most: u32) -> u32
         ensures few { result ≤ most }
         ensures state { PassesInside result pid self.old.state self.new.state }
@@ -135,13 +138,13 @@ impl<L: Lookup + Drop> Kernel<L> {
         self.system.parts.pass(pid, most)
     }
 
-    /// Makes a call of a process: what it answers. `walks` then tells how many walks it began, and the bytes that an
-    /// outcome tells stand at the front of the process's buffer.
+    /// Makes a call of a process and returns its outcome. Afterwards `walks` returns the number of walks that the call
+    /// began, and the bytes of the outcome are at the front of the process's buffer.
     ///
     /// # Errors
     ///
-    /// `NoMemory` where memory was refused for the program of an execve(2) that would have loaded one, or have been
-    /// `ENOEXEC`; nothing has then changed.
+    /// `NoMemory`, if there is no memory for the program of an execve(2), which would otherwise have succeeded or
+    /// failed with `ENOEXEC`. The state is then unchanged.
     pub fn call(&mut self, alloc: Global, pid: u32, call: CallRef<'_>) -> Result<Outcome, StepFault>
         requires { IsTrue (is_call (call_of call)) }
         ensures answered { IfOk result (λ outcome. answer program_of self.old.state pid (call_of call.entry) ≡ record { after = self.new.state; outcome = outcome; walks = self.new.walks }) }
@@ -153,7 +156,7 @@ impl<L: Lookup + Drop> Kernel<L> {
         Ok(answer.outcome)
     }
 
-    /// The 4,096 bytes of a process's buffer: none where it is not live.
+    /// Returns the 4,096 bytes of a process's buffer, or no bytes if the process is not live.
     pub fn buffer(&self, pid: u32) -> &[u8]
         ensures value { result.now ≡ buffer_of (process_at self.now.state pid) }
         ensures size { length result.now ≤ BUFFER }
@@ -164,22 +167,22 @@ impl<L: Lookup + Drop> Kernel<L> {
         }
     }
 
-    /// How many walks the last call that gave an outcome began: 0 before one.
+    /// Returns the number of walks that the last call with an outcome began, or 0 before the first one.
     pub fn walks(&self) -> u8
         ensures { result ≡ self.now.walks }
     {
         self.walks
     }
 
-    /// The tree.
+    /// Returns the tree.
     pub fn tree(&self) -> &Tree
         ensures { result.now.tree ≡ self.now.state.tree }
     {
         self.system.parts.tree()
     }
 
-    /// Why a live process is not closed to the file of a node: the first reason, or None where it is closed to it. It takes no
-    /// memory.
+    /// Returns the first reason why a live process is not closed to the file of a node, or `None` if it is closed. Does
+    /// not allocate.
     pub fn leak(&self, pid: u32, node: u16) -> Option<Why>
         requires { IsSome (process_at self.now.state pid) }
         ensures { (p : Process) → process_at self.now.state pid ≡ Some p → result ≡ first_of (leaks self.now.state p node) }
@@ -187,8 +190,8 @@ impl<L: Lookup + Drop> Kernel<L> {
         leak(&self.system.parts, pid, node)
     }
 
-    /// Whether a live process writes the file of a node by no descriptor, and never will, if it is closed to it. It takes no
-    /// memory.
+    /// Returns whether a live process that is closed to the file of a node has no descriptor that writes the file, and
+    /// can never get one. Does not allocate.
     pub fn frozen_to(&self, pid: u32, node: u16) -> bool
         requires { IsSome (process_at self.now.state pid) }
         ensures { (p : Process) → process_at self.now.state pid ≡ Some p → result ≡ is_frozen_to self.now.state p node }
@@ -196,10 +199,10 @@ impl<L: Lookup + Drop> Kernel<L> {
         frozen_to(&self.system.parts, pid, node)
     }
 
-    /// The tree, the open files and the processes: between any two calls their state is one that a run may reach.
+    /// Returns the state. Between two calls it satisfies the invariant of all runs.
     pub fn parts(&self) -> &Parts
         ensures value { result.now ≡ self.now.state }
-        ensures whole { IsWhole self.now.state }
+        ensures whole { IsValid self.now.state }
     {
         &self.system.parts
     }

@@ -6,8 +6,8 @@ ghost use Rattle.pv_model.specs.Answer.{answer};
 ghost use Rattle.pv_model.specs.Grammar.Programs.{program_of};
 ghost use Rattle.pv_model.specs.State.{State};
 
-/// In each state, a call that has a program to load answers 0, or `ENOEXEC` where the file's bytes are no program. So want
-/// of memory stands in place of these two alone, execve(2).
+/// States that a call that has a program to load answers 0, or `ENOEXEC` if the file does not parse as a program. Out
+/// of memory can thus only replace these two answers of execve(2).
 pub fn loading_answers()
     ensures { (s : State) (pid : ℕ) (call : Call) → LoadsProgram s pid call → IsOfLoading (answer program_of s pid call).outcome }
 {}

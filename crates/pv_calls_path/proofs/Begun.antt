@@ -1,4 +1,4 @@
--- A walk that a call has begun ends where `Ends` says that it ends.
+-- The walks that a call has begun end where `Ends` says.
 use Rattle.std.proofs.Common.{◌≡◌, ◌∙◌, ◌⊎◌, inl, inr, ℕ, zero, suc, ◌≤◌, Bool, true, false, not, if◌then◌else◌, List, [], ◌∷◌, slice_get, Option, None, Some, refl, sym, ap, subst, arith}
 use Rattle.std.specs.List.{AllByRecursion}
 use Rattle.pv_model.specs.declared.call.Call.{Call}
@@ -18,7 +18,7 @@ use Rattle.pv_model.specs.Bytes.{Bytes}
 use Rattle.pv_model.specs.Calls.Descriptors.{check_start, contradicts, directory_of, open_at}
 use Rattle.pv_model.specs.Calls.Processes.{end_process}
 use Rattle.pv_model.specs.Effect.{Effect, Reply, returns, returns_bytes, ends, waits, end_of, open_file}
-use Rattle.pv_model.specs.Held.{trim}
+use Rattle.pv_model.specs.Held.{collect}
 use Rattle.pv_model.specs.Needs.{needs}
 use Rattle.pv_model.specs.Promises.{is_lenient, missing_promise}
 use Rattle.pv_model.specs.State.{OpenFile, Process, Program, State, process_at, with_process}
@@ -30,7 +30,7 @@ use Rattle.pv_calls_path.specs.Ends.{end_begun, if_given}
 use Rattle.pv_calls_state.proofs.Attempts.{refused_before}
 use Rattle.pv_calls_path.proofs.OpenCalls.{open_unstarted}
 
--- ---- how many walks an attempt began
+-- ---- the number of walks of an attempt
 
 abbrev walks_begun : Attempt Effect → ℕ
 walks_begun (done walks value) = walks
@@ -51,12 +51,12 @@ module _ (program_of : Bytes → Option Program) where
       → 1 ≤ (answer_where program_of before s pid me call missing).walks → 1 ≤ walks_begun (effect program_of s pid me call)
   where-walks before s pid me call None some = subst (λ (n : ℕ). 1 ≤ n) (attempt-walks before s pid me (effect program_of s pid me call)) some
   where-walks before s pid me call (Some p) some =
-      elim (is_lenient me.promises) as (λ b. 1 ≤ (if b then answer_by_attempt before s pid me (refused 0 ENOSYS (ByPromise p)) else record { after = trim (end_process before pid me 6); outcome = Killed p; walks = 0 }).walks → 1 ≤ walks_begun (effect program_of s pid me call)) [
+      elim (is_lenient me.promises) as (λ b. 1 ≤ (if b then answer_by_attempt before s pid me (refused 0 ENOSYS (ByPromise p)) else record { after = collect (end_process before pid me 6); outcome = Killed p; walks = 0 }).walks → 1 ≤ walks_begun (effect program_of s pid me call)) [
         | true ↦ λ one. absurd (omega (arith, one))
         | false ↦ λ one. absurd (omega (arith, one))
       ] some
 
-  -- a call that counted a walk did one
+  -- a call that counts a walk has made one
   answer-walks : (s : State) (pid : ℕ) (p : Process) (call : Call) → process_at s pid ≡ Some p → 1 ≤ (answer program_of s pid call).walks
       → 1 ≤ walks_begun (effect program_of (with_process s pid (at_next_line p)) pid (at_next_line p) call)
   unfolding answer
@@ -64,9 +64,9 @@ module _ (program_of : Bytes → Option Program) where
       where-walks s (with_process s pid (at_next_line p)) pid (at_next_line p) call (missing_promise p.promises (needs call))
       (subst (λ (me : Option Process). 1 ≤ (answer_of program_of s pid call me).walks) at some)
 
--- ---- where a walk starts
+-- ---- the start of a walk
 
--- nothing was refused, or before a walk
+-- the attempt was not refused, or it was refused before a walk
 abbrev IsFirst : Attempt (Unit {0}) → Type 0
 IsFirst a = (a ≡ give tt) ⊎ ((e : Errno) × (a ≡ refused 0 e Plain))
 

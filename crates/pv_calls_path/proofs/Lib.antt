@@ -1,5 +1,5 @@
--- Lemmas of the calls that walk: Reaching and Naming serve all; LookCalls, NameCalls, NodeCalls, OpenCalls, Renaming and UnveilCalls the
--- calls of one subject. Begun has where the walks end that a call began.
+-- Lemmas about the calls that walk: Reaching and Naming serve all calls. LookCalls, NameCalls, NodeCalls, OpenCalls,
+-- Renaming and UnveilCalls have the calls of one subject. Begun has the ends of the walks that a call began.
 pub mod Begun
 pub mod LookCalls
 pub mod NameCalls

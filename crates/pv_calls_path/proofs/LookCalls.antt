@@ -1,4 +1,4 @@
--- Calls that tell what is at a path.
+-- Calls that inspect a path.
 use Rattle.std.proofs.Common.{◌≡◌, ◌∙◌, ℕ, ◌≤◌, ◌-◌, min, pos, negsuc, true, false, [], ◌∷◌, ◌++◌, length, take, drop, Option, None, Some, refl, ap, sym, arith}
 use Rattle.std.proofs.lemmas.Bool.{and_parts, leb-true}
 use Rattle.pv_calls_plain.specs.declared.answer.Answer.{Answer}
@@ -6,7 +6,7 @@ use Rattle.pv_calls_plain.specs.declared.answer.Refused.{Refused}
 use Rattle.pv_calls_plain.specs.Performed.{answered}
 use Rattle.pv_calls_path.specs.Reached.{IsFound}
 use Rattle.pv_dirs.specs.Trees.{bytes_at, bytes_of}
-use Rattle.pv_laws_states.specs.States.{IsWhole}
+use Rattle.pv_laws_states.specs.States.{IsValid}
 use Rattle.pv_model.specs.declared.call.Start.TheVariants.{WorkingDirectory}
 use Rattle.pv_model.specs.declared.errno.Errno.TheVariants.{EINVAL, ENOENT}
 use Rattle.pv_model.specs.declared.outcome.Cause.TheVariants.{Plain}
@@ -25,7 +25,7 @@ use Rattle.pv_laws_trees.specs.Found.{Alike}
 use Rattle.pv_calls_state.proofs.Attempts.{given, refused_first}
 use Rattle.pv_calls_path.proofs.Naming.{alike_update, update_tree}
 
--- ---- what directories have under names after a process is told
+-- ---- names in directories after the report to a process
 
 pub names-refused : (s : State) (pid : ℕ) (me : Process) (r : Refused) (new : State) (answer : Answer)
     → answer_by_attempt s s pid me (refused r.walks r.errno r.cause) ≡ answered new answer → Alike (find_entry s.tree) (find_entry new.tree)
@@ -33,12 +33,12 @@ names-refused s pid me r new answer is d name =
     sym (ap (λ (x : Answered). find_entry x.after.tree d name) is)
     ∙ ap (λ (t : Tree). find_entry t d name) (update_tree s pid (λ p. with_result p (negsuc 0) (errno_number r.errno)) (process_at s pid))
 
-pub names-told : (s : State) → IsWhole s → (pid : ℕ) (me : Process) (walks value : ℕ) (bytes : Bytes) (new : State) (answer : Answer)
+pub names-reported : (s : State) → IsValid s → (pid : ℕ) (me : Process) (walks value : ℕ) (bytes : Bytes) (new : State) (answer : Answer)
     → answer_by_attempt s s pid me (done walks (s, returns_bytes value bytes)) ≡ answered new answer → Alike (find_entry s.tree) (find_entry new.tree)
-names-told s whole pid me walks value bytes new answer is =
+names-reported s whole pid me walks value bytes new answer is =
     alike_update s whole pid (λ p. with_front bytes (with_result p (pos value) 0)) new (sym (ap (λ (x : Answered). x.after) is))
 
--- what stat does at the end of a walk from where the process works
+-- the computation of stat at the end of a walk from the working directory
 pub stat-walks : (s : State) (pid : ℕ) (me : Process) (w : Walk) → w.start ≡ WorkingDirectory
     → stat_at s pid me w ≡ (walk_from s me.directory w.follow w.path >>= (λ place. judge_for s me place w.needed >> (demand ENOENT (node_of place) >>= (λ n. answers_bytes s 0 (status s.tree n)))))
 stat-walks s pid me w here = rw here refl
@@ -63,8 +63,8 @@ link-plain (Some (directory_node es)) is = cc
 link-plain (Some (file_node executable bytes)) is = cc
 link-plain (Some (link_node text)) is = refl
 
--- a link's text is short enough for its buffer
-pub text-short : (s : State) → IsWhole s → (n : ℕ) → is_link (node_at s.tree n) ≡ true → length (bytes_at s.tree n) ≤ 1023
+-- the text of a link fits its buffer
+pub text-short : (s : State) → IsValid s → (n : ℕ) → is_link (node_at s.tree n) ≡ true → length (bytes_at s.tree n) ≤ 1023
 text-short s whole n = by (node_at s.tree n) refl
   where
     by : (o : Option Node) → node_at s.tree n ≡ o → is_link o ≡ true → length (bytes_of o) ≤ 1023
@@ -79,14 +79,14 @@ all-taken : (bytes rest : Bytes) → take (length bytes) (take (length bytes) by
 all-taken [] rest = refl
 all-taken (b ∷ bytes) rest = ap (λ bs. b ∷ bs) (all-taken bytes rest)
 
--- what is read of a text to a buffer with room for it is the whole
+-- a read to a buffer with enough room yields the whole text
 pub whole-text : (count : ℕ) (bytes old new : Bytes) → length bytes ≤ 1023 → length old ≡ 1023 → count ≡ min (length old) (length bytes - 0) → new ≡ take count (drop 0 bytes) ++ drop count old
     → (count ≡ length bytes) × (take count new ≡ bytes)
 whole-text count bytes old new short room number is =
     let all : count ≡ length bytes = omega (arith, short, room, number) in
     (all, ap (take count) is ∙ ap (λ k. take k (take k bytes ++ drop k old)) all ∙ all-taken bytes (drop (length bytes) old))
 
--- what readlink does with the node that it finds
+-- the computation of readlink on the node that it finds
 abbrev pub link_rest : State → ℕ → Attempt Effect
 link_rest s n = demand EINVAL (link_text (node_at s.tree n)) >>= (λ text. answers_bytes s (length text) text)
 

@@ -1,4 +1,4 @@
--- Calls that change names, where the tree has no room, and what directories have after them.
+-- Calls that change names: the case without room, and the names in directories after them.
 use Rattle.std.proofs.lemmas.Bool.{and_from, and_parts, le-leb}
 use Rattle.std.proofs.Common.{◌≤◌, List, ◌==◌, ◌≡◌, ◌∙◌, ℕ, Bool, true, false, not, nat_lt, [], ◌∷◌, length, Option, None, Some, is_some, refl, sym, ap, arith}
 use Rattle.pv_calls_plain.specs.Space.{space_errno}
@@ -6,14 +6,14 @@ use Rattle.pv_calls_plain.specs.declared.answer.Refused.{Refused}
 use Rattle.pv_calls_path.specs.Reached.{IsMissed, IsReached}
 use Rattle.pv_calls_state.proofs.Attempts.{passed}
 use Rattle.pv_calls_plain.proofs.Room.{crowded}
-use Rattle.pv_calls_path.proofs.Naming.{but_trim}
+use Rattle.pv_calls_path.proofs.Naming.{but_collect}
 use Rattle.pv_inodes.specs.declared.space.Space.{Space}
-use Rattle.pv_laws_states.specs.States.{IsWhole, IsFinePlace, is_text, is_text_byte, is_byte}
+use Rattle.pv_laws_states.specs.States.{IsValid, IsFinePlace, is_text, is_text_byte, is_byte}
 use Rattle.pv_laws_states.proofs.ByTree.{FineName, named-place}
 use Rattle.pv_laws_states.proofs.Grown.{new-below}
-use Rattle.pv_laws_states.proofs.Standing.{text-bytes}
+use Rattle.pv_laws_states.proofs.Present.{text-bytes}
 use Rattle.pv_laws_trees.proofs.Places.{list_all-weaker, not_zero}
-use Rattle.pv_laws_states.proofs.Trim.{held_after, tree-trim}
+use Rattle.pv_laws_states.proofs.Collect.{held_after, tree-collect}
 use Rattle.pv_model.specs.declared.call.Start.TheVariants.{WorkingDirectory}
 use Rattle.pv_model.specs.declared.outcome.Cause.TheVariants.{Plain}
 use Rattle.pv_model.specs.declared.place.Place.{Place}
@@ -22,7 +22,7 @@ use Rattle.pv_model.specs.declared.errno.Errno.TheVariants.{ENOENT, EINVAL, ENAM
 use Rattle.pv_model.specs.Bytes.{Bytes, is_empty}
 use Rattle.pv_model.specs.Calls.Paths.{make, link, symlink, rmdir, ends_in_dot}
 use Rattle.pv_model.specs.Effect.{node_of, name_of}
-use Rattle.pv_model.specs.Held.{trim}
+use Rattle.pv_model.specs.Held.{collect}
 use Rattle.pv_model.specs.Room.{fits}
 use Rattle.pv_model.specs.State.{Process, State, with_tree}
 use Rattle.pv_model.specs.Tree.{Node, directory_node, file_node, link_node, node_at, entries_of, entries_at, is_directory, is_directory_at, find_entry, is_node, is_link_text, with_entry, without_entry, with_new_node}
@@ -50,7 +50,7 @@ pub empty_by_length : (text : Bytes) → (length text == 0) ≡ false → is_emp
 empty_by_length [] is = cc
 empty_by_length (b ∷ bs) is = refl
 
--- a text of a program that is neither empty nor too long may be a link's
+-- a program's text that is neither empty nor too long can be the text of a link
 pub link_text_good : (text : Bytes) → is_text text ≡ true → is_empty text ≡ false → length text ≤ 1023 → is_link_text text ≡ true
 link_text_good text is filled short =
     and_from _ _ (and_from _ _ (ap not filled) (le-leb (length text) 1023 short))
@@ -71,17 +71,17 @@ module _ (s : State) (pid : ℕ) (me : Process) where
 
   pub make_crowded : (w : Walk) → w.start ≡ WorkingDirectory → (node : Node) (place : Place) → IsReached s me me.directory w place
       → is_some (node_of place) ≡ false → (d : ℕ) (name : Bytes) → name_of place ≡ Some (d, name) → (why : Space)
-      → refusal (trim (with_tree s (with_new_node s.tree d name node))).tree ≡ Some why → make s pid me w node ≡ refused 1 (space_errno why) Plain
+      → refusal (collect (with_tree s (with_new_node s.tree d name node))).tree ≡ Some why → make s pid me w node ≡ refused 1 (space_errno why) Plain
   make_crowded w here node place reached free d name named why is =
       rw (here, reached.walked, reached.judged, free, named, crowded (with_tree s (with_new_node s.tree d name node)) why is) refl
 
   pub link_crowded : (path new : Bytes) (place other : Place) → IsReached s me me.directory (linked_walk path) place → IsReached s me me.directory (new_link_walk new) other
       → (n : ℕ) → node_of place ≡ Some n → is_directory_at s.tree n ≡ false → is_some (node_of other) ≡ false → (d : ℕ) (name : Bytes) → name_of other ≡ Some (d, name) → (why : Space)
-      → refusal (trim (with_tree s (with_entry s.tree d name n))).tree ≡ Some why → link s pid me path new ≡ refused 2 (space_errno why) Plain
+      → refusal (collect (with_tree s (with_entry s.tree d name n))).tree ≡ Some why → link s pid me path new ≡ refused 2 (space_errno why) Plain
   link_crowded path new place other first second n there plain free d name named why is =
       rw (first.walked, first.judged, second.walked, second.judged, there, plain, free, named, crowded (with_tree s (with_entry s.tree d name n)) why is) refl
 
-module _ (s : State) (whole : IsWhole s) (place : Place) (fine : IsFinePlace s.tree place) (d : ℕ) (name : Bytes) (named : name_of place ≡ Some (d, name)) where
+module _ (s : State) (whole : IsValid s) (place : Place) (fine : IsFinePlace s.tree place) (d : ℕ) (name : Bytes) (named : name_of place ≡ Some (d, name)) where
   -- the name of a place
   pub fine_name : FineName s.tree (d, name) (node_of place)
   fine_name = named-place s.tree place (d, name) fine named
@@ -89,28 +89,28 @@ module _ (s : State) (whole : IsWhole s) (place : Place) (fine : IsFinePlace s.t
   free_name : is_some (node_of place) ≡ false → find_entry s.tree d name ≡ None
   free_name free = fine_name.found ∙ no_node (node_of place) free
 
-  -- a new node
+  -- the names after a node is made
   pub names_made : is_some (node_of place) ≡ false → (node : Node) → is_node s.tree.version node ≡ true → entries_of (Some node) ≡ [] → (new : State)
-      → new ≡ trim (with_tree s (with_new_node s.tree d name node)) → fits new.tree ≡ true → AlikeBut d name (find_entry s.tree) (find_entry new.tree)
+      → new ≡ collect (with_tree s (with_new_node s.tree d name node)) → fits new.tree ≡ true → AlikeBut d name (find_entry s.tree) (find_entry new.tree)
   names_made free node good bare new is fit =
       let u : State = with_tree s (with_new_node s.tree d name node) in
-      let below = new-below s whole d name node (held_after u) fine_name.directory (free_name free) bare (λ n is. is) (ap fits (sym (tree-trim u)) ∙ ap (λ (x : State). fits x.tree) (sym is) ∙ fit) in
-      but_trim d name s u new is
-      (stays-new_node s.tree whole.tree.well_formed d name node (fine_name.directory, fine_name.stands) (free_name free) fine_name.name good bare (omega (arith, whole.tree.well_formed.numbers)))
+      let below = new-below s whole d name node (held_after u) fine_name.directory (free_name free) bare (λ n is. is) (ap fits (sym (tree-collect u)) ∙ ap (λ (x : State). fits x.tree) (sym is) ∙ fit) in
+      but_collect d name s u new is
+      (stays-new_node s.tree whole.tree.well_formed d name node (fine_name.directory, fine_name.appears) (free_name free) fine_name.name good bare (omega (arith, whole.tree.well_formed.numbers)))
       (alike-new s.tree d name node fine_name.directory (free_name free) bare (omega arith))
 
-  -- a further name
+  -- the names after a link is made
   pub names_linked : is_some (node_of place) ≡ false → (n : ℕ) → is_some (node_at s.tree n) ≡ true → is_directory_at s.tree n ≡ false → (new : State)
-      → new ≡ trim (with_tree s (with_entry s.tree d name n)) → AlikeBut d name (find_entry s.tree) (find_entry new.tree)
+      → new ≡ collect (with_tree s (with_entry s.tree d name n)) → AlikeBut d name (find_entry s.tree) (find_entry new.tree)
   names_linked free n there plain new is =
-      but_trim d name s (with_tree s (with_entry s.tree d name n)) new is
-      (stays-with_entry s.tree whole.tree.well_formed d name n (fine_name.directory, fine_name.stands) (free_name free) fine_name.name there plain)
+      but_collect d name s (with_tree s (with_entry s.tree d name n)) new is
+      (stays-with_entry s.tree whole.tree.well_formed d name n (fine_name.directory, fine_name.appears) (free_name free) fine_name.name there plain)
       (alike-with s.tree d name n fine_name.directory)
 
-  -- a name less
+  -- the names after a name is removed
   pub names_left : (n : ℕ) → node_of place ≡ Some n → entries_at s.tree n ≡ [] → (new : State)
-      → new ≡ trim (with_tree s (without_entry s.tree d name)) → AlikeBut d name (find_entry s.tree) (find_entry new.tree)
+      → new ≡ collect (with_tree s (without_entry s.tree d name)) → AlikeBut d name (find_entry s.tree) (find_entry new.tree)
   names_left n there bare new is =
-      but_trim d name s (with_tree s (without_entry s.tree d name)) new is
+      but_collect d name s (with_tree s (without_entry s.tree d name)) new is
       (stays-without_entry s.tree whole.tree.well_formed d name n (fine_name.found ∙ there) bare)
       (alike-without s.tree d name fine_name.directory)

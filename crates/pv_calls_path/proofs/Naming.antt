@@ -1,30 +1,30 @@
--- What directories have under names after a system call: the lookup is told of what changed.
+-- The names in directories after a system call, and what the lookup must forget.
 use Rattle.std.proofs.Common.{◌≡◌, ◌∙◌, ℕ, Option, None, Some, refl, ap, sym, subst}
-use Rattle.pv_laws_states.specs.States.{IsWhole}
-use Rattle.pv_laws_states.proofs.Trim.{held_after, tree-trim}
+use Rattle.pv_laws_states.specs.States.{IsValid}
+use Rattle.pv_laws_states.proofs.Collect.{held_after, tree-collect}
 use Rattle.pv_model.specs.Answer.{update, update_live}
 use Rattle.pv_model.specs.Bytes.{Bytes}
-use Rattle.pv_model.specs.Held.{trim}
+use Rattle.pv_model.specs.Held.{collect}
 use Rattle.pv_model.specs.State.{Process, State, process_at}
 use Rattle.pv_model.specs.Tree.{Tree, find_entry, IsWellFormed}
 use Rattle.pv_laws_trees.specs.Found.{Alike, AlikeBut}
-use Rattle.pv_laws_trees.proofs.Found.{alike-then, alike-kept}
+use Rattle.pv_laws_trees.proofs.Found.{alike-then, alike-preserved}
 
--- trimmed states have the same names
-pub alike_trim : (u new : State) → new ≡ trim u → IsWellFormed u.tree → Alike (find_entry u.tree) (find_entry new.tree)
-alike_trim u new is w d name =
-    ap (λ (x : State). find_entry x.tree d name) is ∙ ap (λ (t : Tree). find_entry t d name) (tree-trim u) ∙ alike-kept u.tree w (held_after u) d name
+-- collection keeps the names
+pub alike_collect : (u new : State) → new ≡ collect u → IsWellFormed u.tree → Alike (find_entry u.tree) (find_entry new.tree)
+alike_collect u new is w d name =
+    ap (λ (x : State). find_entry x.tree d name) is ∙ ap (λ (t : Tree). find_entry t d name) (tree-collect u) ∙ alike-preserved u.tree w (held_after u) d name
 
-pub but_trim : (d : ℕ) (name : Bytes) (s u new : State) → new ≡ trim u → IsWellFormed u.tree → AlikeBut d name (find_entry s.tree) (find_entry u.tree)
+pub but_collect : (d : ℕ) (name : Bytes) (s u new : State) → new ≡ collect u → IsWellFormed u.tree → AlikeBut d name (find_entry s.tree) (find_entry u.tree)
     → AlikeBut d name (find_entry s.tree) (find_entry new.tree)
-but_trim d name s u new is w changed = alike-then d name (find_entry s.tree) (find_entry u.tree) (find_entry new.tree) changed (alike_trim u new is w)
+but_collect d name s u new is w changed = alike-then d name (find_entry s.tree) (find_entry u.tree) (find_entry new.tree) changed (alike_collect u new is w)
 
 pub update_tree : (s : State) (pid : ℕ) (f : Process → Process) (o : Option Process) → (update_live s pid f o).tree ≡ s.tree
 update_tree s pid f None = refl
 update_tree s pid f (Some p) = refl
 
--- where a process alone changes, and what goes by that, names stay
-pub alike_update : (s : State) → IsWhole s → (pid : ℕ) (f : Process → Process) (new : State) → new ≡ trim (update s pid f) → Alike (find_entry s.tree) (find_entry new.tree)
+-- a change of one process keeps the names
+pub alike_update : (s : State) → IsValid s → (pid : ℕ) (f : Process → Process) (new : State) → new ≡ collect (update s pid f) → Alike (find_entry s.tree) (find_entry new.tree)
 alike_update s whole pid f new is d name =
     let same : (update s pid f).tree ≡ s.tree = update_tree s pid f (process_at s pid) in
-    alike_trim (update s pid f) new is (subst IsWellFormed (sym same) whole.tree.well_formed) d name ∙ ap (λ (t : Tree). find_entry t d name) same
+    alike_collect (update s pid f) new is (subst IsWellFormed (sym same) whole.tree.well_formed) d name ∙ ap (λ (t : Tree). find_entry t d name) same

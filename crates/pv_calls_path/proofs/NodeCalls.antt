@@ -1,4 +1,4 @@
--- Calls that go on with the node at the end of a walk: chdir(2) and execve(2).
+-- Calls that continue with the node at the end of a walk: chdir(2) and execve(2).
 use Rattle.std.proofs.Common.{◌≡◌, ◌∙◌, ℕ, Bool, true, false, not, Option, None, Some, Result, Err, option_map, refl, ap, subst}
 use Rattle.pv_calls_path.specs.Execve.{bytes_to_load}
 use Rattle.pv_calls_path.specs.Reached.{IsFound, IsReached}
@@ -25,14 +25,14 @@ use Rattle.pv_calls_state.specs.Changes.{with_directory}
 use Rattle.pv_script.specs.Reading.{RefusesProgram}
 use Rattle.pv_calls_state.proofs.Attempts.{given, passed, refused_before, refused_first}
 
--- a walk reaches a place, and a node is there
+-- a walk reaches a place at which a node exists
 pub found_there : (s : State) (me : Process) (start : ℕ) (w : Walk) (place : Place) (n : ℕ) → IsReached s me start w place → node_of place ≡ Some n → IsFound s me start w n
 found_there s me start w place n is there rest =
     reached_then s me start w place is (λ place. demand ENOENT (node_of place) >>= rest)
     ∙ ap (after_walks 1) (given (demand ENOENT (node_of place)) n rest (ap (demand ENOENT) there))
 
 module _ (s : State) (pid : ℕ) (me : Process) (path : Bytes) (n : ℕ) (found : IsFound s me me.directory (chdir_walk path) n) where
-  -- what chdir does with the node that it finds
+  -- the computation of chdir on the node that it finds
   chdir_rest : ℕ → Attempt Effect
   chdir_rest n = refuse_if ENOTDIR (not (is_directory_at s.tree n)) >> answers (with_process s pid (with_directory n me)) 0
 
@@ -49,13 +49,13 @@ module _ (s : State) (pid : ℕ) (me : Process) (path : Bytes) (n : ℕ) (found 
       found chdir_rest
       ∙ ap (after_walks 1) (passed (refuse_if ENOTDIR (not (is_directory_at s.tree n))) tt (answers (with_process s pid (with_directory n me)) 0) (ap (λ b. refuse_if ENOTDIR (not b)) directory))
 
--- what is no executable file has no bytes to execute, and one has its own
+-- a node that is not an executable file has no bytes to execute; an executable file has its content
 pub no_bytes : (o : Option Node) (k : Kind) (differs : Bool) → option_map sort_of o ≡ Some k → (k ≡ Executable → differs ≡ false) → differs ≡ true → executable_bytes o ≡ None
-no_bytes None k differs is same told = refl
-no_bytes (Some (directory_node entries)) k differs is same told = refl
-no_bytes (Some (file_node false bytes)) k differs is same told = refl
-no_bytes (Some (file_node true bytes)) k differs is same told = let executable : k ≡ Executable = cc in let no = same executable in cc
-no_bytes (Some (link_node text)) k differs is same told = refl
+no_bytes None k differs is same reported = refl
+no_bytes (Some (directory_node entries)) k differs is same reported = refl
+no_bytes (Some (file_node false bytes)) k differs is same reported = refl
+no_bytes (Some (file_node true bytes)) k differs is same reported = let executable : k ≡ Executable = cc in let no = same executable in cc
+no_bytes (Some (link_node text)) k differs is same reported = refl
 
 pub own_bytes : (o : Option Node) (k : Kind) → option_map sort_of o ≡ Some k → k ≡ Executable → executable_bytes o ≡ Some (bytes_of o)
 own_bytes None k is executable = cc
@@ -69,12 +69,12 @@ pub leads_to : (s : State) (me : Process) (path : Bytes) (place : Place) (n : �
     → executable_bytes (node_at s.tree n) ≡ Some bytes → bytes_to_load s me path ≡ done 1 bytes
 leads_to s me path place n bytes is there has = rw (is.walked, is.judged, there, has) refl
 
--- a fault of a line is a program's, so there is none
+-- an error in a line is an error of the program, so the bytes do not parse
 pub unspelled : (fault : ParseFault) (line : ℕ) (what : What) (read : Result Program ParseFault) → fault ≡ Line line what → RefusesProgram fault read → read ≡ Err (Line line what)
 unspelled fault line what read is refuses = subst (λ (f : ParseFault). RefusesProgram f read) is refuses
 
 module _ (s : State) (pid : ℕ) (me : Process) (path : Bytes) (n : ℕ) (found : IsFound s me me.directory (execve_walk path) n) where
-  -- what execve does with the bytes of an executable file, and with the node that it finds
+  -- the computation of execve on the bytes of an executable file, and on the node that it finds
   load_rest : Bytes → Attempt Effect
   load_rest bytes = demand ENOEXEC (program_of bytes) >>= (λ program. answers (with_process s pid (with_program s pid me program)) 0)
 
@@ -96,4 +96,4 @@ module _ (s : State) (pid : ℕ) (me : Process) (path : Bytes) (n : ℕ) (found 
 
     pub execve_goes : (program : Program) → program_of bytes ≡ Some program → execve s pid me program_of path ≡ done 1 (with_process s pid (with_program s pid me program), returns 0)
     unfolding load_rest
-    execve_goes program spelled = loads ∙ ap (after_walks 1) (given (demand ENOEXEC (program_of bytes)) program _ (ap (demand ENOEXEC) spelled))
+    execve_goes program encoded = loads ∙ ap (after_walks 1) (given (demand ENOEXEC (program_of bytes)) program _ (ap (demand ENOEXEC) encoded))

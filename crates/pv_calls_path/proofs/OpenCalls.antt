@@ -1,4 +1,4 @@
--- Calls of open(2) and openat(2).
+-- open(2) and openat(2).
 use Rattle.std.proofs.Common.{◌≡◌, ◌∙◌, ℕ, ◌<◌, Bool, true, false, not, ◌&&◌, ◌||◌, if◌then◌else◌, nat_le, [], length, Option, None, Some, is_some, refl, sym, ap, subst, arith}
 use Rattle.std.specs.Prelude.{IsTrue}
 use Rattle.std.proofs.lemmas.Bool.{lt-leb}
@@ -11,16 +11,16 @@ use Rattle.pv_calls_state.proofs.Attempts.{passed, refused_before}
 use Rattle.pv_calls_plain.proofs.Room.{crowded}
 use Rattle.pv_calls_path.proofs.Reaching.{reached_then}
 use Rattle.pv_calls_path.proofs.NameCalls.{fine_name}
-use Rattle.pv_calls_path.proofs.Naming.{alike_trim, but_trim}
+use Rattle.pv_calls_path.proofs.Naming.{alike_collect, but_collect}
 use Rattle.pv_inodes.specs.declared.space.Space.{Space}
 use Rattle.pv_procs.specs.declared.record.ProcessRecord.{ProcessRecord}
 use Rattle.pv_procs.specs.Parts.{record_of}
 use Rattle.pv_tree.specs.Rooms.{refusal}
-use Rattle.pv_laws_states.specs.States.{IsWhole, IsFinePlace}
+use Rattle.pv_laws_states.specs.States.{IsValid, IsFinePlace}
 use Rattle.pv_laws_states.proofs.ByOpen.{held-more}
 use Rattle.pv_laws_states.proofs.Grown.{new-below}
-use Rattle.pv_laws_states.proofs.Standing.{my-placed}
-use Rattle.pv_laws_states.proofs.Trim.{held_after, tree-trim}
+use Rattle.pv_laws_states.proofs.Present.{my-placed}
+use Rattle.pv_laws_states.proofs.Collect.{held_after, tree-collect}
 use Rattle.pv_model.specs.declared.call.Start.{Start}
 use Rattle.pv_model.specs.declared.errno.Errno.{Errno}
 use Rattle.pv_model.specs.declared.errno.Errno.TheVariants.{EINVAL, EMFILE, ENFILE}
@@ -31,7 +31,7 @@ use Rattle.pv_model.specs.Attempt.{refused, refuse_if, after_walks, give, ◌>>=
 use Rattle.pv_model.specs.Bytes.{Bytes}
 use Rattle.pv_model.specs.Calls.Descriptors.{check_start, contradicts, open_at, with_content}
 use Rattle.pv_model.specs.Effect.{node_of, name_of, start_directory, walk_from, judge_for}
-use Rattle.pv_model.specs.Held.{trim}
+use Rattle.pv_model.specs.Held.{collect}
 use Rattle.pv_model.specs.Needs.{permissions_of_open}
 use Rattle.pv_model.specs.Numbered.{Numbered, least_free}
 use Rattle.pv_model.specs.Room.{fits}
@@ -56,7 +56,7 @@ no_directory false true c d is makes = cc
 no_directory false false true d is makes = is
 no_directory false false false d is makes = cc
 
--- fewer than the limit are used
+-- fewer descriptors than the limit are used
 pub few_descriptors : (me : Process) (r : ProcessRecord) → record_of me ≡ r → (room : Bool) → (IsTrue room → least_free r.descriptors < 16) → room ≡ true → nat_le 16 (least_free me.descriptors) ≡ false
 few_descriptors me r is room says has =
     let low : least_free r.descriptors < 16 = says has in
@@ -69,9 +69,9 @@ few_files n room says has = lt-leb 128 n (says has)
 pub low_files : (fs gs : Numbered OpenFile) → gs ≡ fs → least_free gs < 128 → least_free fs < 128
 low_files fs gs is low = subst (λ (x : Numbered OpenFile). least_free x < 128) is low
 
--- a file that has no room
+-- a new file without room
 pub create_crowded : (s : State) (pid : ℕ) (me : Process) (f : OpenFlags) → contradicts f ≡ false → not f.create ≡ false → (place : Place) → node_of place ≡ None
-    → (d : ℕ) (name : Bytes) → name_of place ≡ Some (d, name) → (why : Space) → refusal (trim (with_file_made s pid me f d name)).tree ≡ Some why
+    → (d : ℕ) (name : Bytes) → name_of place ≡ Some (d, name) → (why : Space) → refusal (collect (with_file_made s pid me f d name)).tree ≡ Some why
     → after_walks 1 (open_place s pid me f place) ≡ refused 1 (space_errno why) Plain
 create_crowded s pid me f fine unless place absent d name named why is =
     let makes : f.create ≡ true = made f.create unless in
@@ -113,21 +113,21 @@ cut_found : (t : Tree) → IsWellFormed t → (n : ℕ) (b : Bool) → IsWellFor
 cut_found t w n true = (stays-content t w n [], alike-content t n [])
 cut_found t w n false = (w, λ d q. refl)
 
--- an open of what is there leaves them
-pub alike_opened : (s : State) → IsWhole s → (pid : ℕ) (me : Process) (f : OpenFlags) (n : ℕ) (new : State) → new ≡ trim (with_node_opened s pid me f n)
+-- opening an existing node keeps the names
+pub alike_opened : (s : State) → IsValid s → (pid : ℕ) (me : Process) (f : OpenFlags) (n : ℕ) (new : State) → new ≡ collect (with_node_opened s pid me f n)
     → Alike (find_entry s.tree) (find_entry new.tree)
 alike_opened s whole pid me f n new is d q =
     let cut = cut_found s.tree whole.tree.well_formed n f.truncate in
-    alike_trim (with_node_opened s pid me f n) new is cut.0 d q ∙ cut.1 d q
+    alike_collect (with_node_opened s pid me f n) new is cut.0 d q ∙ cut.1 d q
 
 no_number : (o : Option ℕ) → is_some o ≡ false → o ≡ None
 no_number None is = refl
 no_number (Some n) is = cc
 
--- and one that makes a file changes one
-pub names_opened : (s : State) (whole : IsWhole s) (place : Place) (fine : IsFinePlace s.tree place) (d : ℕ) (name : Bytes) → name_of place ≡ Some (d, name) → node_of place ≡ None
+-- opening a new file changes one name
+pub names_opened : (s : State) (whole : IsValid s) (place : Place) (fine : IsFinePlace s.tree place) (d : ℕ) (name : Bytes) → name_of place ≡ Some (d, name) → node_of place ≡ None
     → (pid : ℕ) (me : Process) → process_at s pid ≡ Some me → (f : OpenFlags) → least_free me.descriptors < 16 → least_free s.files < 128 → (new : State)
-    → new ≡ trim (with_file_made s pid me f d name) → fits new.tree ≡ true → AlikeBut d name (find_entry s.tree) (find_entry new.tree)
+    → new ≡ collect (with_file_made s pid me f d name) → fits new.tree ≡ true → AlikeBut d name (find_entry s.tree) (find_entry new.tree)
 names_opened s whole place fine d name named absent pid me at f few few_files new is fit =
     let u : State = with_file_made s pid me f d name in
     let t : Tree = with_new_node s.tree d name (file_node false []) in
@@ -136,7 +136,7 @@ names_opened s whole place fine d name named absent pid me at f few few_files ne
     let room_file : least_free s.files < length s.files = omega (arith, whole.files.count) in
     let room_descriptor : least_free me.descriptors < length me.descriptors = omega (arith, (my-placed s pid me whole at).descriptors) in
     let below = new-below s whole d name (file_node false []) (held_after u) good.directory free refl (held-more s pid me whole at f (new_number s.tree) t room_file room_descriptor)
-    (ap fits (sym (tree-trim u)) ∙ ap (λ (x : State). fits x.tree) (sym is) ∙ fit) in
-    but_trim d name s u new is
-    (stays-new_node s.tree whole.tree.well_formed d name (file_node false []) (good.directory, good.stands) free good.name refl refl (omega (arith, whole.tree.well_formed.numbers)))
+    (ap fits (sym (tree-collect u)) ∙ ap (λ (x : State). fits x.tree) (sym is) ∙ fit) in
+    but_collect d name s u new is
+    (stays-new_node s.tree whole.tree.well_formed d name (file_node false []) (good.directory, good.appears) free good.name refl refl (omega (arith, whole.tree.well_formed.numbers)))
     (alike-new s.tree d name (file_node false []) good.directory free refl (omega arith))

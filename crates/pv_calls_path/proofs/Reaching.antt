@@ -1,10 +1,10 @@
--- A walk with its judgement, as the parts make it.
+-- A walk with its unveil check, as the code makes it.
 use Rattle.std.proofs.Common.{◌≡◌, ◌∙◌, ℕ, true, if◌then◌else◌, nat_le, nat_lt, [], ◌∷◌, length, Option, Some, Ok, Err, option_map, refl, sym, ap, arith, subst}
 use Rattle.std.proofs.lemmas.Bool.Decides.{nat_tests}
 use Rattle.pv_calls_path.specs.Reached.{IsFound, IsMissed, IsMissedByBoth, IsReached, IsStopped}
 use Rattle.pv_calls_plain.specs.declared.answer.Refused.{Refused}
-use Rattle.pv_laws_states.specs.States.{IsWhole, is_text, IsFinePlace}
-use Rattle.pv_laws_states.proofs.Standing.{resolve-fine}
+use Rattle.pv_laws_states.specs.States.{IsValid, is_text, IsFinePlace}
+use Rattle.pv_laws_states.proofs.Present.{resolve-fine}
 use Rattle.pv_model.specs.declared.errno.Errno.{Errno}
 use Rattle.pv_model.specs.declared.errno.Errno.TheVariants.{ENAMETOOLONG}
 use Rattle.pv_model.specs.declared.follow.Follow.{Follow}
@@ -30,17 +30,17 @@ use Rattle.pv_unveil.specs.Up.{directory_of}
 short : (n : ℕ) (rest : Walked) (place : Place) → (if nat_lt 1023 n then Err ENAMETOOLONG else rest) ≡ Ok place → nat_le n 1023 ≡ true
 short n rest place = grind (arith, nat_tests)
 
--- a walk that leads somewhere was begun
+-- a walk that ends at a place was begun
 pub begun : (t : Tree) (follow : Follow) (start : ℕ) (path : Bytes) (place : Place) → resolve t follow start path ≡ Ok place → begins_walk path ≡ true
 unfolding resolve
 begun t follow start [] place found = cc
 begun t follow start (b ∷ bs) place found = short (length (b ∷ bs)) _ place found
 
--- what a live process owns is of that process
+-- the record of a live process
 pub recorded : (o : Option Process) (me : Process) (r : ProcessRecord) → o ≡ Some me → option_map record_of o ≡ Some r → record_of me ≡ r
 recorded o me r at is = let e = rw at at is in cc
 
--- what its table says
+-- the decision of its table
 pub judged_as : (s : State) (pid : ℕ) (me : Process) → process_at s pid ≡ Some me → (r : ProcessRecord) → option_map record_of (process_at s pid) ≡ Some r
     → (t : Tree) → t ≡ s.tree → (place : Place) (needed : Perms) (j : Judgement) → j ≡ judgement t r.unveiled.table place needed → judgement s.tree me.table place needed ≡ j
 judged_as s pid me at r is t same place needed j said =
@@ -60,8 +60,8 @@ module _ (s : State) (start : ℕ) (follow : Follow) (path : Bytes) where
       → (next : Place → Attempt Effect) → (walk_from s start follow path >>= next) ≡ refused walks e Plain
   walk_refused walks e begins found next = rw (found, sym begins) refl
 
-  -- the place is good
-  pub found_fine : IsWhole s → is_directory_at s.tree start ≡ true → is_text path ≡ true → (place : Place) → resolve s.tree follow start path ≡ Ok place → IsFinePlace s.tree place
+  -- the place is valid
+  pub found_fine : IsValid s → is_directory_at s.tree start ≡ true → is_text path ≡ true → (place : Place) → resolve s.tree follow start path ≡ Ok place → IsFinePlace s.tree place
   found_fine whole directory text place found = resolve-fine s.tree whole.tree follow start path place directory text found
 
 -- the table refuses the place
@@ -70,12 +70,12 @@ pub judged_stop : (s : State) (me : Process) (start : ℕ) (w : Walk) (place : P
     → judgement_or_refusal j ≡ refused 0 e cause → IsStopped s me start w (record { walks = 1; errno = e; cause = cause })
 judged_stop s me start w place j e cause walked judged refuses rest = rw (walked, judged, refuses) refl
 
--- after a walk that leads somewhere there is the rest, one walk later
+-- after a successful walk the rest follows, one walk later
 pub reached_then : (s : State) (me : Process) (start : ℕ) (w : Walk) (place : Place) → IsReached s me start w place → (rest : Place → Attempt Effect)
     → (walk_from s start w.follow w.path >>= (λ place. judge_for s me place w.needed >> rest place)) ≡ after_walks 1 (rest place)
 reached_then s me start w place is rest = rw (is.walked, is.judged) (ap (after_walks 1) (after_none (rest place)))
 
--- ---- what is so of a walk is so of one that is the same
+-- ---- facts about a walk carry over to an equal one
 
 pub reached-as : (s : State) (me : Process) (start : ℕ) {w v : Walk} → w ≡ v → (place : Place) → IsReached s me start w place → IsReached s me start v place
 reached-as s me start same place is = subst (λ x. IsReached s me start x place) same is

@@ -1,15 +1,15 @@
--- rename(2): what its tests say, and what directories have under names after it.
+-- rename(2): its checks, and the names in directories after it.
 use Rattle.std.proofs.Common.{◌≡◌, ◌≢◌, ◌∙◌, ℕ, Bool, true, false, not, ◌||◌, ◌==◌, [], ◌∷◌, List, Option, None, Some, refl, sym, ap, arith}
 use Rattle.pv_calls_plain.specs.Space.{space_errno}
 use Rattle.pv_calls_path.specs.Moving.{check_move}
 use Rattle.pv_calls_plain.specs.declared.answer.Refused.{Refused}
 use Rattle.pv_calls_path.specs.Reached.{IsMissedByBoth, IsReached}
-use Rattle.pv_calls_state.specs.Attempts.{trimmed}
+use Rattle.pv_calls_state.specs.Attempts.{collected}
 use Rattle.pv_calls_state.proofs.Attempts.{after_none, passed}
 use Rattle.pv_calls_plain.proofs.Room.{crowded}
-use Rattle.pv_calls_path.proofs.Naming.{alike_trim}
+use Rattle.pv_calls_path.proofs.Naming.{alike_collect}
 use Rattle.pv_inodes.specs.declared.space.Space.{Space}
-use Rattle.pv_laws_states.specs.States.{IsWhole}
+use Rattle.pv_laws_states.specs.States.{IsValid}
 use Rattle.pv_model.specs.declared.errno.Errno.{Errno}
 use Rattle.pv_model.specs.declared.errno.Errno.TheVariants.{ENOTDIR, EISDIR, EINVAL, ENOTEMPTY}
 use Rattle.pv_model.specs.declared.outcome.Cause.TheVariants.{Plain}
@@ -18,7 +18,7 @@ use Rattle.pv_model.specs.Attempt.{Attempt, done, refused, give, refuse_if, ◌>
 use Rattle.pv_model.specs.Bytes.{Bytes, is_empty}
 use Rattle.pv_model.specs.Calls.Paths.{contains_directory, entries_there, same_node, ends_in_dot, move_entry, rename}
 use Rattle.pv_model.specs.Effect.{Effect, answers, returns, with_room, node_of, name_of}
-use Rattle.pv_model.specs.Held.{trim}
+use Rattle.pv_model.specs.Held.{collect}
 use Rattle.pv_model.specs.Walks.{rename_walk}
 use Rattle.pv_model.specs.Room.{fits, is_too_long}
 use Rattle.pv_model.specs.State.{Process, State, with_tree}
@@ -26,11 +26,11 @@ use Rattle.pv_model.specs.Tree.{Tree, is_directory_at, find_entry, is_name, with
 use Rattle.pv_tree.specs.Changes.{moved, moved_node}
 use Rattle.pv_tree.specs.Rooms.{refusal}
 use Rattle.pv_laws_trees.specs.Found.{AlikeButTwo}
-use Rattle.pv_laws_trees.specs.Tree.{Stands}
+use Rattle.pv_laws_trees.specs.Tree.{Appears}
 use Rattle.pv_laws_trees.proofs.Edits.{stays-renamed}
 use Rattle.pv_laws_trees.proofs.Found.{alike-then, alike-moved}
 
--- ---- the four tests
+-- ---- the four checks
 
 abbrev tests : (a b c d : Bool) → Attempt (Unit {0})
 tests a b c d = refuse_if EINVAL a >> (refuse_if EISDIR b >> (refuse_if ENOTDIR c >> refuse_if ENOTEMPTY d))
@@ -70,7 +70,7 @@ nothing_in : {X : Type 0} (xs : List X) → not (is_empty xs) ≡ false → xs �
 nothing_in [] is = refl
 nothing_in (x ∷ xs) is = cc
 
--- what passes the tests would not come into itself, and takes the place of nothing that has entries
+-- a move that passes the checks does not put a directory into itself, and replaces no directory with entries
 pub move_clear : (t : Tree) (n e : ℕ) (there : Option ℕ) → check_move t n e there ≡ give tt → contains_directory t n e ≡ false
 move_clear t n e there is = clear_first _ _ _ _ is
 
@@ -80,12 +80,12 @@ move_empty t n e there is = nothing_in (entries_there t there) (clear_last _ _ _
 same_is : (n : ℕ) → (n == n) ≡ true
 same_is n = grind (arith)
 
--- two nodes that are not the same
+-- two different nodes
 pub apart_from : (o : Option ℕ) (n : ℕ) → same_node o n ≡ false → o ≢ Some n
 apart_from None n is same = cc
 apart_from (Some m) n is same = let equal : m ≡ n = cc same in let one = same_is n in let other : (n == n) ≡ false = ap (λ k. k == n) (sym equal) ∙ is in cc
 
--- ---- the system call after both walks
+-- ---- the call after both walks
 
 module _ (s : State) (pid : ℕ) (me : Process) (n d : ℕ) (name : Bytes) (e : ℕ) (new : Bytes) (there : Option ℕ) where
   pub move_refused : (errno : Errno) → check_move s.tree n e there ≡ refused 0 errno Plain → move_entry s pid me n d name e new there ≡ refused 0 errno Plain
@@ -96,10 +96,10 @@ module _ (s : State) (pid : ℕ) (me : Process) (n d : ℕ) (name : Bytes) (e : 
   move_goes is = then_given _ _ _ _ _ is
 
   pub move_crowded : (why : Space) → check_move s.tree n e there ≡ give tt → find_entry s.tree d name ≡ Some n
-      → refusal (trim (with_tree s (moved s.tree d name e new))).tree ≡ Some why → move_entry s pid me n d name e new there ≡ refused 0 (space_errno why) Plain
+      → refusal (collect (with_tree s (moved s.tree d name e new))).tree ≡ Some why → move_entry s pid me n d name e new there ≡ refused 0 (space_errno why) Plain
   move_crowded why is found full_after =
       let u : State = with_tree s (with_entry (without_entry s.tree d name) e new n) in
-      let full : refusal (trim u).tree ≡ Some why = ap (λ o. refusal (trim (with_tree s (moved_node s.tree d name e new o))).tree) (sym found) ∙ full_after in
+      let full : refusal (collect u).tree ≡ Some why = ap (λ o. refusal (collect (with_tree s (moved_node s.tree d name e new o))).tree) (sym found) ∙ full_after in
       move_goes is ∙ rw (crowded u why full) refl
 
 module _ (s : State) (pid : ℕ) (me : Process) (path new : Bytes) (fine : ends_in_dot path ≡ false) (other_fine : ends_in_dot new ≡ false) where
@@ -117,33 +117,33 @@ module _ (s : State) (pid : ℕ) (me : Process) (path new : Bytes) (fine : ends_
   rename_refused errno is =
       rw (fine, other_fine, first.walked, first.judged, second.walked, second.judged, there, named, new_named, differs, is) refl
 
-  -- after the tests, where the tree has room
-  pub rename_goes : (after : State) → check_move s.tree n e (node_of other) ≡ give tt → find_entry s.tree d name ≡ Some n → after ≡ trim (with_tree s (moved s.tree d name e new_name))
-      → is_too_long after.tree ≡ false → fits after.tree ≡ true → trimmed (rename s pid me path new) ≡ done 2 (after, returns 0)
+  -- a move that passes the checks and has room
+  pub rename_goes : (after : State) → check_move s.tree n e (node_of other) ≡ give tt → find_entry s.tree d name ≡ Some n → after ≡ collect (with_tree s (moved s.tree d name e new_name))
+      → is_too_long after.tree ≡ false → fits after.tree ≡ true → collected (rename s pid me path new) ≡ done 2 (after, returns 0)
   rename_goes after is found left short_after roomy_after =
       let u : State = with_tree s (with_entry (without_entry s.tree d name) e new_name n) in
-      let same : after ≡ trim u = left ∙ ap (λ o. trim (with_tree s (moved_node s.tree d name e new_name o))) found in
-      let short : is_too_long (trim u).tree ≡ false = ap (λ (x : State). is_too_long x.tree) (sym same) ∙ short_after in
-      let roomy : fits (trim u).tree ≡ true = ap (λ (x : State). fits x.tree) (sym same) ∙ roomy_after in
+      let same : after ≡ collect u = left ∙ ap (λ o. collect (with_tree s (moved_node s.tree d name e new_name o))) found in
+      let short : is_too_long (collect u).tree ≡ false = ap (λ (x : State). is_too_long x.tree) (sym same) ∙ short_after in
+      let roomy : fits (collect u).tree ≡ true = ap (λ (x : State). fits x.tree) (sym same) ∙ roomy_after in
       let goes : move_entry s pid me n d name e new_name (node_of other) ≡ give (u, returns 0) = move_goes s pid me n d name e new_name (node_of other) is ∙ rw (short, roomy) refl in
-      ap trimmed
+      ap collected
       (let performed : rename s pid me path new ≡ done 2 (u, returns 0) = rw (fine, other_fine, first.walked, first.judged, second.walked, second.judged, there, named, new_named, differs, goes) refl in performed)
       ∙ ap (λ (x : State). done 2 (x, returns 0)) (sym same)
 
 -- ---- names
 
--- what directories have under names after a move
-pub names_moved : (s : State) → IsWhole s → (d : ℕ) (name : Bytes) (e : ℕ) (new : Bytes) (n : ℕ) → is_directory_at s.tree d ≡ true → find_entry s.tree d name ≡ Some n
-    → Stands s.tree e → is_name s.tree.version new ≡ true → contains_directory s.tree n e ≡ false → find_entry s.tree e new ≢ Some n
-    → entries_there s.tree (find_entry s.tree e new) ≡ [] → (after : State) → after ≡ trim (with_tree s (moved s.tree d name e new))
+-- the names in directories after a move
+pub names_moved : (s : State) → IsValid s → (d : ℕ) (name : Bytes) (e : ℕ) (new : Bytes) (n : ℕ) → is_directory_at s.tree d ≡ true → find_entry s.tree d name ≡ Some n
+    → Appears s.tree e → is_name s.tree.version new ≡ true → contains_directory s.tree n e ≡ false → find_entry s.tree e new ≢ Some n
+    → entries_there s.tree (find_entry s.tree e new) ≡ [] → (after : State) → after ≡ collect (with_tree s (moved s.tree d name e new))
     → AlikeButTwo d name e new (find_entry s.tree) (find_entry after.tree)
-names_moved s whole d name e new n from found stands good clear apart empty after left =
+names_moved s whole d name e new n from found appears good clear apart empty after left =
     let u : State = with_tree s (with_entry (without_entry s.tree d name) e new n) in
-    let same : after ≡ trim u = left ∙ ap (λ o. trim (with_tree s (moved_node s.tree d name e new o))) found in
+    let same : after ≡ collect u = left ∙ ap (λ o. collect (with_tree s (moved_node s.tree d name e new o))) found in
     let wf = whole.tree.well_formed in
-    let both = alike-moved s.tree wf d name e new n from stands.0 in (
+    let both = alike-moved s.tree wf d name e new n from appears.0 in (
       both.0,
       both.1,
       alike-then e new both.0 (find_entry u.tree) (find_entry after.tree) both.2
-          (alike_trim u after same (stays-renamed s.tree wf d name e new n found stands good clear apart empty)),
+          (alike_collect u after same (stays-renamed s.tree wf d name e new n found appears good clear apart empty)),
     )

@@ -1,4 +1,4 @@
--- The system call of unveil(2), for a path with permissions.
+-- unveil(2) of a path with permissions.
 use Rattle.std.proofs.Common.{◌≡◌, ◌∙◌, ℕ, true, false, Option, Some, None, is_some, option_map, refl, sym, ap, subst}
 use Rattle.std.proofs.lemmas.Bool.{and_parts}
 use Rattle.pv_calls_state.specs.Changes.{unveiled_of, with_table}
@@ -7,7 +7,7 @@ use Rattle.pv_calls_path.specs.Reached.{IsLost}
 use Rattle.pv_calls_plain.specs.declared.answer.Refused.{Refused}
 use Rattle.pv_calls_path.proofs.Reaching.{recorded}
 use Rattle.pv_laws_states.specs.States.{IsFinePlace, is_target}
-use Rattle.pv_laws_states.proofs.Standing.{target-fine}
+use Rattle.pv_laws_states.proofs.Present.{target-fine}
 use Rattle.pv_model.specs.declared.errno.Errno.{Errno}
 use Rattle.pv_model.specs.declared.follow.Follow.TheVariants.{Last}
 use Rattle.pv_model.specs.declared.outcome.Cause.{Cause}
@@ -35,12 +35,12 @@ target_there : (t : Tree) (target : Target) → is_target t target ≡ true → 
 target_there t (Directory d) is = directory_there (node_at t d) is
 target_there t (Name d name) is = directory_there (node_at t d) (and_parts (is_directory_at t d) _ is).0
 
--- what an entry is for is there
+-- the target of an entry exists
 pub place_target : (t : Tree) (place : Place) → IsFinePlace t place → is_some (node_at t (target_directory (target_of t place))) ≡ true
 place_target t place fine = target_there t (target_of t place) (target-fine t place fine)
 
 module _ (s : State) (pid : ℕ) (me : Process) (at : process_at s pid ≡ Some me) (r : ProcessRecord) (is : option_map record_of (process_at s pid) ≡ Some r) where
-  -- a walk from where the process works
+  -- a walk from the working directory
   pub walked_by : (path : Bytes) (place : Place) → walk_from s r.directory Last path ≡ done 1 place → walk_from s me.directory Last path ≡ done 1 place
   walked_by path place walked = ap (λ (x : ProcessRecord). walk_from s x.directory Last path) (recorded (process_at s pid) me r at is) ∙ walked
 
@@ -57,7 +57,7 @@ unveil_lost s pid me path text permissions read unlocked why lost = rw (read, un
 
 module _ (s : State) (pid : ℕ) (me : Process) (path text : Bytes) (permissions : Perms) (read : read_permissions text ≡ Some permissions) (unlocked : me.locked ≡ false)
     (place : Place) (walked : walk_from s me.directory Last path ≡ done 1 place) where
-  -- under no lock an entry is added, or refused, as the target and the permissions say
+  -- if the table is not locked, the target and the permissions decide whether an entry is added
   added_to : (a : Attempt Table) → add_to (unveiled_of me) (target_of s.tree place) permissions ≡ a → put_in (entries_of_table me.table) (target_of s.tree place) permissions ≡ a
   added_to a is = sym (after_none (put_in (entries_of_table me.table) (target_of s.tree place) permissions)) ∙ rw unlocked at is
 
@@ -69,6 +69,6 @@ module _ (s : State) (pid : ℕ) (me : Process) (path text : Bytes) (permissions
       → unveil s pid me (Some path) (Some text) ≡ done 1 (with_process s pid (with_table table me), returns 0)
   unveil_added table is = rw (read, unlocked, walked, added_to (give table) is) refl
 
--- what it leaves is the same state
+-- the same result with an equal state
 pub leaves : (a : Attempt Effect) (x y : State) → a ≡ done 1 (x, returns 0) → x ≡ y → a ≡ done 1 (y, returns 0)
 leaves a x y is same = subst (λ (z : State). a ≡ done 1 (z, returns 0)) same is

@@ -1,4 +1,4 @@
--- Where the walks of a call end.
+-- The ends of a call's walks.
 use Rattle.std.specs.Prelude.{ℕ, Option, None, Some}
 use Rattle.pv_model.specs.declared.place.Place.{Place}
 use Rattle.pv_model.specs.Attempt.{Attempt, done, refused}
@@ -8,13 +8,13 @@ use Rattle.pv_model.specs.State.{Process, State}
 use Rattle.pv_model.specs.Touch.{place_found}
 use Rattle.pv_model.specs.Walks.{Walk}
 
--- a place, where nothing has refused the walk to it
+-- a place, if nothing has refused the walk to it
 abbrev pub if_given : Attempt (Unit {0}) → Option Place → Option Place
 if_given (done walks given) place = place
 if_given (refused walks e cause) place = None
 
 module _ (s : State) (pid : ℕ) (me : Process) where
-  -- the place at which a walk ends, if it is begun: a relative path asks its descriptor for a directory
+  -- the place at which a walk ends, if it is begun: a relative path needs a directory from its descriptor
   abbrev pub end_begun : Walk → Option Place
   end_begun w = if_given (check_start s pid me w.start w.path) (place_found (end_of s me w))
 

@@ -1,4 +1,4 @@
--- What execve(2) comes to in code.
+-- The result of execve(2) in code.
 use Rattle.std.specs.Prelude.{◌≡◌, ℕ, Result, Ok, Err}
 use Rattle.pv_calls_plain.specs.declared.answer.Done.{Done}
 use Rattle.pv_calls_path.specs.declared.execve.ExecveFault.{ExecveFault}
@@ -12,9 +12,9 @@ use Rattle.pv_model.specs.Grammar.Programs.{program_of}
 use Rattle.pv_model.specs.State.{Process, State}
 use Rattle.pv_model.specs.Tree.{node_at}
 use Rattle.pv_model.specs.Walks.{execve_walk}
-use Rattle.pv_calls_state.specs.Attempts.{trimmed}
+use Rattle.pv_calls_state.specs.Attempts.{collected}
 
--- the bytes of the executable file to which an execve of a path leads, where the process's table allows it
+-- the bytes of the executable file at an execve's path, if the table of the process allows it
 abbrev pub bytes_to_load : State → Process → Bytes → Attempt Bytes
 bytes_to_load s me path = do
   place ← walk s me (execve_walk path)
@@ -22,12 +22,13 @@ bytes_to_load s me path = do
   n ← demand ENOENT (node_of place)
   demand EACCES (executable_bytes (node_at s.tree n))
 
--- an execve of a path leads to an executable file, and the process's table allows it
+-- the path of an execve leads to an executable file that the table of the process allows
 abbrev pub LeadsToProgram : State → Process → Bytes → Type 0
 LeadsToProgram s me path = (bytes : Bytes) × (bytes_to_load s me path ≡ done 1 bytes)
 
--- an execve of a path by a live process has come to this, and left the new state; memory is refused only where a program is to be loaded
+-- an execve of a live process has this result and leaves this state; memory can be refused only if there is a program
+-- to load
 abbrev pub Executes : State → ℕ → Process → Bytes → State → Result Done ExecveFault → Type 0
-Executes s pid me path new (Ok d) = trimmed (execve s pid me program_of path) ≡ done d.walks (new, returns d.value)
-Executes s pid me path new (Err (Refused r)) = trimmed (execve s pid me program_of path) ≡ refused r.walks r.errno r.cause
+Executes s pid me path new (Ok d) = collected (execve s pid me program_of path) ≡ done d.walks (new, returns d.value)
+Executes s pid me path new (Err (Refused r)) = collected (execve s pid me program_of path) ≡ refused r.walks r.errno r.cause
 Executes s pid me path new (Err Memory) = LeadsToProgram s me path

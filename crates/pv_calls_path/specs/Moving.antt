@@ -6,7 +6,7 @@ use Rattle.pv_model.specs.Bytes.{is_empty}
 use Rattle.pv_model.specs.Calls.Paths.{contains_directory, is_directory_there, entries_there}
 use Rattle.pv_model.specs.Tree.{Tree, is_directory_at}
 
--- whether a node may have a name in a directory in place of what is there
+-- the check that a node may get a name in a directory in place of the node with that name
 abbrev pub check_move : Tree → ℕ → ℕ → Option ℕ → Attempt (Unit {0})
 check_move t n e there = do
   refuse_if EINVAL (contains_directory t n e)

@@ -10,7 +10,7 @@ use Rattle.pv_model.specs.Numbered.{least_free}
 use Rattle.pv_model.specs.State.{Process, State, writes}
 use Rattle.pv_model.specs.Tree.{node_at, is_directory}
 
--- what is at a place, opened: after the walk and its judgement
+-- the effect of open on a place, after the walk and its unveil check
 abbrev pub open_place : State → ℕ → Process → OpenFlags → Place → Attempt Effect
 open_place s pid me f place = do
   let node = option_and_then (node_at s.tree) (node_of place)

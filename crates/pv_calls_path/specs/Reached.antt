@@ -1,4 +1,4 @@
--- Where a walk with its judgement leads, or what refuses it.
+-- The place to which a walk leads after its unveil check, or its refusal.
 use Rattle.std.specs.Prelude.{◌≡◌, ℕ, is_some}
 use Rattle.pv_laws_states.specs.States.{IsFinePlace}
 use Rattle.pv_model.specs.declared.errno.Errno.TheVariants.{EEXIST, ENOENT}
@@ -18,35 +18,36 @@ pub record IsReached (s : State) (me : Process) (start : ℕ) (w : Walk) (place 
   pub judged : judge_for s me place w.needed ≡ give tt
   pub fine : IsFinePlace s.tree place
 
--- a walk is refused, and so is all that begins with it
+-- a walk is refused, and so is every computation that starts with it
 abbrev pub IsLost : State → ℕ → Follow → Bytes → Refused → Type 0
 IsLost s start follow path r = (next : Place → Attempt Effect) → (walk_from s start follow path >>= next) ≡ refused r.walks r.errno r.cause
 
--- a walk, or the judgement at its end, is refused, and so is all that begins with it
+-- a walk or its unveil check is refused, and so is every computation that starts with both
 abbrev pub IsStopped : State → Process → ℕ → Walk → Refused → Type 0
 IsStopped s me start w r =
     (rest : Place → Attempt Effect)
     → (walk_from s start w.follow w.path >>= (λ place. judge_for s me place w.needed >> rest place)) ≡ refused r.walks r.errno r.cause
 
--- the same after a first walk, which counts too
+-- the same for the second walk of a call: the first walk is counted too
 abbrev pub IsStoppedSecond : State → Process → ℕ → Walk → Refused → Type 0
 IsStoppedSecond s me start w r =
     (rest : Place → Attempt Effect)
     → after_walks 1 (walk_from s start w.follow w.path >>= (λ place. judge_for s me place w.needed >> rest place)) ≡ refused r.walks r.errno r.cause
 
--- a walk that the table allows leads to a node, and what begins with it goes on with the node
+-- a walk that the table allows leads to a node, with which the computation continues
 abbrev pub IsFound : State → Process → ℕ → Walk → ℕ → Type 0
 IsFound s me start w n =
     (rest : ℕ → Attempt Effect)
     → (walk_from s start w.follow w.path >>= (λ place. judge_for s me place w.needed >> (demand ENOENT (node_of place) >>= rest))) ≡ after_walks 1 (rest n)
 
--- a walk, its judgement, or that nothing is at its end, refuses all that begins with it
+-- a walk, its unveil check, or the absence of a node at its end refuses every computation that starts with them
 abbrev pub IsMissed : State → Process → ℕ → Walk → Refused → Type 0
 IsMissed s me start w r =
     (rest : Place → ℕ → Attempt Effect)
     → (walk_from s start w.follow w.path >>= (λ place. judge_for s me place w.needed >> (demand ENOENT (node_of place) >>= rest place))) ≡ refused r.walks r.errno r.cause
 
--- one of two walks from where the process works, a judgement of theirs, or that nothing is at the end of the first, refuses all that begins with both
+-- one of two walks from the working directory, an unveil check, or the absence of a node at the end of the first walk
+-- refuses every computation that starts with them
 abbrev pub IsMissedByBoth : State → Process → Walk → Walk → Refused → Type 0
 IsMissedByBoth s me first second r =
     (rest : Place → Place → ℕ → Attempt Effect)
@@ -54,6 +55,6 @@ IsMissedByBoth s me first second r =
     (walk_from s me.directory second.follow second.path >>= (λ other. judge_for s me other second.needed >> (demand ENOENT (node_of place) >>= rest place other)))))
     ≡ refused r.walks r.errno r.cause
 
--- something is at a place, or it has no name, and so all is refused that begins with a new name there
+-- a node exists at a place, or the place has no name, so every computation that needs a new name there is refused
 abbrev pub IsTaken : Place → Type 0
 IsTaken place = (rest : ℕ × Bytes → Attempt Effect) → (refuse_if EEXIST (is_some (node_of place)) >> (demand EEXIST (name_of place) >>= rest)) ≡ refused 0 EEXIST Plain

@@ -1,6 +1,6 @@
-//! The call that changes the working directory along a path: chdir(2).
+//! Change of the working directory along a path: chdir(2).
 ghost use Rattle.std.specs.Prelude.{IsSome, IsTrue};
-ghost use Rattle.pv_laws_states.specs.States.{IsWhole, is_text};
+ghost use Rattle.pv_laws_states.specs.States.{IsValid, is_text};
 ghost use Rattle.pv_model.specs.Calls.Paths.{chdir};
 ghost use Rattle.pv_model.specs.State.{process_at};
 ghost use Rattle.pv_model.specs.Tree.{find_entry};
@@ -12,17 +12,21 @@ use pv_calls_plain::answer::{Done, Refused, answer_of, refusal};
 use pv_model::{Errno, Text, Walk};
 use pv_namei::Lookup;
 
-/// Makes the directory at a path the working directory of a live process, chdir(2): the answer is 0.
+/// Makes the directory at a path the working directory of a live process, as chdir(2), and returns 0.
 ///
 /// # Errors
 ///
-/// An error of the walk, then of its judgement; `ENOENT` where nothing is there, and `ENOTDIR` where no directory is.
+/// The first of these that applies:
+///
+/// - an error of the walk, then of the unveil check;
+/// - `ENOENT`, if nothing exists at the path;
+/// - `ENOTDIR`, if it is not a directory.
 pub fn chdir<L: Lookup + Drop>(
     system: &mut System<L>,
     pid: u32,
     path: &Text,
 ) -> Result<Done, Refused>
-    requires whole { IsWhole system.old.parts }
+    requires whole { IsValid system.old.parts }
     requires live { IsSome (process_at system.old.parts pid) }
     requires text { IsTrue (is_text path.now) }
     requires agrees { L.agrees system.old.lookup (find_entry system.old.parts.tree) }

@@ -1,6 +1,6 @@
-//! Where the walks of a call end, which no table has judged.
+//! The ends of a call's walks, without the unveil check.
 ghost use Rattle.std.specs.Prelude.{◌≡◌, ℕ, ◌≤◌, IsSome, Some};
-ghost use Rattle.pv_laws_states.specs.States.{IsWhole};
+ghost use Rattle.pv_laws_states.specs.States.{IsValid};
 ghost use Rattle.pv_model.specs.declared.call.Call.{Call};
 ghost use Rattle.pv_model.specs.Answer.{answer};
 ghost use Rattle.pv_model.specs.CallRef.{call_of, walk_of};
@@ -16,12 +16,13 @@ use pv_calls_state::Parts;
 use pv_model::{CallRef, Place, Walk, Walks};
 use pv_namei::{PlainLookup, resolve};
 
-/// The place at which a walk of a live process ends in the state as it is. No table judges it, and nothing is changed.
+/// Returns the place at which a walk of a live process ends in the current state. The place is not checked against the
+/// unveil table.
 ///
-/// None where the walk ends with an error, or is not begun: a relative path starts at a descriptor that is not open, or is
-/// on no directory.
+/// Returns `None` if the walk fails, or if a relative path starts at a descriptor that is not open or does not refer to
+/// a directory.
 pub fn end_of(parts: &Parts, pid: u32, walk: Walk<'_>) -> Option<Place>
-    requires whole { IsWhole parts.now }
+    requires whole { IsValid parts.now }
     requires live { IsSome (process_at parts.now pid) }
     ensures { (me : Process) → process_at parts.now pid ≡ Some me → result ≡ end_begun parts.now pid me (walk_of walk.entry) }
 {
@@ -32,11 +33,11 @@ pub fn end_of(parts: &Parts, pid: u32, walk: Walk<'_>) -> Option<Place>
     resolve(parts.tree(), &mut PlainLookup, start, path, walk.follow).ok()
 }
 
-/// The place at which the walk of a number of a call ends, from 1, as `end_of` tells it.
+/// Returns the place at which walk `number` of a call ends, counted from 1, as `end_of` does.
 ///
-/// None also where the call has no walk of that number.
+/// Also returns `None` if the call has no such walk.
 pub fn end_of_walk(parts: &Parts, pid: u32, call: CallRef<'_>, number: u8) -> Option<Place>
-    requires whole { IsWhole parts.now }
+    requires whole { IsValid parts.now }
     requires live { IsSome (process_at parts.now pid) }
     ensures { (me : Process) → process_at parts.now pid ≡ Some me
         → result ≡ end_of_some parts.now pid me (walk_number (walks_of (call_of call.entry)) number) }
@@ -48,8 +49,8 @@ pub fn end_of_walk(parts: &Parts, pid: u32, call: CallRef<'_>, number: u8) -> Op
     }
 }
 
-/// The walks that a call began end where `end_of` and `end_of_walk` tell it in the state before the call: at the place to which the
-/// definitions' walk leads, or at none.
+/// States that `end_of` and `end_of_walk`, applied to the state before a call, are right for each walk that the call
+/// began: they return the place to which the walk of the definitions leads, or `None` if it leads to none.
 pub fn begun_ends()
     ensures { (s : State) (pid : ℕ) (me : Process) (call : Call) (number : ℕ) (walk : DefinedWalk) → process_at s pid ≡ Some me
         → walk_number (walks_of call) number ≡ Some walk → number ≤ (answer program_of s pid call).walks

@@ -1,6 +1,6 @@
-//! execve(2).
+//! Program images: execve(2).
 ghost use Rattle.std.specs.Prelude.{◌≡◌, IsSome, IsTrue, OnErr, Some};
-ghost use Rattle.pv_laws_states.specs.States.{IsWhole, is_text};
+ghost use Rattle.pv_laws_states.specs.States.{IsValid, is_text};
 ghost use Rattle.pv_model.specs.declared.outcome.Cause.TheVariants.{Plain};
 ghost use Rattle.pv_model.specs.State.{Process, process_at};
 ghost use Rattle.pv_model.specs.Tree.{find_entry};
@@ -14,36 +14,43 @@ use pv_model::{Errno, Kind, ParseFault, Text, Walk};
 use pv_namei::Lookup;
 use std::alloc::Global;
 
-/// Why a process has no other program.
+/// The reason why execve(2) did not replace the program.
 #[derive(Clone, Copy, Debug, PartialEq, Eq)]
 pub enum ExecveFault {
     /// The call is refused.
     Refused(Refused),
-    /// Memory was refused: the call has not been made.
+    /// There is no memory for the program. The call has not been made.
     Memory,
 }
 
-// A refusal after one walk.
+// Returns a refusal after one walk.
 fn refused(errno: Errno) -> ExecveFault
     ensures { result ≡ ExecveFault.Refused (record { walks = 1; errno = errno; cause = Plain }) }
 {
     ExecveFault::Refused(refusal(1, errno))
 }
 
-/// Gives a live process the program that the bytes of an executable file spell, execve(2): the answer is 0.
+/// Replaces the program of a live process by the one in an executable file, as execve(2), and returns 0.
 ///
 /// # Errors
 ///
-/// An error of the walk, then of its judgement; `ENOENT` where nothing is there, `EACCES` where no executable file is,
-/// and `ENOEXEC` where its bytes are no program. `Memory`, in place of an answer or of `ENOEXEC`, where memory was refused
-/// for the program; nothing has then changed.
+/// `Refused`, with the first of these errors that applies:
+///
+/// - an error of the walk, then of the unveil check;
+/// - `ENOENT`, if nothing exists at the path;
+/// - `EACCES`, if it is not an executable file;
+/// - `ENOEXEC`, if its bytes do not parse as a program.
+///
+/// `Memory`, if there is no memory for the program; the call would otherwise have succeeded or failed with `ENOEXEC`.
+///
+/// The state is unchanged after an error.
 pub fn execve<L: Lookup + Drop>(
     alloc: Global,
     system: &mut System<L>,
     pid: u32,
     path: &Text,
 ) -> Result<Done, ExecveFault>
-    requires whole { IsWhole system.old.parts }
+    requires whole { IsValid system.old.parts }
     requires live { IsSome (process_at system.old.parts pid) }
     requires text { IsTrue (is_text path.now) }
     requires agrees { L.agrees system.old.lookup (find_entry system.old.parts.tree) }

@@ -1,9 +1,9 @@
-//! The system calls that walk a path: the walk, the judgement at its end, and what the call does there.
+//! The system calls that walk a path: the walk, the unveil check of the place where it ends, and the effect there.
 //!
-//! `reach` walks and judges, and `programs` says which program a file spells. `opening` has open(2) and openat(2),
-//! `looking` the calls that tell what is there, `names` and `rename` those that change names, `chdir` chdir(2), `unveil`
-//! unveil(2) and `execve` execve(2). They go by a `System`: the parts with a lookup of names, and room (`links`) for the places after
-//! links. `ends` tells where the walks of a call end, and makes no call.
+//! All calls work on a `System` (module `system`): the state, a name lookup, and storage for places behind links
+//! (`links`). `reach` walks and checks. `programs` loads a program from a file. The calls are in `opening` (open,
+//! openat), `looking` (stat, lstat, readlink), `names` (mkdir, symlink, link, unlink, rmdir), `rename`, `chdir`,
+//! `unveil` and `execve`. `ends` computes where the walks of a call end without making the call.
 #![tactic(auto)]
 
 pub mod chdir;

@@ -1,21 +1,21 @@
-//! Room for the places after links.
+//! Storage for places behind links.
 
 use pv_model::Place;
 
-/// Room for the places after the links of a call's one or two walks, which the caller lends.
+/// Storage for the places that the one or two walks of a call reach through links. The caller provides it.
 ///
-/// A place has room for a name, and a function that had such room of its own would write it at each call, also where no link
-/// is followed. What stands in it from an earlier call means nothing.
+/// A place contains a name. If a function kept this storage in its own frame, it would initialize it at each call, even
+/// if no link is followed. Values left by an earlier call are never read.
 #[derive(Drop)]
 pub struct LinkRoom {
-    /// For the only walk of a call, or the first.
+    /// The place of the only or first walk.
     pub(crate) first: Option<Place>,
-    /// For the second.
+    /// The place of the second walk.
     pub(crate) second: Option<Place>,
 }
 
 impl LinkRoom {
-    /// Room in which nothing stands.
+    /// Returns empty storage.
     pub fn new() -> LinkRoom {
         LinkRoom {
             first: None,

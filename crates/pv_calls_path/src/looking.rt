@@ -1,6 +1,6 @@
-//! Calls that tell what is at a path: stat(2), lstat(2), readlink(2).
+//! Calls that inspect a path: stat(2), lstat(2), readlink(2).
 ghost use Rattle.std.specs.Prelude.{◌≡◌, IsSome, IsTrue};
-ghost use Rattle.pv_laws_states.specs.States.{IsWhole, is_text};
+ghost use Rattle.pv_laws_states.specs.States.{IsValid, is_text};
 ghost use Rattle.pv_model.specs.declared.call.Start.TheVariants.{WorkingDirectory};
 ghost use Rattle.pv_model.specs.CallRef.{walk_of};
 ghost use Rattle.pv_model.specs.Calls.Paths.{lstat, readlink, stat, stat_at};
@@ -11,15 +11,15 @@ ghost use Rattle.pv_calls_plain.specs.Performed.{IsAnswered};
 use crate::opening::is_link;
 use crate::reach::reach_node;
 use crate::system::System;
-use pv_calls_plain::answer::{Answer, Done, refusal, tell, tell_bytes};
+use pv_calls_plain::answer::{Answer, Done, refusal, report, report_bytes};
 use pv_calls_plain::status::status;
 use pv_model::limits::LINK_TEXT;
 use pv_model::{Errno, Text, Walk};
 use pv_namei::Lookup;
 
-// Tells what is at the end of a walk from the working directory.
+// Reports the status of the node at the end of a walk from the working directory.
 fn stat_at<L: Lookup + Drop>(system: &mut System<L>, pid: u32, walk: Walk<'_>) -> Answer
-    requires whole { IsWhole system.old.parts }
+    requires whole { IsValid system.old.parts }
     requires live { IsSome (process_at system.old.parts pid) }
     requires here { walk.start ≡ WorkingDirectory }
     requires text { IsTrue (is_text walk.path.now) }
@@ -36,18 +36,19 @@ fn stat_at<L: Lookup + Drop>(system: &mut System<L>, pid: u32, walk: Walk<'_>) -
         Ok(node) => {
             parts.invariant();
             let bytes = status(parts.tree(), node);
-            tell_bytes(parts, pid, Done { walks: 1, value: 0 }, &bytes)
+            report_bytes(parts, pid, Done { walks: 1, value: 0 }, &bytes)
         }
-        Err(refused) => tell(parts, pid, Err(refused)),
+        Err(refused) => report(parts, pid, Err(refused)),
     }
 }
 
-/// Tells eight bytes of what is at a path, after a final link, stat(2): they come to the front of the buffer, and the
-/// answer is 0.
+/// Reports the status of the node at a path, as stat(2). A final link is followed. Eight bytes come to the front of the
+/// buffer, and the answer is 0.
 ///
-/// An error of the walk refuses it, then one of its judgement, and `ENOENT` where nothing is there.
+/// The call is refused with an error of the walk, then of the unveil check, then with `ENOENT` if nothing exists at the
+/// path.
 pub fn stat<L: Lookup + Drop>(system: &mut System<L>, pid: u32, path: &Text) -> Answer
-    requires whole { IsWhole system.old.parts }
+    requires whole { IsValid system.old.parts }
     requires live { IsSome (process_at system.old.parts pid) }
     requires text { IsTrue (is_text path.now) }
     requires agrees { L.agrees system.old.lookup (find_entry system.old.parts.tree) }
@@ -57,11 +58,11 @@ pub fn stat<L: Lookup + Drop>(system: &mut System<L>, pid: u32, path: &Text) -> 
     stat_at(system, pid, Walk::stat(path))
 }
 
-/// The same of a final link itself, lstat(2).
+/// Reports the status of the node at a path, as lstat(2). A final link is not followed.
 ///
-/// It is refused as `stat` is.
+/// The call is refused for the same reasons as `stat`.
 pub fn lstat<L: Lookup + Drop>(system: &mut System<L>, pid: u32, path: &Text) -> Answer
-    requires whole { IsWhole system.old.parts }
+    requires whole { IsValid system.old.parts }
     requires live { IsSome (process_at system.old.parts pid) }
     requires text { IsTrue (is_text path.now) }
     requires agrees { L.agrees system.old.lookup (find_entry system.old.parts.tree) }
@@ -71,13 +72,14 @@ pub fn lstat<L: Lookup + Drop>(system: &mut System<L>, pid: u32, path: &Text) ->
     stat_at(system, pid, Walk::lstat(path))
 }
 
-/// Reads the text of a link, readlink(2): it comes to the front of the buffer, and the answer is its length.
+/// Reads the target of a symbolic link, as readlink(2). The text comes to the front of the buffer, and the answer is
+/// its length.
 ///
-/// An error of the walk refuses it, then one of its judgement, `ENOENT` where nothing is there, and `EINVAL` where no
-/// link is.
+/// The call is refused with an error of the walk, then of the unveil check, then with `ENOENT` if nothing exists at the
+/// path, then with `EINVAL` if it is not a symbolic link.
 #[inline(never)]
 pub fn readlink<L: Lookup + Drop>(system: &mut System<L>, pid: u32, path: &Text) -> Answer
-    requires whole { IsWhole system.old.parts }
+    requires whole { IsValid system.old.parts }
     requires live { IsSome (process_at system.old.parts pid) }
     requires text { IsTrue (is_text path.now) }
     requires agrees { L.agrees system.old.lookup (find_entry system.old.parts.tree) }
@@ -92,17 +94,17 @@ pub fn readlink<L: Lookup + Drop>(system: &mut System<L>, pid: u32, path: &Text)
     let walk = Walk::readlink(path);
     let node = match reach_node(parts, lookup, pid, walk, &mut links.first) {
         Ok(node) => node,
-        Err(refused) => return tell(parts, pid, Err(refused)),
+        Err(refused) => return report(parts, pid, Err(refused)),
     };
     if !is_link(parts.tree(), node) {
-        return tell(parts, pid, Err(refusal(1, Errno::EINVAL)));
+        return report(parts, pid, Err(refusal(1, Errno::EINVAL)));
     }
     let mut text = [0; LINK_TEXT];
     let length = parts.tree().read_at(node, 0, &mut text);
     parts.invariant();
-    let told = Done {
+    let reported = Done {
         walks: 1,
         value: length as u32,
     };
-    tell_bytes(parts, pid, told, &text[..length])
+    report_bytes(parts, pid, reported, &text[..length])
 }

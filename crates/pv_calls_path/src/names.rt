@@ -1,6 +1,6 @@
-//! Calls that make, take away or change names: mkdir(2), symlink(2), link(2), unlink(2), rmdir(2).
+//! Calls that make or remove names: mkdir(2), symlink(2), link(2), unlink(2), rmdir(2).
 ghost use Rattle.std.specs.Prelude.{◌≡◌, IfErr, IfOk, IsSome, IsTrue, None, Some};
-ghost use Rattle.pv_laws_states.specs.States.{IsWhole, is_text};
+ghost use Rattle.pv_laws_states.specs.States.{IsValid, is_text};
 ghost use Rattle.pv_model.specs.declared.call.Start.TheVariants.{WorkingDirectory};
 ghost use Rattle.pv_model.specs.declared.outcome.Cause.TheVariants.{Plain};
 ghost use Rattle.pv_model.specs.CallRef.{walk_of};
@@ -20,8 +20,8 @@ use pv_model::{Errno, NewNode, Text, Walk};
 use pv_namei::Lookup;
 use pv_tree::PlaceRef;
 
-// The directory and the name of a place at which nothing is, after so many walks: `EEXIST` where something is, or the
-// place has no name.
+// Returns the directory and the name of a place at which nothing exists. The error is `EEXIST`, after `walks` walks, if
+// something exists or the place has no name.
 fn free_name<'a>(place: &PlaceRef<'a>, walks: u8) -> Result<(u16, &'a [u8]), Refused>
     ensures free { IfOk result (λ _. node_of place.now ≡ None) }
     ensures name { IfOk result (λ p. name_of place.now ≡ Some (p.0, p.1.now)) }
@@ -34,14 +34,14 @@ fn free_name<'a>(place: &PlaceRef<'a>, walks: u8) -> Result<(u16, &'a [u8]), Ref
     }
 }
 
-// A new node at the end of a walk from the working directory, where there is none: the answer is 0.
+// Makes a new node at the end of a walk from the working directory, and returns 0. Nothing may exist there.
 fn make<L: Lookup + Drop>(
     system: &mut System<L>,
     pid: u32,
     walk: Walk<'_>,
     kind: NewNode,
 ) -> Result<Done, Refused>
-    requires whole { IsWhole system.old.parts }
+    requires whole { IsValid system.old.parts }
     requires live { IsSome (process_at system.old.parts pid) }
     requires here { walk.start ≡ WorkingDirectory }
     requires text { IsTrue (is_text walk.path.now) }
@@ -65,18 +65,21 @@ fn make<L: Lookup + Drop>(
     answer_of(1, 0)
 }
 
-/// Makes a directory, mkdir(2): the answer is 0.
+/// Makes a directory, as mkdir(2), and returns 0.
 ///
 /// # Errors
 ///
-/// An error of the walk, then of its judgement; `EEXIST` where something is there, or the path leads to no name; then
-/// `EFBIG` and `ENOSPC` for want of room.
+/// The first of these that applies:
+///
+/// - an error of the walk, then of the unveil check;
+/// - `EEXIST`, if something exists at the path, or if the path does not end at a name;
+/// - `EFBIG`, then `ENOSPC`, if there is no room.
 pub fn mkdir<L: Lookup + Drop>(
     system: &mut System<L>,
     pid: u32,
     path: &Text,
 ) -> Result<Done, Refused>
-    requires whole { IsWhole system.old.parts }
+    requires whole { IsValid system.old.parts }
     requires live { IsSome (process_at system.old.parts pid) }
     requires text { IsTrue (is_text path.now) }
     requires agrees { L.agrees system.old.lookup (find_entry system.old.parts.tree) }
@@ -87,18 +90,18 @@ pub fn mkdir<L: Lookup + Drop>(
     make(system, pid, walk, NewNode::Directory)
 }
 
-/// Makes a symbolic link with a text, symlink(2): the answer is 0.
+/// Makes a symbolic link with the given text, as symlink(2), and returns 0.
 ///
 /// # Errors
 ///
-/// `ENOENT` where the text is empty, and `ENAMETOOLONG` where it has more than 1,023 bytes; else as `mkdir`.
+/// `ENOENT`, if the text is empty. `ENAMETOOLONG`, if it has more than 1,023 bytes. Otherwise as for `mkdir`.
 pub fn symlink<L: Lookup + Drop>(
     system: &mut System<L>,
     pid: u32,
     text: &[u8],
     path: &Text,
 ) -> Result<Done, Refused>
-    requires whole { IsWhole system.old.parts }
+    requires whole { IsValid system.old.parts }
     requires live { IsSome (process_at system.old.parts pid) }
     requires link { IsTrue (is_text text.now) }
     requires text { IsTrue (is_text path.now) }
@@ -116,20 +119,24 @@ pub fn symlink<L: Lookup + Drop>(
     make(system, pid, walk, NewNode::Symlink(text))
 }
 
-/// Gives the node at a path, which is no directory, a further name, link(2): the answer is 0.
+/// Gives the file or link at a path another name, as link(2), and returns 0.
 ///
 /// # Errors
 ///
-/// An error of the first walk, then of its judgement, and the same of the second; `ENOENT` where nothing is at the
-/// first place, and `EPERM` where a directory is; `EEXIST` where something is at the second, or it is no name; then
-/// `EFBIG` and `ENOSPC` for want of room.
+/// The first of these that applies:
+///
+/// - an error of the first walk, then of its unveil check;
+/// - an error of the second walk, then of its unveil check;
+/// - `ENOENT`, if nothing exists at the first path, and `EPERM`, if it is a directory;
+/// - `EEXIST`, if something exists at the second path, or if that path does not end at a name;
+/// - `EFBIG`, then `ENOSPC`, if there is no room.
 pub fn link<L: Lookup + Drop>(
     system: &mut System<L>,
     pid: u32,
     path: &Text,
     new: &Text,
 ) -> Result<Done, Refused>
-    requires whole { IsWhole system.old.parts }
+    requires whole { IsValid system.old.parts }
     requires live { IsSome (process_at system.old.parts pid) }
     requires text { IsTrue (is_text path.now) }
     requires other { IsTrue (is_text new.now) }
@@ -158,17 +165,21 @@ pub fn link<L: Lookup + Drop>(
     answer_of(2, 0)
 }
 
-/// Takes the name that a path leads to away from its node, which is no directory, unlink(2): the answer is 0.
+/// Removes the name of a file or link, as unlink(2), and returns 0.
 ///
 /// # Errors
 ///
-/// An error of the walk, then of its judgement; `ENOENT` where nothing is there, and `EPERM` where a directory is.
+/// The first of these that applies:
+///
+/// - an error of the walk, then of the unveil check;
+/// - `ENOENT`, if nothing exists at the path;
+/// - `EPERM`, if it is a directory.
 pub fn unlink<L: Lookup + Drop>(
     system: &mut System<L>,
     pid: u32,
     path: &Text,
 ) -> Result<Done, Refused>
-    requires whole { IsWhole system.old.parts }
+    requires whole { IsValid system.old.parts }
     requires live { IsSome (process_at system.old.parts pid) }
     requires text { IsTrue (is_text path.now) }
     requires agrees { L.agrees system.old.lookup (find_entry system.old.parts.tree) }
@@ -190,24 +201,29 @@ pub fn unlink<L: Lookup + Drop>(
         return Err(refusal(1, Errno::EPERM));
     };
     parts.unlink(directory, name);
-    // What the lookup keeps of this name is no longer so.
+    // The cached answer for this name is stale.
     lookup.changed(directory, name);
     answer_of(1, 0)
 }
 
-/// Removes the directory at a path, which has no entries, rmdir(2): the answer is 0.
+/// Removes the empty directory at a path, as rmdir(2), and returns 0.
 ///
 /// # Errors
 ///
-/// `EINVAL` where the path ends in `.` or `..`; an error of the walk, then of its judgement; `ENOENT` where nothing is
-/// there, `ENOTDIR` where no directory is, `EBUSY` where the path leads to no name, and `ENOTEMPTY` where the directory
-/// has an entry.
+/// The first of these that applies:
+///
+/// - `EINVAL`, if the path ends in `.` or `..`;
+/// - an error of the walk, then of the unveil check;
+/// - `ENOENT`, if nothing exists at the path;
+/// - `ENOTDIR`, if it is not a directory;
+/// - `EBUSY`, if the path does not end at a name;
+/// - `ENOTEMPTY`, if the directory has an entry.
 pub fn rmdir<L: Lookup + Drop>(
     system: &mut System<L>,
     pid: u32,
     path: &Text,
 ) -> Result<Done, Refused>
-    requires whole { IsWhole system.old.parts }
+    requires whole { IsValid system.old.parts }
     requires live { IsSome (process_at system.old.parts pid) }
     requires text { IsTrue (is_text path.now) }
     requires agrees { L.agrees system.old.lookup (find_entry system.old.parts.tree) }

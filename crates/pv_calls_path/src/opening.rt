@@ -1,6 +1,6 @@
-//! open(2) and openat(2).
+//! Opening of files: open(2) and openat(2).
 ghost use Rattle.std.specs.Prelude.{◌≡◌, ◌≤◌, ◌<◌, IfOk, IfErr, IsSome, IsTrue, OnErr, None, Some, false};
-ghost use Rattle.pv_laws_states.specs.States.{IsFinePlace, IsWhole, is_text};
+ghost use Rattle.pv_laws_states.specs.States.{IsFinePlace, IsValid, is_text};
 ghost use Rattle.pv_model.specs.declared.limits.TheConstants.{DESCRIPTORS, NUMBER, OPEN_FILES};
 ghost use Rattle.pv_model.specs.declared.outcome.Cause.TheVariants.{Plain};
 ghost use Rattle.pv_model.specs.declared.place.Place.{Place};
@@ -10,7 +10,7 @@ ghost use Rattle.pv_model.specs.Effect.{directory_of_file, node_of, open_file, s
 ghost use Rattle.pv_model.specs.Numbered.{least_free};
 ghost use Rattle.pv_model.specs.State.{Process, process_at, writes};
 ghost use Rattle.pv_model.specs.Tree.{find_entry, is_directory_at, node_at};
-ghost use Rattle.pv_calls_state.specs.Attempts.{trimmed};
+ghost use Rattle.pv_calls_state.specs.Attempts.{collected};
 ghost use Rattle.pv_calls_path.specs.Opening.{open_place};
 ghost use Rattle.pv_calls_plain.specs.Performed.{IsPerformed, attempt_of};
 ghost use Rattle.pv_laws_trees.specs.Found.{Alike};
@@ -25,7 +25,7 @@ use pv_model::{Errno, Kind, OpenFlags, Start, Text, Walk};
 use pv_namei::{Lookup, is_absolute};
 use pv_tree::{PlaceRef, Tree};
 
-// Whether flags do not go together.
+// Returns whether the flags contradict each other.
 fn contradicts(flags: OpenFlags) -> bool
     ensures { result ≡ contradicts flags }
 {
@@ -34,7 +34,7 @@ fn contradicts(flags: OpenFlags) -> bool
         || (flags.create && flags.directory)
 }
 
-/// Whether a node is a symbolic link.
+/// Returns whether a node is a symbolic link.
 pub(crate) fn is_link(tree: &Tree, node: u16) -> bool
     requires { IsSome (node_at tree.now.tree node) }
     ensures { result ≡ is_link (node_at tree.now.tree node) }
@@ -42,9 +42,9 @@ pub(crate) fn is_link(tree: &Tree, node: u16) -> bool
     matches!(tree.kind(node), Kind::Symlink)
 }
 
-// The directory of a descriptor.
+// Returns the directory of a descriptor.
 fn directory_of(parts: &Parts, pid: u32, d: i32) -> Result<u16, Errno>
-    requires whole { IsWhole parts.now }
+    requires whole { IsValid parts.now }
     requires live { IsSome (process_at parts.now pid) }
     ensures directory { IfOk result (λ n. IsTrue (is_directory_at parts.now.tree n)) }
     ensures given { IfOk result (λ n. (me : Process) → process_at parts.now pid ≡ Some me → directory_of parts.now pid me d ≡ give n) }
@@ -61,13 +61,13 @@ fn directory_of(parts: &Parts, pid: u32, d: i32) -> Result<u16, Errno>
     Ok(node)
 }
 
-/// The directory from which a walk starts: a relative path asks its descriptor for one.
+/// Returns the directory from which a walk starts. Only a relative path uses the descriptor in `start`.
 ///
 /// # Errors
 ///
-/// `EBADF` where the descriptor is not open, `ENOTDIR` where it is on no directory.
+/// `EBADF`, if the descriptor is not open. `ENOTDIR`, if it does not refer to a directory.
 pub(crate) fn start_of(parts: &Parts, pid: u32, start: Start, path: &Text) -> Result<u16, Errno>
-    requires whole { IsWhole parts.now }
+    requires whole { IsValid parts.now }
     requires live { IsSome (process_at parts.now pid) }
     ensures directory { IfOk result (λ n. IsTrue (is_directory_at parts.now.tree n)) }
     ensures checked { IfOk result (λ n. (me : Process) → process_at parts.now pid ≡ Some me → check_start parts.now pid me start path.now ≡ give tt) }
@@ -80,17 +80,17 @@ pub(crate) fn start_of(parts: &Parts, pid: u32, start: Start, path: &Text) -> Re
     }
 }
 
-// What is there, opened, after its walk and judgement: EEXIST where it was to be made alone, ELOOP for a link, ENOTDIR
-// where a directory was asked for, EISDIR where one was to be written.
+// Opens an existing node after its walk and unveil check. The errors are EEXIST for an exclusive creation, ELOOP for a
+// link, ENOTDIR if a directory is required, and EISDIR for writing to a directory.
 fn open_there(parts: &mut Parts, pid: u32, node: u16, flags: OpenFlags) -> Result<Done, Refused>
-    requires whole { IsWhole parts.old }
+    requires whole { IsValid parts.old }
     requires live { IsSome (process_at parts.old pid) }
     requires there { IsSome (node_at parts.old.tree node) }
     requires flags { contradicts flags ≡ false }
     requires descriptor { (me : Process) → process_at parts.old pid ≡ Some me → least_free me.descriptors < DESCRIPTORS }
     requires file { least_free parts.old.files < OPEN_FILES }
     ensures performed { (me : Process) (place : Place) → process_at parts.old pid ≡ Some me → node_of place ≡ Some node
-        → trimmed (after_walks 1 (open_place parts.old pid me flags place)) ≡ attempt_of parts.new result }
+        → collected (after_walks 1 (open_place parts.old pid me flags place)) ≡ attempt_of parts.new result }
     ensures unchanged { OnErr result (parts.new ≡ parts.old) }
     ensures small { IfOk result (λ d. d.value ≤ NUMBER) }
     ensures found { Alike (find_entry parts.old.tree) (find_entry parts.new.tree) }
@@ -113,8 +113,8 @@ fn open_there(parts: &mut Parts, pid: u32, node: u16, flags: OpenFlags) -> Resul
     answer_of(1, u32::from(d))
 }
 
-// A file at a place where nothing is, made and opened, after its walk and judgement: ENOENT where it is not to be made,
-// then EFBIG and ENOSPC for want of room.
+// Creates and opens a file at a place where nothing exists, after its walk and unveil check. The errors are ENOENT if
+// the flags do not ask for creation, then EFBIG and ENOSPC if there is no room.
 fn create_there<L: Lookup>(
     parts: &mut Parts,
     lookup: &mut L,
@@ -122,7 +122,7 @@ fn create_there<L: Lookup>(
     place: &PlaceRef<'_>,
     flags: OpenFlags,
 ) -> Result<Done, Refused>
-    requires whole { IsWhole parts.old }
+    requires whole { IsValid parts.old }
     requires live { IsSome (process_at parts.old pid) }
     requires fine { IsFinePlace parts.old.tree place.now }
     requires absent { node_of place.now ≡ None }
@@ -149,15 +149,21 @@ fn create_there<L: Lookup>(
     }
 }
 
-/// Opens what a path names under the least free descriptor, which is the answer; a file that is not there is made where
-/// the flags say so, open(2) and openat(2). A relative path starts at the directory that `start` says.
+/// Opens the file or directory at a path under the lowest free descriptor, as open(2) and openat(2), and returns the
+/// descriptor. A file that does not exist is created if the flags ask for it. A relative path starts at the directory
+/// that `start` gives.
 ///
 /// # Errors
 ///
-/// `EINVAL` for flags that do not go together; `EBADF` and `ENOTDIR` where a relative path is to start at a descriptor
-/// that is not open, or on no directory; `EMFILE` where no descriptor is free, and `ENFILE` where no open file is; an
-/// error of the walk, then of its judgement; `EEXIST`, `ENOENT`, `ELOOP`, `ENOTDIR` and `EISDIR` by what is there; then
-/// `EFBIG` and `ENOSPC` for want of room.
+/// The first of these that applies:
+///
+/// - `EINVAL`, if the flags contradict each other;
+/// - `EBADF` or `ENOTDIR`, if a relative path starts at a descriptor that is not open or does not refer to a directory;
+/// - `EMFILE`, if no descriptor is free;
+/// - `ENFILE`, if no open file is free;
+/// - an error of the walk, then of the unveil check;
+/// - `EEXIST`, `ENOENT`, `ELOOP`, `ENOTDIR` or `EISDIR`, by the node at the path;
+/// - `EFBIG`, then `ENOSPC`, if there is no room.
 pub fn open_at<L: Lookup + Drop>(
     system: &mut System<L>,
     pid: u32,
@@ -165,7 +171,7 @@ pub fn open_at<L: Lookup + Drop>(
     path: &Text,
     flags: OpenFlags,
 ) -> Result<Done, Refused>
-    requires whole { IsWhole system.old.parts }
+    requires whole { IsValid system.old.parts }
     requires live { IsSome (process_at system.old.parts pid) }
     requires text { IsTrue (is_text path.now) }
     requires agrees { L.agrees system.old.lookup (find_entry system.old.parts.tree) }

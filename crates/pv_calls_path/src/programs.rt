@@ -1,7 +1,7 @@
-//! Programs that stand in files.
+//! Loading of programs from files.
 ghost use Rattle.std.specs.Prelude.{◌≡◌, ◌⊎◌, IfOk, IfErr, IsTrue, Ok, Err};
 ghost use Rattle.pv_model.specs.Effect.{bytes_of};
-ghost use Rattle.pv_model.specs.Grammar.Programs.{read_program as program_spelled};
+ghost use Rattle.pv_model.specs.Grammar.Programs.{read_program as program_encoded};
 ghost use Rattle.pv_model.specs.RunFault.{of_init};
 ghost use Rattle.pv_model.specs.Sealed.{is_file};
 ghost use Rattle.pv_model.specs.Start.{init_of, program_in};
@@ -14,10 +14,10 @@ use pv_script::Program;
 use pv_tree::Tree;
 use std::alloc::Global;
 
-/// The program that a file's bytes spell: `Program::parse` of them.
+/// Parses the bytes of a file as a program.
 pub(crate) fn read_program(alloc: Global, tree: &Tree, node: u16) -> Result<Program, ParseFault>
     requires { IsTrue (is_file (node_at tree.now.tree node)) }
-    ensures { GivesProgram result (program_spelled (bytes_of (node_at tree.now.tree node))) }
+    ensures { GivesProgram result (program_encoded (bytes_of (node_at tree.now.tree node))) }
 {
     let size = tree.size(node) as usize;
     let mut bytes = vec![in alloc; 0; size]?;
@@ -25,7 +25,7 @@ pub(crate) fn read_program(alloc: Global, tree: &Tree, node: u16) -> Result<Prog
     Program::parse(alloc, &bytes)
 }
 
-// What a fault of the first program is.
+// Converts a parse error in `init` to an error of the boot.
 fn boot_fault(fault: ParseFault) -> BootFault
     ensures { result ≡ of_init fault }
 {
@@ -35,12 +35,13 @@ fn boot_fault(fault: ParseFault) -> BootFault
     }
 }
 
-/// The program of the file `init` in the root: that of no lines where no such name is there.
+/// Loads the program of the file `init` in the root. If that name does not exist, the program is empty.
 ///
 /// # Errors
 ///
-/// `Init(0)` where it is no executable file, `Init(n)` where line n of its program is the least that is no
-/// instruction, `Memory` where memory was refused.
+/// - `Init(0)`, if `init` is not an executable file.
+/// - `Init(n)`, if line n is the first line of its program that is not an instruction.
+/// - `Memory`, if there is no memory for the program.
 pub fn init(alloc: Global, tree: &Tree) -> Result<Program, BootFault>
     ensures program { IfOk result (λ program. program_in (init_of tree.now.tree) ≡ Ok program) }
     ensures refused { IfErr result (λ fault. (fault ≡ BootFault.Memory) ⊎ (program_in (init_of tree.now.tree) ≡ Err fault)) }

@@ -1,6 +1,6 @@
-//! Walks to places, judged at their end.
+//! Walks to places, and the unveil check at their end.
 ghost use Rattle.std.specs.Prelude.{◌≡◌, ◌≤◌, if◌then◌else◌, IfOk, IfErr, IsSome, IsTrue, Some};
-ghost use Rattle.pv_laws_states.specs.States.{IsWhole, IsFinePlace, is_text};
+ghost use Rattle.pv_laws_states.specs.States.{IsValid, IsFinePlace, is_text};
 ghost use Rattle.pv_model.specs.Attempt.{done};
 ghost use Rattle.pv_model.specs.Calls.Paths.{ends_in_dot};
 ghost use Rattle.pv_model.specs.CallRef.{walk_of};
@@ -19,7 +19,7 @@ use pv_namei as namei;
 use pv_namei::{Lookup, resolve_ref};
 use pv_tree::PlaceRef;
 
-/// How many walks a path begins: none where it is empty or too long.
+/// Returns the number of walks that a path begins: 0 if it is empty or too long, and 1 otherwise.
 pub(crate) fn walks_begun(path: &[u8]) -> u8
     ensures { result ≡ (if begins_walk path.now then 1 else 0) }
 {
@@ -30,17 +30,17 @@ pub(crate) fn walks_begun(path: &[u8]) -> u8
     }
 }
 
-/// Whether a path ends in `.` or `..`.
+/// Returns whether the last component of a path is `.` or `..`.
 pub(crate) fn ends_in_dot(path: &Text) -> bool
     ensures { result ≡ ends_in_dot path.now }
 {
     namei::ends_in_dot(path.as_slice())
 }
 
-// `walk_to` and `reach_from` become parts of their callers, so that a place is not copied at each on its way up.
+// `walk_to` and `reach_from` are inlined, so that a place is not copied at each return.
 
-/// The place at the end of a walk from a directory, which no table has judged. Its name stands in the path, or, where a
-/// link was followed, in `links`.
+/// Walks a path from a directory and returns the place at its end, without the unveil check. The name of the place
+/// borrows from `path` or, if a link was followed, from `links`.
 ///
 /// # Errors
 ///
@@ -54,7 +54,7 @@ pub(crate) fn walk_to<'a, L: Lookup>(
     path: &'a [u8],
     links: &'a mut Option<Place>,
 ) -> Result<PlaceRef<'a>, Refused>
-    requires whole { IsWhole parts.now }
+    requires whole { IsValid parts.now }
     requires start { IsTrue (is_directory_at parts.now.tree start) }
     requires text { IsTrue (is_text path.now) }
     requires agrees { L.agrees lookup.old (find_entry parts.now.tree) }
@@ -70,13 +70,13 @@ pub(crate) fn walk_to<'a, L: Lookup>(
     }
 }
 
-/// The place at the end of a walk from a directory, which the process's table allows for the permissions that are needed. Its
-/// name stands in the path, or, where a link was followed, in `links`.
+/// Walks a path from a directory and returns the place at its end, if the process's unveil table allows the needed
+/// permissions there. The name of the place borrows from `path` or, if a link was followed, from `links`.
 ///
 /// # Errors
 ///
-/// An error of the walk; else `ENOENT` where no entry governs the place, and `EACCES` where the one that does lacks a
-/// permission: unveil(2).
+/// An error of the walk. Otherwise `ENOENT`, if no entry governs the place, or `EACCES`, if the entry that governs it
+/// lacks a permission, as unveil(2).
 #[inline(always)]
 pub(crate) fn reach_from<'a, L: Lookup>(
     parts: &Parts,
@@ -86,7 +86,7 @@ pub(crate) fn reach_from<'a, L: Lookup>(
     walk: Walk<'a>,
     links: &'a mut Option<Place>,
 ) -> Result<PlaceRef<'a>, Refused>
-    requires whole { IsWhole parts.now }
+    requires whole { IsValid parts.now }
     requires live { IsSome (process_at parts.now pid) }
     requires start { IsTrue (is_directory_at parts.now.tree start) }
     requires text { IsTrue (is_text walk.path.now) }
@@ -121,7 +121,7 @@ pub(crate) fn reach_from<'a, L: Lookup>(
     }
 }
 
-/// The same from the working directory.
+/// Does the same as `reach_from`, from the working directory.
 pub(crate) fn reach<'a, L: Lookup>(
     parts: &Parts,
     lookup: &mut L,
@@ -129,7 +129,7 @@ pub(crate) fn reach<'a, L: Lookup>(
     walk: Walk<'a>,
     links: &'a mut Option<Place>,
 ) -> Result<PlaceRef<'a>, Refused>
-    requires whole { IsWhole parts.now }
+    requires whole { IsValid parts.now }
     requires live { IsSome (process_at parts.now pid) }
     requires text { IsTrue (is_text walk.path.now) }
     requires agrees { L.agrees lookup.old (find_entry parts.now.tree) }
@@ -143,7 +143,7 @@ pub(crate) fn reach<'a, L: Lookup>(
     reach_from(parts, lookup, pid, start, walk, links)
 }
 
-// The same of the second walk of a call: a refusal counts the first walk too.
+// Does the same as `reach` for the second walk of a call. A refusal counts the first walk too.
 fn reach_second<'a, L: Lookup>(
     parts: &Parts,
     lookup: &mut L,
@@ -151,7 +151,7 @@ fn reach_second<'a, L: Lookup>(
     walk: Walk<'a>,
     links: &'a mut Option<Place>,
 ) -> Result<PlaceRef<'a>, Refused>
-    requires whole { IsWhole parts.now }
+    requires whole { IsValid parts.now }
     requires live { IsSome (process_at parts.now pid) }
     requires text { IsTrue (is_text walk.path.now) }
     requires agrees { L.agrees lookup.old (find_entry parts.now.tree) }
@@ -170,25 +170,25 @@ fn reach_second<'a, L: Lookup>(
     }
 }
 
-/// A node to which a walk leads, and its place.
+/// A node at the end of a walk, with its place.
 #[derive(Drop)]
-pub(crate) struct Found<'a> {
+pub(crate) struct FoundNode<'a> {
     /// The node.
     pub(crate) node: u16,
-    /// The place at which it stands.
+    /// The place of the node.
     pub(crate) place: PlaceRef<'a>,
 }
 
-/// The node at the end of a walk from the working directory, with its place: `ENOENT` where nothing is, after an error of
-/// the walk and of its judgement.
+/// Walks from the working directory to an existing node, and returns it with its place. After the errors of the walk
+/// and of the unveil check, the error is `ENOENT` if nothing exists there.
 pub(crate) fn reach_found<'a, L: Lookup>(
     parts: &Parts,
     lookup: &mut L,
     pid: u32,
     walk: Walk<'a>,
     links: &'a mut Option<Place>,
-) -> Result<Found<'a>, Refused>
-    requires whole { IsWhole parts.now }
+) -> Result<FoundNode<'a>, Refused>
+    requires whole { IsValid parts.now }
     requires live { IsSome (process_at parts.now pid) }
     requires text { IsTrue (is_text walk.path.now) }
     requires agrees { L.agrees lookup.old (find_entry parts.now.tree) }
@@ -200,12 +200,12 @@ pub(crate) fn reach_found<'a, L: Lookup>(
 {
     let place = reach(parts, lookup, pid, walk, links)?;
     match place.node() {
-        Some(node) => Ok(Found { node, place }),
+        Some(node) => Ok(FoundNode { node, place }),
         None => Err(refusal(1, Errno::ENOENT)),
     }
 }
 
-/// The same, without the place.
+/// Does the same as `reach_found`, and returns the node alone.
 pub(crate) fn reach_node<L: Lookup>(
     parts: &Parts,
     lookup: &mut L,
@@ -213,7 +213,7 @@ pub(crate) fn reach_node<L: Lookup>(
     walk: Walk<'_>,
     links: &mut Option<Place>,
 ) -> Result<u16, Refused>
-    requires whole { IsWhole parts.now }
+    requires whole { IsValid parts.now }
     requires live { IsSome (process_at parts.now pid) }
     requires text { IsTrue (is_text walk.path.now) }
     requires agrees { L.agrees lookup.old (find_entry parts.now.tree) }
@@ -226,19 +226,20 @@ pub(crate) fn reach_node<L: Lookup>(
     Ok(found.node)
 }
 
-/// Where both walks of a call lead.
+/// The ends of both walks of a call.
 #[derive(Drop)]
 pub(crate) struct Both<'a> {
-    /// The node at the end of the first.
+    /// The node at the end of the first walk.
     pub(crate) node: u16,
-    /// The place at the end of the first.
+    /// The place at the end of the first walk.
     pub(crate) first: PlaceRef<'a>,
-    /// The place at the end of the second.
+    /// The place at the end of the second walk.
     pub(crate) second: PlaceRef<'a>,
 }
 
-/// The places at the ends of two walks from the working directory, with the node at the first: `ENOENT` where nothing is
-/// there, after an error of the first walk, then of its judgement, and the same of the second.
+/// Walks two paths from the working directory, and returns both places with the node at the first. After the errors of
+/// the first walk and its unveil check, and of the second walk and its unveil check, the error is `ENOENT` if nothing
+/// exists at the first place.
 pub(crate) fn reach_both<'a, L: Lookup>(
     parts: &Parts,
     lookup: &mut L,
@@ -247,7 +248,7 @@ pub(crate) fn reach_both<'a, L: Lookup>(
     second: Walk<'a>,
     links: &'a mut LinkRoom,
 ) -> Result<Both<'a>, Refused>
-    requires whole { IsWhole parts.now }
+    requires whole { IsValid parts.now }
     requires live { IsSome (process_at parts.now pid) }
     requires text { IsTrue (is_text first.path.now) }
     requires other { IsTrue (is_text second.path.now) }

@@ -1,6 +1,6 @@
-//! The call that gives a node another name: rename(2).
+//! Renaming: rename(2).
 ghost use Rattle.std.specs.Prelude.{◌≡◌, IsSome, IsTrue, MatchResult, Some};
-ghost use Rattle.pv_laws_states.specs.States.{IsWhole, is_text};
+ghost use Rattle.pv_laws_states.specs.States.{IsValid, is_text};
 ghost use Rattle.pv_model.specs.declared.outcome.Cause.TheVariants.{Plain};
 ghost use Rattle.pv_model.specs.Attempt.{give, refused};
 ghost use Rattle.pv_model.specs.Calls.Paths.{entries_there, is_directory_there, rename, same_node};
@@ -17,7 +17,7 @@ use pv_model::{Errno, Text, Walk};
 use pv_namei::Lookup;
 use pv_tree::Tree;
 
-// Whether what is there is this node.
+// Returns whether the node that exists is `node`.
 fn is_same_node(there: Option<u16>, node: u16) -> bool
     ensures { result ≡ same_node there node }
 {
@@ -27,7 +27,7 @@ fn is_same_node(there: Option<u16>, node: u16) -> bool
     }
 }
 
-// Whether a directory is there.
+// Returns whether a directory exists there.
 fn is_directory_there(tree: &Tree, there: Option<u16>) -> bool
     ensures { result ≡ is_directory_there tree.now.tree there }
 {
@@ -37,7 +37,7 @@ fn is_directory_there(tree: &Tree, there: Option<u16>) -> bool
     }
 }
 
-// Whether nothing is there that has entries.
+// Returns whether nothing exists there that has entries.
 fn is_empty_there(tree: &Tree, there: Option<u16>) -> bool
     ensures { result ≡ is_empty (entries_there tree.now.tree there) }
 {
@@ -47,9 +47,9 @@ fn is_empty_there(tree: &Tree, there: Option<u16>) -> bool
     }
 }
 
-// Whether a node may have a name in a directory in place of what is there: `EINVAL` where the directory is the node or
-// stands below it, `EISDIR` and `ENOTDIR` where one is a directory and the other is not, `ENOTEMPTY` where what is there
-// has entries.
+// Checks whether a node can get a name in a directory and replace the node that has this name. The errors are `EINVAL`
+// if the directory is the node or lies below it, `EISDIR` or `ENOTDIR` if exactly one of the two nodes is a directory,
+// and `ENOTEMPTY` if the replaced node has entries.
 fn check_move(tree: &Tree, node: u16, directory: u16, there: Option<u16>) -> Result<(), Errno>
     requires { IsTrue (is_directory_at tree.now.tree directory) }
     ensures { MatchResult result (λ _. check_move tree.now.tree node directory there ≡ give tt) (λ e. check_move tree.now.tree node directory there ≡ refused 0 e Plain) }
@@ -71,22 +71,29 @@ fn check_move(tree: &Tree, node: u16, directory: u16, there: Option<u16>) -> Res
     Ok(())
 }
 
-/// Gives the node at a path another name, in place of what has that name, rename(2): the answer is 0. Where both names
-/// are of one node nothing changes.
+/// Renames the node at a path and replaces the node that has the new name, as rename(2), and returns 0. If both names
+/// refer to the same node, nothing changes.
 ///
 /// # Errors
 ///
-/// `EINVAL` where a path ends in `.` or `..`; an error of the first walk, then of its judgement, and the same of the
-/// second; `ENOENT` where nothing is at the first place, and `EBUSY` where a path leads to no name; `EINVAL` where a
-/// directory would come into itself; `EISDIR` and `ENOTDIR` where one is a directory and the other is not; `ENOTEMPTY`
-/// where what has the name has entries; then `EFBIG` and `ENOSPC` for want of room.
+/// The first of these that applies:
+///
+/// - `EINVAL`, if a path ends in `.` or `..`;
+/// - an error of the first walk, then of its unveil check;
+/// - an error of the second walk, then of its unveil check;
+/// - `ENOENT`, if nothing exists at the first path;
+/// - `EBUSY`, if a path does not end at a name;
+/// - `EINVAL`, if a directory would be moved into itself;
+/// - `EISDIR` or `ENOTDIR`, if exactly one of the two nodes is a directory;
+/// - `ENOTEMPTY`, if the replaced directory has entries;
+/// - `EFBIG`, then `ENOSPC`, if there is no room.
 pub fn rename<L: Lookup + Drop>(
     system: &mut System<L>,
     pid: u32,
     path: &Text,
     new: &Text,
 ) -> Result<Done, Refused>
-    requires whole { IsWhole system.old.parts }
+    requires whole { IsValid system.old.parts }
     requires live { IsSome (process_at system.old.parts pid) }
     requires text { IsTrue (is_text path.now) }
     requires other { IsTrue (is_text new.now) }

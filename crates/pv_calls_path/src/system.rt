@@ -1,16 +1,16 @@
-//! What the calls that walk go by.
+//! The context of the calls that walk.
 
 use crate::links::LinkRoom;
 use pv_calls_state::Parts;
 use pv_namei::Lookup;
 
-/// The tree, the open files and the processes, with what a walk among them uses.
+/// The state of the machine and the context that walks need.
 #[derive(Drop)]
 pub struct System<L: Lookup + Drop> {
     /// The tree, the open files and the processes.
     pub parts: Parts,
-    /// A lookup of names, which agrees with the tree.
+    /// A name lookup that agrees with the tree.
     pub lookup: L,
-    /// Room for the places after links.
+    /// Storage for places behind links.
     pub links: LinkRoom,
 }

@@ -1,6 +1,6 @@
-//! unveil(2).
+//! Unveiling of paths: unveil(2).
 ghost use Rattle.std.specs.Prelude.{◌≡◌, IsSome, IsTrue, Some, option_copied};
-ghost use Rattle.pv_laws_states.specs.States.{IsWhole, is_text, is_text_or_none};
+ghost use Rattle.pv_laws_states.specs.States.{IsValid, is_text, is_text_or_none};
 ghost use Rattle.pv_model.specs.Attempt.{refused};
 ghost use Rattle.pv_model.specs.Calls.Restraints.{unveil};
 ghost use Rattle.pv_model.specs.State.{process_at};
@@ -17,7 +17,7 @@ use pv_namei::Lookup;
 use pv_tree::Tree;
 use pv_unveil::AddFault;
 
-/// What an unveil of a place is for: the directory that is there, or the name in its directory.
+/// Returns the target of an unveil entry for a place: the directory at the place, or else the name in its directory.
 pub fn target_of(tree: &Tree, place: Place) -> Target
     ensures { result ≡ target_of tree.now.tree place }
 {
@@ -30,7 +30,7 @@ pub fn target_of(tree: &Tree, place: Place) -> Target
     }
 }
 
-// The error and the cause that a fault answers, after so many walks.
+// Returns the error and the cause of an `AddFault`, after `walks` walks.
 fn answer_to(walks: u8, fault: AddFault) -> Refused
     ensures walks { result.walks ≡ walks }
     ensures fault { refusal_of fault ≡ refused 0 result.errno result.cause }
@@ -50,14 +50,14 @@ fn answer_to(walks: u8, fault: AddFault) -> Refused
     }
 }
 
-// An entry for what a path leads to, with the permissions of a text: no table judges the place.
+// Adds an entry for the end of a walk, with the permissions of a text. The place is not checked against the table.
 fn unveil_path<L: Lookup + Drop>(
     system: &mut System<L>,
     pid: u32,
     path: &[u8],
     permissions: &[u8],
 ) -> Result<Done, Refused>
-    requires whole { IsWhole system.old.parts }
+    requires whole { IsValid system.old.parts }
     requires live { IsSome (process_at system.old.parts pid) }
     requires text { IsTrue (is_text path.now) }
     requires agrees { L.agrees system.old.lookup (find_entry system.old.parts.tree) }
@@ -81,7 +81,7 @@ fn unveil_path<L: Lookup + Drop>(
     let target = target_of(parts.tree(), place.to_place());
     match parts.unveil(pid, target, permissions) {
         Ok(()) => {
-            // Nothing is left to trim.
+            // Every node is still referenced: nothing remains to collect.
             parts.invariant();
             answer_of(1, 0)
         }
@@ -89,21 +89,25 @@ fn unveil_path<L: Lookup + Drop>(
     }
 }
 
-/// Adds an entry for what a path leads to, or takes permissions from the one that is there; two nulls lock the table,
-/// unveil(2). The answer is 0.
+/// Adds an entry for the place at a path, or removes permissions from the existing entry, as unveil(2). Two nulls lock
+/// the table. Returns 0.
 ///
 /// # Errors
 ///
-/// `EINVAL` for one null beside a text, and for another byte in the permissions; `EPERM` under the lock; an error of the
-/// walk; `EPERM` where the entry that is there lacks a permission; `E2BIG` where there are 64 entries, and it would be
-/// another.
+/// The first of these that applies:
+///
+/// - `EINVAL`, if exactly one argument is null, or if the permissions contain an unknown byte;
+/// - `EPERM`, if the table is locked;
+/// - an error of the walk;
+/// - `EPERM`, if the existing entry lacks a requested permission;
+/// - `E2BIG`, if the table has 64 entries and the place has none.
 pub fn unveil<L: Lookup + Drop>(
     system: &mut System<L>,
     pid: u32,
     path: Option<&Text>,
     permissions: Option<&Text>,
 ) -> Result<Done, Refused>
-    requires whole { IsWhole system.old.parts }
+    requires whole { IsValid system.old.parts }
     requires live { IsSome (process_at system.old.parts pid) }
     requires text { IsTrue (is_text_or_none (option_copied path)) }
     requires agrees { L.agrees system.old.lookup (find_entry system.old.parts.tree) }

@@ -2,11 +2,11 @@
 use Rattle.std.proofs.Common.{◌≡◌, ℕ, zero, suc, ◌<◌, ◌+◌, ℤ, pos, ◌+ℤ◌, Bool, true, false, ◌||◌, [], length, take, drop, Option, None, Some, is_some, refl, ap, ap₂, sym, ◌∙◌, arith}
 use Rattle.std.specs.Prelude.{IsSome, option_map}
 use Rattle.pv_calls_plain.specs.Space.{space_errno, write_some}
-use Rattle.pv_calls_state.specs.Attempts.{trimmed}
+use Rattle.pv_calls_state.specs.Attempts.{collected}
 use Rattle.pv_calls_state.proofs.Attempts.{after_none, given, passed, refused_before, refused_first}
 use Rattle.pv_calls_plain.proofs.Room.{roomy, crowded}
 use Rattle.pv_inodes.specs.declared.space.Space.{Space}
-use Rattle.pv_laws_states.specs.States.{IsWhole}
+use Rattle.pv_laws_states.specs.States.{IsValid}
 use Rattle.pv_model.specs.declared.call.Whence.{Whence}
 use Rattle.pv_model.specs.declared.errno.Errno.TheVariants.{EFBIG, EINVAL}
 use Rattle.pv_model.specs.declared.limits.TheConstants.{BUFFER, OFFSET}
@@ -16,7 +16,7 @@ use Rattle.pv_model.specs.Attempt.{done, refused, demand, refuse_if, ◌>>=◌}
 use Rattle.pv_model.specs.Bytes.{Bytes}
 use Rattle.pv_model.specs.Calls.Descriptors.{fstat, getdents, is_past_greatest, lseek, next_name, read, seek_base, within, with_bytes_written, write, write_end, write_place, after_write}
 use Rattle.pv_model.specs.Effect.{answers, bytes_of, open_file, returns, returns_bytes, size_of, status, with_file, with_room}
-use Rattle.pv_model.specs.Held.{trim}
+use Rattle.pv_model.specs.Held.{collect}
 use Rattle.pv_model.specs.Numbered.{Numbered, at_number}
 use Rattle.pv_model.specs.Sealed.{is_file}
 use Rattle.pv_model.specs.State.{OpenFile, Process, State, process_at, reads, writes}
@@ -24,7 +24,7 @@ use Rattle.pv_model.specs.Tree.{Node, directory_node, file_node, link_node, Tree
 use Rattle.pv_laws_states.proofs.Processes.{files-update}
 use Rattle.pv_tree.specs.Rooms.{refusal}
 
--- a part of a value that is there
+-- a part of an optional value that is present
 pub part-is : {X Y : Type 0} (g : X → Y) (o : Option X) (x : X) (y : Y) → option_map g o ≡ Some y → o ≡ Some x → y ≡ g x
 part-is g o x y is at = let mine : option_map g o ≡ Some (g x) = ap (option_map g) at in cc
 
@@ -52,8 +52,8 @@ sized (Some (directory_node es)) n is has = cc
 sized (Some (file_node executable bytes)) n is has = cc
 sized (Some (link_node text)) n is has = cc
 
-module _ (s : State) (whole : IsWhole s) (k : ℕ) where
-  -- the node of an open file is there
+module _ (s : State) (whole : IsValid s) (k : ℕ) where
+  -- the node of an open file exists
   pub node-used : (t : Tree) (fs : Numbered OpenFile) (n : ℕ) → t ≡ s.tree → fs ≡ s.files → IsSome (at_number s.files k) → option_map (λ (f : OpenFile). f.node) (at_number fs k) ≡ Some n
       → IsSome (node_at t n)
   node-used t fs n tree files opened is =
@@ -66,7 +66,7 @@ module _ (s : State) (whole : IsWhole s) (k : ℕ) where
     pub is-plain : is_directory_at s.tree f.node ≡ false → is_file (node_at s.tree f.node) ≡ true
     is-plain plain = plain-file (node_at s.tree f.node) (whole.files.each k f at).node plain
 
-    -- a file that is open for writing is no directory
+    -- a file that is open for writing is not a directory
     pub is-written : writes f.mode ≡ true → is_file (node_at s.tree f.node) ≡ true
     is-written may = is-plain (by (is_directory_at s.tree f.node) refl)
       where
@@ -113,7 +113,7 @@ module _ (s : State) (pid : ℕ) (me : Process) (d : ℤ) (k : ℕ) (f : OpenFil
 
 -- ---- reads
 
--- a process that changes, and an open file, in either order
+-- a change of a process and a change of an open file commute
 with_file-update : (s : State) (pid : ℕ) (change : Process → Process) (k : ℕ) (f : OpenFile) → with_file (update s pid change) k f ≡ update (with_file s k f) pid change
 with_file-update s pid change k f = by (process_at s pid) refl
   where
@@ -121,7 +121,7 @@ with_file-update s pid change k f = by (process_at s pid) refl
     by None at = ap (λ o. with_file (update_live s pid change o) k f) at ∙ sym (ap (update_live (with_file s k f) pid change) at)
     by (Some p) at = ap (λ o. with_file (update_live s pid change o) k f) at ∙ sym (ap (update_live (with_file s k f) pid change) at)
 
--- a file's offset after bytes that came to the front of a process's buffer
+-- the offset of a file after bytes came to the front of a process's buffer
 pub offset-moved : (s mid new : State) (pid k : ℕ) (f : OpenFile) (bytes : Bytes) (offset : ℕ) → at_number s.files k ≡ Some f → mid ≡ update s pid (with_front bytes)
     → option_map (λ f. with_file mid k (record f { offset = offset })) (at_number mid.files k) ≡ Some new → new ≡ update (with_file s k (record f { offset = offset })) pid (with_front bytes)
 offset-moved s mid new pid k f bytes offset at front moved =
@@ -143,7 +143,7 @@ module _ (s : State) (pid : ℕ) (me : Process) (k : ℕ) (f : OpenFile) (count 
   past : (b : Bool) → is_past_greatest s.tree (at + count) ≡ b → is_past_greatest s.tree (write_end s pid me f count) ≡ b
   past b is = ap (λ n. is_past_greatest s.tree n) (end-at s pid me f count at some place) ∙ is
 
-  -- bytes past the greatest length
+  -- a write past the maximum length
   pub some-past : is_past_greatest s.tree (at + count) ≡ true → write_some s pid me k f count ≡ refused 0 EFBIG Plain
   some-past is = refused_before (refuse_if EFBIG (is_past_greatest s.tree (write_end s pid me f count))) _ 0 EFBIG Plain (ap (refuse_if EFBIG) (past true is))
 
@@ -157,16 +157,16 @@ module _ (s : State) (pid : ℕ) (me : Process) (k : ℕ) (f : OpenFile) (count 
     rest : write_some s pid me k f count ≡ (with_room (after_write s pid me k f count) >>= (λ s. answers s count))
     rest = passed (refuse_if EFBIG (is_past_greatest s.tree (write_end s pid me f count))) tt _ (ap (refuse_if EFBIG) (past false short))
 
-    -- bytes that have no room
-    pub some-crowded : (why : Space) → refusal (trim written).tree ≡ Some why → write_some s pid me k f count ≡ refused 0 (space_errno why) Plain
+    -- a write without room
+    pub some-crowded : (why : Space) → refusal (collect written).tree ≡ Some why → write_some s pid me k f count ≡ refused 0 (space_errno why) Plain
     some-crowded why is =
         rest ∙ refused_first (with_room (after_write s pid me k f count)) _ 0 (space_errno why) Plain
-        (crowded (after_write s pid me k f count) why (ap (λ x. refusal (trim x).tree) after-is ∙ is))
+        (crowded (after_write s pid me k f count) why (ap (λ x. refusal (collect x).tree) after-is ∙ is))
 
-    pub some-written : (new : State) → new ≡ trim written → refusal new.tree ≡ None
-        → trimmed (write_some s pid me k f count) ≡ done 0 (new, returns count)
+    pub some-written : (new : State) → new ≡ collect written → refusal new.tree ≡ None
+        → collected (write_some s pid me k f count) ≡ done 0 (new, returns count)
     some-written new is room =
-        let same : trim (after_write s pid me k f count) ≡ new = ap trim after-is ∙ sym is in
-        ap trimmed (rest ∙ given (with_room (after_write s pid me k f count)) (after_write s pid me k f count) (λ s. answers s count)
+        let same : collect (after_write s pid me k f count) ≡ new = ap collect after-is ∙ sym is in
+        ap collected (rest ∙ given (with_room (after_write s pid me k f count)) (after_write s pid me k f count) (λ s. answers s count)
         (roomy (after_write s pid me k f count) (ap (λ (x : State). refusal x.tree) same ∙ room)))
         ∙ ap (λ x. done 0 (x, returns count)) same

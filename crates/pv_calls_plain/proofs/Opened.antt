@@ -1,4 +1,4 @@
--- The open file that a descriptor is on.
+-- The open file of a descriptor.
 use Rattle.std.proofs.Common.{◌≡◌, ℕ, ℤ, pos, negsuc, Option, Some, None, refl, ap, sym, subst, ◌∙◌}
 use Rattle.std.specs.Option.{ok_or}
 use Rattle.std.specs.Prelude.{IfSome, IsSome, MatchOption, option_map, is_some}
@@ -10,15 +10,15 @@ use Rattle.pv_model.specs.Effect.{descriptor_at, open_file, open_file_of}
 use Rattle.pv_model.specs.Numbered.{Numbered, at_number}
 use Rattle.pv_model.specs.State.{Descriptor, Process, State, process_at}
 use Rattle.pv_laws_states.proofs.ByProcess.{my-descriptor}
-use Rattle.pv_laws_states.specs.States.{IsWhole}
+use Rattle.pv_laws_states.specs.States.{IsValid}
 use Rattle.pv_calls_state.proofs.Alone.{some-at}
 
 under-is : (me : Process) (d : ℤ) → descriptor_under me.descriptors d ≡ descriptor_at me d
 under-is me (pos d) = refl
 under-is me (negsuc d) = refl
 
-module _ (s : State) (pid : ℕ) (me : Process) (whole : IsWhole s) (at : process_at s pid ≡ Some me) (d : ℤ) where
-  -- what the descriptors find is the open file's number
+module _ (s : State) (pid : ℕ) (me : Process) (whole : IsValid s) (at : process_at s pid ≡ Some me) (d : ℤ) where
+  -- the lookup in the descriptors finds the number of the open file
   pub on-file : (ds : Numbered Descriptor) → ds ≡ me.descriptors → (o : Option ℕ)
       → o ≡ result_ok (ok_or (option_map (λ (e : Descriptor). e.file) (descriptor_under ds d)) EBADF) → MatchOption o (open_file s me d ≡ None) (λ k. IsOn s me d k)
   on-file ds mine o is =
@@ -35,7 +35,7 @@ module _ (s : State) (pid : ℕ) (me : Process) (whole : IsWhole s) (at : proces
       by None found none = subst (λ p. MatchOption p (open_file s me d ≡ None) (λ k. IsOn s me d k)) (sym none) (ap (open_file_of s) found)
       by (Some x) found some = subst (λ p. MatchOption p (open_file s me d ≡ None) (λ k. IsOn s me d k)) (sym some) (there x found)
 
-  -- which is open
+  -- that file is open
   pub on-opened : (o : Option ℕ) → MatchOption o (open_file s me d ≡ None) (λ k. IsOn s me d k) → IfSome o (λ k. IsSome (at_number s.files k))
   on-opened None is = tt
   on-opened (Some k) is = ap is_some is.there

@@ -1,4 +1,4 @@
--- The system call of pledge(2), by what becomes of both values together.
+-- pledge(2), by the result of narrowing both values together.
 use Rattle.std.proofs.Common.{◌≡◌, ℕ, Option, Result, Ok, Err, ap}
 use Rattle.pv_model.specs.declared.errno.Errno.TheVariants.{EPERM}
 use Rattle.pv_model.specs.declared.outcome.Cause.TheVariants.{Promise as ByPromise}
@@ -9,7 +9,7 @@ use Rattle.pv_model.specs.Calls.Restraints.{asked_promises, unless_refused, pled
 use Rattle.pv_model.specs.Effect.{Effect, answers, returns}
 use Rattle.pv_model.specs.Promises.{Promises, is_lenient, narrow_promises}
 use Rattle.pv_model.specs.State.{Process, State, with_process}
-use Rattle.pv_promises.specs.Pledge.{Pledged, narrow_both, both_kept}
+use Rattle.pv_promises.specs.Pledge.{Pledged, narrow_both, both_preserved}
 use Rattle.pv_calls_state.proofs.Attempts.{after_none}
 
 abbrev pub pledged : Process → Pledged
@@ -21,27 +21,27 @@ with_pledged v p = record p { promises = v.promises; execpromises = v.execpromis
 module _ (s : State) (pid : ℕ) (me : Process) where
   abbrev both_asked : Result (Option Promises) Promise → Result (Option Promises) Promise → Attempt Effect
   both_asked first second =
-      unless_refused first >>= (λ kept. unless_refused second >>= (λ exec_kept. answers (with_process s pid (record me { promises = kept; execpromises = exec_kept })) 0))
+      unless_refused first >>= (λ preserved. unless_refused second >>= (λ exec_preserved. answers (with_process s pid (record me { promises = preserved; execpromises = exec_preserved })) 0))
 
-  kept : (first second : Result (Option Promises) Promise) (v : Pledged) → both_kept first second ≡ Ok v
+  preserved : (first second : Result (Option Promises) Promise) (v : Pledged) → both_preserved first second ≡ Ok v
       → both_asked first second ≡ done 0 (with_process s pid (with_pledged v me), returns 0)
-  kept (Ok a) (Ok b) v e =
+  preserved (Ok a) (Ok b) v e =
       let same : ◌≡◌ {A = Pledged} (record { promises = a; execpromises = b }) v = cc in
       ap (λ w. done 0 (with_process s pid (with_pledged w me), returns 0)) same
-  kept (Ok a) (Err p) v e = cc
-  kept (Err p) second v e = cc
+  preserved (Ok a) (Err p) v e = cc
+  preserved (Err p) second v e = cc
 
-  refused_promise : (first second : Result (Option Promises) Promise) (p : Promise) → both_kept first second ≡ Err p → both_asked first second ≡ refused 0 EPERM (ByPromise p)
+  refused_promise : (first second : Result (Option Promises) Promise) (p : Promise) → both_preserved first second ≡ Err p → both_asked first second ≡ refused 0 EPERM (ByPromise p)
   refused_promise (Ok a) (Ok b) p e = cc
   refused_promise (Ok a) (Err q) p e = let same : q ≡ p = cc in ap (λ r. refused 0 EPERM (ByPromise r)) same
   refused_promise (Err q) second p e = let same : q ≡ p = cc in ap (λ r. refused 0 EPERM (ByPromise r)) same
 
   module _ (promises execpromises : Option Bytes) (asked exec_asked : Option Promises)
       (first : asked_promises promises ≡ give asked) (second : asked_promises execpromises ≡ give exec_asked) where
-    pub pledge-kept : (v : Pledged) → narrow_both (pledged me) asked exec_asked ≡ Ok v
+    pub pledge-preserved : (v : Pledged) → narrow_both (pledged me) asked exec_asked ≡ Ok v
         → pledge s pid me promises execpromises ≡ done 0 (with_process s pid (with_pledged v me), returns 0)
-    pledge-kept v e =
-        rw (first, second, after_none, after_none) (kept
+    pledge-preserved v e =
+        rw (first, second, after_none, after_none) (preserved
         (narrow_promises (is_lenient me.promises) me.promises asked)
         (narrow_promises (is_lenient me.promises) me.execpromises exec_asked) v e)
 

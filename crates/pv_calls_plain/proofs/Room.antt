@@ -1,4 +1,4 @@
--- What the room of a tree makes of an attempt.
+-- The effect of a tree's room on an attempt.
 use Rattle.std.proofs.Common.{◌≡◌, Bool, true, false, not, if◌then◌else◌, Option, None, Some, refl, subst}
 use Rattle.pv_inodes.specs.declared.space.Space.{Space}
 use Rattle.pv_inodes.specs.declared.space.Space.TheVariants.{Full, TooBig}
@@ -6,7 +6,7 @@ use Rattle.pv_model.specs.declared.errno.Errno.TheVariants.{EFBIG, ENOSPC}
 use Rattle.pv_model.specs.declared.outcome.Cause.TheVariants.{Plain}
 use Rattle.pv_model.specs.Attempt.{refused, ◌>>◌, give, refuse_if}
 use Rattle.pv_model.specs.Effect.{with_room}
-use Rattle.pv_model.specs.Held.{trim}
+use Rattle.pv_model.specs.Held.{collect}
 use Rattle.pv_model.specs.Room.{is_too_long, fits}
 use Rattle.pv_model.specs.State.{State}
 use Rattle.pv_calls_plain.specs.Space.{space_errno}
@@ -21,10 +21,10 @@ room_is s true fit = refl
 room_is s false true = refl
 room_is s false false = refl
 
--- a state whose tree has room goes on
-pub roomy : (s : State) → refusal (trim s).tree ≡ None → with_room s ≡ give s
-roomy s is = subst (room_by s (is_too_long (trim s).tree) (fits (trim s).tree)) is (room_is s (is_too_long (trim s).tree) (fits (trim s).tree))
+-- an attempt whose tree has room continues
+pub roomy : (s : State) → refusal (collect s).tree ≡ None → with_room s ≡ give s
+roomy s is = subst (room_by s (is_too_long (collect s).tree) (fits (collect s).tree)) is (room_is s (is_too_long (collect s).tree) (fits (collect s).tree))
 
--- one whose tree has none is refused
-pub crowded : (s : State) (why : Space) → refusal (trim s).tree ≡ Some why → with_room s ≡ refused 0 (space_errno why) Plain
-crowded s why is = subst (room_by s (is_too_long (trim s).tree) (fits (trim s).tree)) is (room_is s (is_too_long (trim s).tree) (fits (trim s).tree))
+-- an attempt whose tree has no room is refused
+pub crowded : (s : State) (why : Space) → refusal (collect s).tree ≡ Some why → with_room s ≡ refused 0 (space_errno why) Plain
+crowded s why is = subst (room_by s (is_too_long (collect s).tree) (fits (collect s).tree)) is (room_is s (is_too_long (collect s).tree) (fits (collect s).tree))

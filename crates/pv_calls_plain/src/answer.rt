@@ -1,4 +1,4 @@
-//! What a call comes to, and how its process is told.
+//! The answer of a call, and its delivery to the calling process.
 ghost use Rattle.std.specs.Prelude.{◌≡◌, ◌+◌, ◌≤◌, length, IsSome, IfOk, OnErr, Some, Ok};
 ghost use Rattle.pv_model.specs.declared.limits.TheConstants.{NUMBER};
 ghost use Rattle.pv_model.specs.declared.outcome.Cause.TheVariants.{Plain};
@@ -6,9 +6,9 @@ ghost use Rattle.pv_model.specs.Answer.{answer_by_attempt, update, with_front};
 ghost use Rattle.pv_model.specs.Attempt.{Attempt, done as done_attempt};
 ghost use Rattle.pv_model.specs.Bytes.{Bytes};
 ghost use Rattle.pv_model.specs.Effect.{Effect, returns_bytes};
-ghost use Rattle.pv_model.specs.Held.{trim};
+ghost use Rattle.pv_model.specs.Held.{collect};
 ghost use Rattle.pv_model.specs.State.{Process, State, process_at};
-ghost use Rattle.pv_calls_state.specs.Attempts.{trimmed};
+ghost use Rattle.pv_calls_state.specs.Attempts.{collected};
 ghost use Rattle.pv_calls_plain.specs.Performed.{attempt_of, answered};
 ghost use Rattle.pv_calls_plain.specs.Space.{space_errno};
 
@@ -17,43 +17,43 @@ use pv_model::limits::BUFFER;
 use pv_model::{Cause, Errno, Outcome, Taken};
 use pv_tree::Space;
 
-/// What a call answered, and how many walks it began.
+/// The result of a call: its outcome and the number of path walks that it began.
 #[derive(Clone, Copy, Debug, PartialEq, Eq)]
 pub struct Answer {
-    /// What the call came to.
+    /// The outcome.
     pub outcome: Outcome,
-    /// How many walks it began, from 0 to 2.
+    /// The number of walks that the call began, from 0 to 2.
     pub walks: u8,
 }
 
-/// What a call that succeeded comes to, after so many walks; its process is not told yet.
+/// The result of a call that succeeded, before it is reported to the process.
 #[derive(Clone, Copy, Debug, PartialEq, Eq)]
 pub struct Done {
-    /// How many walks the call began, from 0 to 2.
+    /// The number of walks that the call began, from 0 to 2.
     pub walks: u8,
-    /// What it answers.
+    /// The value that the call returns.
     pub value: u32,
 }
 
-/// Why a call is refused, after so many walks; its process is not told yet.
+/// The result of a call that was refused, before it is reported to the process.
 #[derive(Clone, Copy, Debug, PartialEq, Eq)]
 pub struct Refused {
-    /// How many walks the call began, from 0 to 2.
+    /// The number of walks that the call began, from 0 to 2.
     pub walks: u8,
     /// The error.
     pub errno: Errno,
-    /// What decided it: a promise, an entry, the lock, or the call itself.
+    /// The cause: a promise, an unveil entry, the lock, or the call itself.
     pub cause: Cause,
 }
 
-/// A value, after so many walks.
+/// Returns success with `value`.
 pub fn answer_of(walks: u8, value: u32) -> Result<Done, Refused>
     ensures { result ≡ Ok (record { walks = walks; value = value }) }
 {
     Ok(Done { walks, value })
 }
 
-/// A refusal that the call itself decides, after so many walks.
+/// Returns a refusal whose cause is the call itself.
 pub fn refusal(walks: u8, errno: Errno) -> Refused
     ensures { result ≡ record { walks = walks; errno = errno; cause = Plain } }
 {
@@ -64,7 +64,8 @@ pub fn refusal(walks: u8, errno: Errno) -> Refused
     }
 }
 
-/// The error of a want of space: `EFBIG` where a file or a directory would be too long, `ENOSPC` where the image is full.
+/// Returns the error for a lack of space: `EFBIG` if a file or directory would be too long, `ENOSPC` if the image is
+/// full.
 pub fn space_errno(why: Space) -> Errno
     ensures { result ≡ space_errno why }
 {
@@ -74,19 +75,19 @@ pub fn space_errno(why: Space) -> Errno
     }
 }
 
-/// Tells a live process what its call came to, and gives the answer.
+/// Reports the result of a call to a live process in r0 and r1, and returns the answer.
 #[inline(always)]
-pub fn tell(parts: &mut Parts, pid: u32, performed: Result<Done, Refused>) -> Answer
+pub fn report(parts: &mut Parts, pid: u32, performed: Result<Done, Refused>) -> Answer
     requires live { IsSome (process_at parts.old pid) }
     requires small { IfOk performed (λ d. d.value ≤ NUMBER) }
-    ensures told { (before s : State) (me : Process) (a : Attempt Effect) → trimmed a ≡ attempt_of parts.old performed → OnErr performed (parts.old ≡ s)
+    ensures reported { (before s : State) (me : Process) (a : Attempt Effect) → collected a ≡ attempt_of parts.old performed → OnErr performed (parts.old ≡ s)
         → answer_by_attempt before s pid me a ≡ answered parts.new result }
     ensures tree { parts.new.tree ≡ parts.old.tree }
 {
     parts.invariant();
     match performed {
         Ok(Done { walks, value }) => {
-            parts.tell(pid, value as i32, 0);
+            parts.report(pid, value as i32, 0);
             Answer {
                 outcome: Outcome::Value(value),
                 walks,
@@ -99,7 +100,7 @@ pub fn tell(parts: &mut Parts, pid: u32, performed: Result<Done, Refused>) -> An
                 cause,
             },
         ) => {
-            parts.tell(pid, -1, errno.number());
+            parts.report(pid, -1, errno.number());
             Answer {
                 outcome: Outcome::Failed(errno, cause),
                 walks,
@@ -108,34 +109,35 @@ pub fn tell(parts: &mut Parts, pid: u32, performed: Result<Done, Refused>) -> An
     }
 }
 
-/// Tells a live process a value, with bytes at the front of its buffer, and gives the answer.
-pub fn tell_bytes(parts: &mut Parts, pid: u32, told: Done, bytes: &[u8]) -> Answer
+/// Reports a value to a live process, copies `bytes` to the front of its buffer, and returns the answer.
+pub fn report_bytes(parts: &mut Parts, pid: u32, reported: Done, bytes: &[u8]) -> Answer
     requires live { IsSome (process_at parts.old pid) }
-    requires small { told.value ≤ NUMBER }
+    requires small { reported.value ≤ NUMBER }
     requires size { length bytes.now ≤ BUFFER }
-    ensures { (before s after : State) (me : Process) → trim after ≡ parts.old
-        → answer_by_attempt before s pid me (done_attempt told.walks (after, returns_bytes told.value bytes.now)) ≡ answered parts.new result }
+    ensures { (before s after : State) (me : Process) → collect after ≡ parts.old
+        → answer_by_attempt before s pid me (done_attempt reported.walks (after, returns_bytes reported.value bytes.now)) ≡ answered parts.new result }
 {
     parts.invariant();
     parts.put_front(pid, bytes);
-    tell_front(parts, pid, told, bytes.len())
+    report_front(parts, pid, reported, bytes.len())
 }
 
-/// Tells a live process a value, where so many bytes stand at the front of its buffer already, and gives the answer.
-pub fn tell_front(parts: &mut Parts, pid: u32, told: Done, len: usize) -> Answer
+/// Reports a value to a live process whose buffer already has `len` bytes of the answer at its front, and returns the
+/// answer.
+pub fn report_front(parts: &mut Parts, pid: u32, reported: Done, len: usize) -> Answer
     requires live { IsSome (process_at parts.old pid) }
-    requires small { told.value ≤ NUMBER }
+    requires small { reported.value ≤ NUMBER }
     requires size { len ≤ BUFFER }
-    ensures { (before s after : State) (me : Process) (bytes : Bytes) → len ≡ length bytes → trim (update after pid (with_front bytes)) ≡ parts.old
-        → answer_by_attempt before s pid me (done_attempt told.walks (after, returns_bytes told.value bytes)) ≡ answered parts.new result }
+    ensures { (before s after : State) (me : Process) (bytes : Bytes) → len ≡ length bytes → collect (update after pid (with_front bytes)) ≡ parts.old
+        → answer_by_attempt before s pid me (done_attempt reported.walks (after, returns_bytes reported.value bytes)) ≡ answered parts.new result }
 {
     parts.invariant();
-    parts.tell(pid, told.value as i32, 0);
+    parts.report(pid, reported.value as i32, 0);
     Answer {
         outcome: Outcome::Text(Taken {
-            value: told.value,
+            value: reported.value,
             len: len as u16,
         }),
-        walks: told.walks,
+        walks: reported.walks,
     }
 }

@@ -1,6 +1,6 @@
-//! What is done with open files: read(2), write(2), lseek(2), fstat(2), ftruncate(2), getdents(2).
+//! Calls on open files: read(2), write(2), lseek(2), fstat(2), ftruncate(2), getdents(2).
 ghost use Rattle.std.specs.Prelude.{ℕ, pos, ◌≡◌, ◌≤◌, ◌<◌, ◌+ℤ◌, false, length, IfOk, IsSome, IsTrue, MatchResult, OnErr, Some};
-ghost use Rattle.pv_laws_states.specs.States.{IsWhole};
+ghost use Rattle.pv_laws_states.specs.States.{IsValid};
 ghost use Rattle.pv_model.specs.declared.outcome.Cause.TheVariants.{Plain};
 ghost use Rattle.pv_model.specs.Attempt.{refused};
 ghost use Rattle.pv_model.specs.Calls.Descriptors.{fstat, ftruncate, getdents, is_past_greatest, lseek, next_name, read, seek_base, within, write, write_place};
@@ -8,12 +8,12 @@ ghost use Rattle.pv_model.specs.Numbered.{at_number};
 ghost use Rattle.pv_model.specs.Sealed.{is_file};
 ghost use Rattle.pv_model.specs.State.{OpenFile, Process, process_at, reads, writes};
 ghost use Rattle.pv_model.specs.Tree.{entries_at, is_directory_at, node_at};
-ghost use Rattle.pv_calls_state.specs.Attempts.{trimmed};
+ghost use Rattle.pv_calls_state.specs.Attempts.{collected};
 ghost use Rattle.pv_calls_plain.specs.Space.{write_some};
 ghost use Rattle.pv_calls_plain.specs.Performed.{GivesFront, IsAnswered, IsPerformed, attempt_of};
 
 use crate::answer::{
-    Answer, Done, Refused, answer_of, refusal, space_errno, tell, tell_bytes, tell_front,
+    Answer, Done, Refused, answer_of, refusal, report, report_bytes, report_front, space_errno,
 };
 use crate::descriptors::open_file;
 use crate::status::status;
@@ -22,7 +22,7 @@ use pv_model::limits::{BUFFER, OFFSET};
 use pv_model::{Errno, Mode, Name, Whence};
 use pv_tree::Tree;
 
-// A number from 0 to a limit.
+// Returns `n` if it is from 0 to `limit`.
 fn within(limit: usize, n: i32) -> Option<usize>
     ensures { result ≡ within limit n }
 {
@@ -32,21 +32,21 @@ fn within(limit: usize, n: i32) -> Option<usize>
     }
 }
 
-// Whether a file that is open so can be read.
+// Returns whether a file opened in this mode can be read.
 fn reads(mode: Mode) -> bool
     ensures { result ≡ reads mode }
 {
     !matches!(mode, Mode::Write)
 }
 
-/// Whether a file that is open so can be written.
+/// Returns whether a file opened in this mode can be written.
 pub fn writes(mode: Mode) -> bool
     ensures { result ≡ writes mode }
 {
     !matches!(mode, Mode::Read)
 }
 
-// A number of bytes from the beginning, counted from a base: none below 0 or above the greatest offset.
+// Returns `base + by` as an offset, or `None` if the sum is below 0 or above the maximum offset.
 fn offset_from(base: u32, by: i32) -> Option<u32>
     ensures { result ≡ within OFFSET (pos base +ℤ by) }
 {
@@ -56,16 +56,16 @@ fn offset_from(base: u32, by: i32) -> Option<u32>
     }
 }
 
-// Whether a file may not have so many bytes.
+// Returns whether `length` exceeds the maximum length of a file.
 fn is_past_greatest(tree: &Tree, length: u32) -> bool
     ensures { result ≡ is_past_greatest tree.now.tree length }
 {
     length > tree.sizes().version.layout().greatest_length
 }
 
-// Reads to the front of the process's buffer what a read(2) takes, and moves the offset after it: answers how many.
+// Reads for read(2) into the front of the process's buffer, moves the offset past the bytes, and returns their number.
 fn read_front(parts: &mut Parts, pid: u32, d: i32, n: i32) -> Result<usize, Errno>
-    requires whole { IsWhole parts.old }
+    requires whole { IsValid parts.old }
     requires live { IsSome (process_at parts.old pid) }
     ensures performed { (me : Process) → process_at parts.old pid ≡ Some me → MatchResult result
         (λ count. GivesFront (read parts.old pid me d n) pid count parts.new)
@@ -93,32 +93,32 @@ fn read_front(parts: &mut Parts, pid: u32, d: i32, n: i32) -> Result<usize, Errn
     Ok(taken)
 }
 
-/// Reads at most so many bytes from the offset on to the front of the process's buffer, read(2): the answer is how
-/// many, and the offset goes after them.
+/// Reads at most `n` bytes from the offset to the front of the process's buffer, as read(2). The answer is the number
+/// of bytes read, and the offset moves past them.
 ///
-/// A descriptor that is not open for reading is refused with `EBADF`, a count outside 0 to 4,096 with `EINVAL`, and a
-/// directory with `EISDIR`.
+/// The call is refused with `EBADF` if the descriptor is not open for reading, with `EINVAL` if `n` is not from 0 to
+/// 4,096, and with `EISDIR` if the descriptor refers to a directory.
 pub fn read(parts: &mut Parts, pid: u32, d: i32, n: i32) -> Answer
-    requires whole { IsWhole parts.old }
+    requires whole { IsValid parts.old }
     requires live { IsSome (process_at parts.old pid) }
     ensures performed { IsAnswered (λ s me. read s pid me d n) parts.old pid parts.new result }
 {
     match read_front(parts, pid, d, n) {
         Ok(count) => {
             parts.invariant();
-            let told = Done {
+            let reported = Done {
                 walks: 0,
                 value: count as u32,
             };
-            tell_front(parts, pid, told, count)
+            report_front(parts, pid, reported, count)
         }
-        Err(errno) => tell(parts, pid, Err(refusal(0, errno))),
+        Err(errno) => report(parts, pid, Err(refusal(0, errno))),
     }
 }
 
-// Where a write through an open file begins: at the end where it is open for appending.
+// Returns the offset at which a write begins: the end of the file if it is open for appending.
 fn write_place(parts: &Parts, file: usize) -> u32
-    requires whole { IsWhole parts.now }
+    requires whole { IsValid parts.now }
     requires opened { IsSome (at_number parts.now.files file) }
     requires plain { (f : OpenFile) → at_number parts.now.files file ≡ Some f → is_directory_at parts.now.tree f.node ≡ false }
     ensures place { (pid : ℕ) (me : Process) (f : OpenFile) → at_number parts.now.files file ≡ Some f → result ≡ write_place parts.now pid me f }
@@ -131,15 +131,20 @@ fn write_place(parts: &Parts, file: usize) -> u32
     }
 }
 
-/// Writes the first bytes of the process's buffer at the offset, or at the end of a file that is open for appending,
-/// write(2): the answer is how many, and the offset goes after them. A write of no bytes changes nothing.
+/// Writes the first `n` bytes of the process's buffer, as write(2), and returns `n`. The write begins at the offset, or
+/// at the end of a file that is open for appending, and the offset moves past the bytes. A write of no bytes changes
+/// nothing.
 ///
 /// # Errors
 ///
-/// `EBADF` where the descriptor is not open for writing, `EINVAL` where the count is not from 0 to 4,096, `EFBIG`
-/// where the file would be longer than any may be, and `ENOSPC` where the image has no room; nothing has then changed.
+/// - `EBADF`, if the descriptor is not open for writing.
+/// - `EINVAL`, if `n` is not from 0 to 4,096.
+/// - `EFBIG`, if the file would exceed its maximum length.
+/// - `ENOSPC`, if the image has no room.
+///
+/// The state is unchanged after an error.
 pub fn write(parts: &mut Parts, pid: u32, d: i32, n: i32) -> Result<Done, Refused>
-    requires whole { IsWhole parts.old }
+    requires whole { IsValid parts.old }
     requires live { IsSome (process_at parts.old pid) }
     ensures performed { IsPerformed (λ s me. write s pid me d n) parts.old pid parts.new result }
 {
@@ -158,16 +163,16 @@ pub fn write(parts: &mut Parts, pid: u32, d: i32, n: i32) -> Result<Done, Refuse
     write_bytes(parts, pid, file, count)
 }
 
-// Writes the first bytes of the process's buffer, at least one, through an open file.
+// Writes the first `count` bytes of the process's buffer, at least one, through an open file.
 fn write_bytes(parts: &mut Parts, pid: u32, file: usize, count: usize) -> Result<Done, Refused>
-    requires whole { IsWhole parts.old }
+    requires whole { IsValid parts.old }
     requires live { IsSome (process_at parts.old pid) }
     requires some { 0 < count }
     requires few { count ≤ BUFFER }
     requires there { IsSome (at_number parts.old.files file) }
     requires plain { (f : OpenFile) → at_number parts.old.files file ≡ Some f → IsTrue (is_file (node_at parts.old.tree f.node)) }
     ensures performed { (me : Process) (f : OpenFile) → process_at parts.old pid ≡ Some me → at_number parts.old.files file ≡ Some f
-        → trimmed (write_some parts.old pid me file f count) ≡ attempt_of parts.new result }
+        → collected (write_some parts.old pid me file f count) ≡ attempt_of parts.new result }
     ensures unchanged { OnErr result (parts.new ≡ parts.old) }
     ensures small { IfOk result (λ d. d.value ≤ BUFFER) }
 {
@@ -184,9 +189,9 @@ fn write_bytes(parts: &mut Parts, pid: u32, file: usize, count: usize) -> Result
     }
 }
 
-// From where an offset of an open file counts.
+// Returns the base from which lseek(2) counts.
 fn seek_base(parts: &Parts, file: usize, whence: Whence) -> u32
-    requires whole { IsWhole parts.now }
+    requires whole { IsValid parts.now }
     requires opened { IsSome (at_number parts.now.files file) }
     requires plain { (f : OpenFile) → at_number parts.now.files file ≡ Some f → is_directory_at parts.now.tree f.node ≡ false }
     ensures { (pid : ℕ) (me : Process) (f : OpenFile) → at_number parts.now.files file ≡ Some f → result ≡ seek_base parts.now pid me f whence }
@@ -198,15 +203,17 @@ fn seek_base(parts: &Parts, file: usize, whence: Whence) -> u32
     }
 }
 
-/// Moves the offset of an open file, lseek(2): it becomes so many bytes, counted from the beginning, from the offset
-/// or from the end, and is the answer.
+/// Sets the offset of an open file, as lseek(2), and returns it. The new offset is `by` bytes from the beginning, from
+/// the current offset, or from the end.
 ///
 /// # Errors
 ///
-/// `EBADF` where the descriptor is not open, `EINVAL` where it is on a directory, or where the offset would be below 0
-/// or above 2,147,483,647; nothing has then changed.
+/// - `EBADF`, if the descriptor is not open.
+/// - `EINVAL`, if the descriptor refers to a directory, or if the offset would be below 0 or above 2,147,483,647.
+///
+/// The state is unchanged after an error.
 pub fn lseek(parts: &mut Parts, pid: u32, d: i32, by: i32, whence: Whence) -> Result<Done, Refused>
-    requires whole { IsWhole parts.old }
+    requires whole { IsValid parts.old }
     requires live { IsSome (process_at parts.old pid) }
     ensures performed { IsPerformed (λ s me. lseek s pid me d by whence) parts.old pid parts.new result }
 {
@@ -226,33 +233,36 @@ pub fn lseek(parts: &mut Parts, pid: u32, d: i32, by: i32, whence: Whence) -> Re
     answer_of(0, offset)
 }
 
-/// Tells what an open file is, as stat(2) does, fstat(2): eight bytes come to the front of the buffer, and the answer
-/// is 0.
+/// Reports the status of an open file, as fstat(2). The eight bytes of stat(2) come to the front of the buffer, and the
+/// answer is 0.
 ///
-/// A descriptor that is not open is refused with `EBADF`.
+/// The call is refused with `EBADF` if the descriptor is not open.
 pub fn fstat(parts: &mut Parts, pid: u32, d: i32) -> Answer
-    requires whole { IsWhole parts.old }
+    requires whole { IsValid parts.old }
     requires live { IsSome (process_at parts.old pid) }
     ensures performed { IsAnswered (λ s me. fstat s pid me d) parts.old pid parts.new result }
 {
     let Some(file) = open_file(parts, pid, d) else {
-        return tell(parts, pid, Err(refusal(0, Errno::EBADF)));
+        return report(parts, pid, Err(refusal(0, Errno::EBADF)));
     };
     parts.invariant();
     let bytes = status(parts.tree(), parts.files().node(file));
-    let told = Done { walks: 0, value: 0 };
-    tell_bytes(parts, pid, told, &bytes)
+    let reported = Done { walks: 0, value: 0 };
+    report_bytes(parts, pid, reported, &bytes)
 }
 
-/// Cuts a file to so many bytes, or fills it up to them with zeros, ftruncate(2): the answer is 0.
+/// Truncates a file to `n` bytes, or extends it to them with zeros, as ftruncate(2), and returns 0.
 ///
 /// # Errors
 ///
-/// `EBADF` where the descriptor is not open, `EINVAL` where it is not open for writing or the length is below 0,
-/// `EFBIG` where the file would be longer than any may be, and `ENOSPC` where the image has no room; nothing has then
-/// changed.
+/// - `EBADF`, if the descriptor is not open.
+/// - `EINVAL`, if the descriptor is not open for writing, or if `n` is below 0.
+/// - `EFBIG`, if the file would exceed its maximum length.
+/// - `ENOSPC`, if the image has no room.
+///
+/// The state is unchanged after an error.
 pub fn ftruncate(parts: &mut Parts, pid: u32, d: i32, n: i32) -> Result<Done, Refused>
-    requires whole { IsWhole parts.old }
+    requires whole { IsValid parts.old }
     requires live { IsSome (process_at parts.old pid) }
     ensures performed { IsPerformed (λ s me. ftruncate s pid me d n) parts.old pid parts.new result }
 {
@@ -277,40 +287,41 @@ pub fn ftruncate(parts: &mut Parts, pid: u32, d: i32, n: i32) -> Result<Done, Re
     }
 }
 
-/// Gives the least name of a directory after the last one that its open file gave, getdents(2): it comes to the front
-/// of the buffer, and the answer is its length, 0 where there is none.
+/// Returns the next name of a directory, as getdents(2): the least name after the last one that its open file gave. The
+/// name comes to the front of the buffer. The answer is its length, or 0 if there are no more names.
 ///
-/// A descriptor that is not open is refused with `EBADF`, and one on no directory with `EINVAL`.
+/// The call is refused with `EBADF` if the descriptor is not open, and with `EINVAL` if it does not refer to a
+/// directory.
 pub fn getdents(parts: &mut Parts, pid: u32, d: i32) -> Answer
-    requires whole { IsWhole parts.old }
+    requires whole { IsValid parts.old }
     requires live { IsSome (process_at parts.old pid) }
     ensures performed { IsAnswered (λ s me. getdents s pid me d) parts.old pid parts.new result }
 {
     let Some(file) = open_file(parts, pid, d) else {
-        return tell(parts, pid, Err(refusal(0, Errno::EBADF)));
+        return report(parts, pid, Err(refusal(0, Errno::EBADF)));
     };
     let node = parts.files().node(file);
     if !parts.tree().is_directory(node) {
-        return tell(parts, pid, Err(refusal(0, Errno::EINVAL)));
+        return report(parts, pid, Err(refusal(0, Errno::EINVAL)));
     }
     match next_name(parts, file, node) {
         None => {
             parts.invariant();
-            tell_bytes(parts, pid, Done { walks: 0, value: 0 }, &[])
+            report_bytes(parts, pid, Done { walks: 0, value: 0 }, &[])
         }
         Some(name) => {
             parts.set_last_name(file, name.copy());
             parts.invariant();
-            let told = Done {
+            let reported = Done {
                 walks: 0,
                 value: name.len() as u32,
             };
-            tell_bytes(parts, pid, told, name.as_slice())
+            report_bytes(parts, pid, reported, name.as_slice())
         }
     }
 }
 
-// The least name of a directory after the last one that an open file gave.
+// Returns the least name of a directory after the last one that an open file gave.
 fn next_name(parts: &Parts, file: usize, directory: u16) -> Option<Name>
     requires opened { IsSome (at_number parts.now.files file) }
     requires directory { IsTrue (is_directory_at parts.now.tree directory) }

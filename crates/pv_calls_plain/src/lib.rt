@@ -1,8 +1,9 @@
-//! The system calls that walk no path: what each does to the parts, error by error.
+//! The system calls that walk no path, implemented on `pv_calls_state::Parts`.
 //!
-//! Each comes to the definitions' effect, with what it leaves trimmed. `answer` has what a call comes to in code, and how its
-//! process is answered; `descriptors` and `files` have the calls on descriptors and open files, `processes` those on
-//! processes, `pledge` pledge(2), and `status` the bytes of stat(2).
+//! Each call has the errors and the effect that the definitions give it. `answer` has the results of calls and reports
+//! them to the process. The calls are in `descriptors` (close, dup, dup2, fchdir), `files` (read, write, lseek, fstat,
+//! ftruncate, getdents), `processes` (getpid, getppid, fork, wait, exit) and `pledge`. `status` encodes the bytes of
+//! stat(2).
 #![tactic(auto)]
 
 pub mod answer;

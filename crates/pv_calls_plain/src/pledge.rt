@@ -1,6 +1,6 @@
-//! What a process gives up: pledge(2).
+//! Narrowing of promises: pledge(2).
 ghost use Rattle.std.specs.Prelude.{◌≡◌, IsSome, MatchResult, Some, option_copied};
-ghost use Rattle.pv_laws_states.specs.States.{IsWhole};
+ghost use Rattle.pv_laws_states.specs.States.{IsValid};
 ghost use Rattle.pv_model.specs.declared.outcome.Cause.TheVariants.{Plain};
 ghost use Rattle.pv_model.specs.Attempt.{give, refused};
 ghost use Rattle.pv_model.specs.Calls.Restraints.{asked_promises, pledge};
@@ -13,7 +13,7 @@ use pv_calls_state::Parts;
 use pv_model::{Cause, Errno, Promises, Text};
 use pv_promises::read_promises;
 
-// The set that is asked for, if one is.
+// Parses the promises that a text asks for, if there is a text.
 fn asked(text: Option<&Text>) -> Result<Option<Promises>, Errno>
     ensures { MatchResult result (λ set. asked_promises (option_copied text.entry) ≡ give (bits_of set)) (λ e. asked_promises (option_copied text.entry) ≡ refused 0 e Plain) }
 {
@@ -23,19 +23,22 @@ fn asked(text: Option<&Text>) -> Result<Option<Promises>, Errno>
     }
 }
 
-/// Narrows the promises and the execpromises of a live process to what two texts ask for, pledge(2): the answer is 0.
+/// Narrows the promises and the execpromises of a live process to the keywords of two texts, as pledge(2), and returns
+/// 0.
 ///
 /// # Errors
 ///
-/// `EINVAL` where a text has an unknown keyword, the promises first. `EPERM`, with the promise as its cause, where one
-/// is not held, unless `error` is promised. Nothing has then changed.
+/// - `EINVAL`, if a text has an unknown keyword. The promises are checked first.
+/// - `EPERM`, with the promise as its cause, if a keyword is not held and `error` is not promised.
+///
+/// The state is unchanged after an error.
 pub fn pledge(
     parts: &mut Parts,
     pid: u32,
     promises: Option<&Text>,
     execpromises: Option<&Text>,
 ) -> Result<Done, Refused>
-    requires whole { IsWhole parts.old }
+    requires whole { IsValid parts.old }
     requires live { IsSome (process_at parts.old pid) }
     ensures performed { IsPerformed (λ s me. pledge s pid me (option_copied promises.entry) (option_copied execpromises.entry)) parts.old pid parts.new result }
 {

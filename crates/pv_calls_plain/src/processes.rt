@@ -1,6 +1,6 @@
-//! Numbers of processes, children, and ends: getpid(2), getppid(2), fork(2), wait(2), exit(3).
+//! Process numbers, children and exit: getpid(2), getppid(2), fork(2), wait(2), exit(3).
 ghost use Rattle.std.specs.Prelude.{◌≡◌, ◌≢◌, ◌↔◌, IsSome, IsTrue, MatchResult, Ok, Err, Some};
-ghost use Rattle.pv_laws_states.specs.States.{IsWhole};
+ghost use Rattle.pv_laws_states.specs.States.{IsValid};
 ghost use Rattle.pv_model.specs.declared.outcome.Cause.TheVariants.{Plain};
 ghost use Rattle.pv_model.specs.Attempt.{give};
 ghost use Rattle.pv_model.specs.Calls.Processes.{exit_status, getpid, getppid, fork, wait};
@@ -8,13 +8,13 @@ ghost use Rattle.pv_model.specs.Effect.{waits};
 ghost use Rattle.pv_model.specs.State.{Process, process_at};
 ghost use Rattle.pv_calls_plain.specs.Performed.{IsAnswered, IsPerformed};
 
-use crate::answer::{Answer, Done, Refused, answer_of, refusal, tell, tell_bytes};
+use crate::answer::{Answer, Done, Refused, answer_of, refusal, report, report_bytes};
 use crate::status::four_bytes;
 use pv_calls_state::Parts;
 use pv_model::Errno;
 use pv_procs::Reap;
 
-/// What a call that walks no path comes to.
+/// Converts the result of a call that walks no path.
 pub(crate) fn plain(performed: Result<u32, Errno>) -> Result<Done, Refused>
     ensures { MatchResult performed (λ value. result ≡ Ok (record { walks = 0; value = value }))
         (λ errno. result ≡ Err (record { walks = 0; errno = errno; cause = Plain })) }
@@ -25,16 +25,16 @@ pub(crate) fn plain(performed: Result<u32, Errno>) -> Result<Done, Refused>
     }
 }
 
-/// The status that exit(3) leaves: the code's low byte, times 256.
+/// Returns the status that exit(3) leaves: 256 times the low byte of the code.
 pub fn exit_status(code: i32) -> u32
     ensures { result ≡ exit_status code }
 {
     code.rem_euclid(256) as u32 * 256
 }
 
-/// The number of a live process, getpid(2).
+/// Returns the number of a live process, as getpid(2).
 pub fn getpid(parts: &Parts, pid: u32) -> Result<Done, Refused>
-    requires whole { IsWhole parts.now }
+    requires whole { IsValid parts.now }
     requires live { IsSome (process_at parts.now pid) }
     ensures performed { IsPerformed (λ s me. getpid s pid me) parts.now pid parts.now result }
 {
@@ -42,9 +42,9 @@ pub fn getpid(parts: &Parts, pid: u32) -> Result<Done, Refused>
     answer_of(0, pid)
 }
 
-/// The number of a live process's parent, getppid(2): 0 where it has none.
+/// Returns the number of a live process's parent, as getppid(2), or 0 if it has none.
 pub fn getppid(parts: &Parts, pid: u32) -> Result<Done, Refused>
-    requires whole { IsWhole parts.now }
+    requires whole { IsValid parts.now }
     requires live { IsSome (process_at parts.now pid) }
     ensures performed { IsPerformed (λ s me. getppid s pid me) parts.now pid parts.now result }
 {
@@ -52,21 +52,21 @@ pub fn getppid(parts: &Parts, pid: u32) -> Result<Done, Refused>
     answer_of(0, parts.processes().parent_of(pid).unwrap_or(0))
 }
 
-/// Makes a child of a live process, fork(2): its number is the answer.
+/// Makes a child of a live process, as fork(2), and returns its number.
 ///
 /// # Errors
 ///
-/// `EAGAIN` where 32 processes are live or have ended and are not waited for, or where the last number given was
-/// 99,999; nothing has then changed.
+/// `EAGAIN`, if there are 32 processes, live or ended and not yet waited for, or if the last number given was 99,999.
+/// The state is then unchanged.
 pub fn fork(parts: &mut Parts, pid: u32) -> Result<Done, Refused>
-    requires whole { IsWhole parts.old }
+    requires whole { IsValid parts.old }
     requires live { IsSome (process_at parts.old pid) }
     ensures performed { IsPerformed (λ s me. fork s pid me) parts.old pid parts.new result }
 {
     plain(parts.fork(pid))
 }
 
-/// Whether a wait(2) of a live process would wait: it has children, and all are live.
+/// Returns whether wait(2) would block a live process: it has children, and all of them are live.
 pub fn would_wait(parts: &Parts, pid: u32) -> bool
     requires live { IsSome (process_at parts.now pid) }
     ensures { (me : Process) → process_at parts.now pid ≡ Some me → IsTrue result ↔ (wait parts.now pid me ≡ give (parts.now, waits)) }
@@ -74,25 +74,26 @@ pub fn would_wait(parts: &Parts, pid: u32) -> bool
     parts.processes().waits(pid)
 }
 
-/// Waits for a child that has ended, wait(2): the one with the least number goes, its number is the answer, and the
-/// four bytes of its status come to the front of the buffer. The call of `would_wait` goes before.
+/// Waits for an ended child, as wait(2). The ended child with the lowest number is removed, its number is the answer,
+/// and the four bytes of its status come to the front of the buffer. The caller must first check that `would_wait` is
+/// false.
 ///
-/// A process without children is refused with `ECHILD`.
+/// The call is refused with `ECHILD` if the process has no children.
 pub fn wait(parts: &mut Parts, pid: u32) -> Answer
-    requires whole { IsWhole parts.old }
+    requires whole { IsValid parts.old }
     requires live { IsSome (process_at parts.old pid) }
-    requires goes_on { (me : Process) → process_at parts.old pid ≡ Some me → wait parts.old pid me ≢ give (parts.old, waits) }
+    requires continues { (me : Process) → process_at parts.old pid ≡ Some me → wait parts.old pid me ≢ give (parts.old, waits) }
     ensures performed { IsAnswered (λ s me. wait s pid me) parts.old pid parts.new result }
 {
     match parts.reap(pid) {
         Reap::Child(number, status) => {
-            let told = Done {
+            let reported = Done {
                 walks: 0,
                 value: number,
             };
-            tell_bytes(parts, pid, told, &four_bytes(status))
+            report_bytes(parts, pid, reported, &four_bytes(status))
         }
-        Reap::NoChild => tell(parts, pid, Err(refusal(0, Errno::ECHILD))),
+        Reap::NoChild => report(parts, pid, Err(refusal(0, Errno::ECHILD))),
         Reap::Blocked => unreachable!(),
     }
 }

@@ -6,21 +6,22 @@ ghost use Rattle.pv_model.specs.Tree.{node_at};
 
 use pv_tree::Tree;
 
-/// A number in four bytes, the lowest first.
+/// Returns the four bytes of a number, the lowest first.
 pub(crate) fn four_bytes(n: u32) -> [u8; 4]
     ensures { result ≡ little_endian 4 n }
 {
     n.to_le_bytes()
 }
 
-// A number in two bytes, the lowest first.
+// Returns the two bytes of a number, the lowest first.
 fn two_bytes(n: u16) -> [u8; 2]
     ensures { result ≡ little_endian 2 n }
 {
     n.to_le_bytes()
 }
 
-/// What stat(2) tells of a node: what it is, 0, its number in two bytes and its size in four, the lowest first.
+/// Returns the bytes that stat(2) reports of a node: its kind, 0, its number in two bytes and its size in four, each
+/// number with its lowest byte first.
 pub fn status(tree: &Tree, node: u16) -> [u8; 8]
     requires { IsSome (node_at tree.now.tree node) }
     ensures { result ≡ status tree.now.tree node }

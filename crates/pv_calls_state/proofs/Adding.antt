@@ -1,4 +1,4 @@
--- What a table's targets hold with another entry, or with other permissions.
+-- The references of a table's targets after an entry is added or its permissions change.
 use Rattle.std.proofs.Common.{◌≡◌, ℕ, ◌+◌, ◌⊎◌, inl, inr, Bool, true, false, nat_le, nat_lt, List, [], ◌∷◌, ◌++◌, length, Option, None, Some, refl, ap, sym, subst, ap₂, ◌∙◌, arith}
 use Rattle.std.specs.Prelude.{if◌then◌else◌}
 use Rattle.std.proofs.Math.Seq.{map-set_same}
@@ -16,7 +16,7 @@ use Rattle.pv_model.specs.Held.{held_by_table}
 use Rattle.pv_model.specs.Perms.{covers}
 use Rattle.pv_model.specs.State.{State, Process}
 use Rattle.pv_model.specs.Unveil.{Table, same_target, entry_for, permissions_at, with_permissions, target_directory}
-use Rattle.pv_laws_states.proofs.Standing.{same-directory}
+use Rattle.pv_laws_states.proofs.Present.{same-directory}
 use Rattle.pv_procs.specs.ProcessTable.{ProcessTable, state_with}
 use Rattle.pv_tree.specs.Holding.{HeldTree, holds_at}
 use Rattle.pv_unveil.specs.Added.{put_in, add_to}
@@ -27,13 +27,13 @@ use Rattle.pv_calls_state.specs.Counts.{state_of, times, IsCountedUp}
 use Rattle.pv_calls_state.proofs.Attempts.{after_none}
 use Rattle.pv_calls_state.proofs.Changing.{IsBefore, counted-changed, state-put}
 use Rattle.pv_calls_state.proofs.Targets.{of_entry, directories, held-entries}
-use Rattle.pv_calls_state.proofs.Trimming.{times-append, times-cons}
+use Rattle.pv_calls_state.proofs.Collecting.{times-append, times-cons}
 
--- the directory that comes with a new entry
+-- the directory of an entry, if the entry is new
 abbrev pub if_new : Bool → ℕ → List ℕ
 if_new is_new directory = if is_new then directory ∷ [] else []
 
--- a table with an entry for a target: as long as before and with the same directories, or longer by one
+-- the table has the same length and directories as before, or is longer by the target
 abbrev Holds : Table → Target → Table → Type 0
 Holds old target table =
     ((length table ≡ length old) × ((n : ℕ) → times n (directories table) ≡ times n (directories old)))
@@ -69,7 +69,7 @@ added-holds table true target permissions new is = cc
 added-holds table false target permissions new is =
     entry-holds (entries_of_table table) target permissions new _ refl (sym (after_none (put_in (entries_of_table table) target permissions)) ∙ is)
 
--- what is held more where an entry is added: its directory, if the table is longer
+-- a new entry adds one reference to its directory
 pub added-times : (u : Unveiled) (target : Target) (permissions : Perms) (new : Table) → add_to u target permissions ≡ give new → (n : ℕ)
     → times n (directories new) ≡ times n (directories (entries_of_table u.table)) + times n (if_new (nat_lt (length (entries_of_table u.table)) (length new)) (target_directory target))
 added-times u target permissions new is n =
@@ -82,7 +82,7 @@ added-times u target permissions new is n =
     by false longer (inl same) = omega (arith, same.1 n)
     by false longer (inr more) = absurd (omega (arith, more.0, ltb-false _ _ longer))
 
--- a process whose table has another entry, or other permissions
+-- a process whose table has another entry, or an entry with other permissions
 module _ (t : HeldTree) (c : Counted) (ps : ProcessTable) (pid : ℕ) (me : Process) (is : IsBefore t c ps pid me) (target : Target) (permissions : Perms) (is_new : Bool) (qs : ProcessTable)
     (adds : AddsEntry ps pid me target permissions is_new qs) (h : HeldTree) where
   abbrev longer : Bool

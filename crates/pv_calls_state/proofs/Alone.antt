@@ -1,4 +1,4 @@
--- Processes that change alone: what is used and held stays as it is counted.
+-- Changes of one process that change no count of users or references.
 use Rattle.std.proofs.Common.{◌≡◌, ℕ, zero, suc, ◌+◌, ◌-◌, pos, Bool, true, false, [], ◌∷◌, Option, None, Some, refl, ap, ap₂, sym, subst, ◌∙◌}
 use Rattle.std.specs.Prelude.{◌+ℤ◌, slice_get, slice_index, option_map, is_some}
 use Rattle.std.specs.FinMap.Entries.{is_sorted}
@@ -24,7 +24,7 @@ use Rattle.pv_script.specs.Passing.{Passes}
 use Rattle.pv_tree.specs.Holding.{HeldTree}
 
 module _ (tree : HeldTree) (c : Counted) (ps : ProcessTable) (up : IsCountedUp tree c ps) (sorted : is_sorted nat_cmp ps.processes ≡ true) (pid : ℕ) where
-  -- a live process is replaced by one that uses and holds the same
+  -- a live process is replaced by one with the same open files and references
   pub counted-with : (p q : Process) → process_in ps pid ≡ Some p → SameHolds p q → IsCountedUp tree c (with_process ps pid q)
   counted-with p q at same =
       let s = state_of tree c ps in
@@ -36,7 +36,7 @@ module _ (tree : HeldTree) (c : Counted) (ps : ProcessTable) (up : IsCountedUp t
             (sym (holds-put held_by_process s pid p q sorted at (ap₂ (λ d t. d ∷ held_by_table t) same.directory same.table)));
       }
 
-  -- a live process is changed in what it neither uses nor holds
+  -- a change of a live process that affects neither its open files nor its references
   pub counted-update : (f : Process → Process) → ((p : Process) → process_in ps pid ≡ Some p → SameHolds p (f p)) → IsCountedUp tree c (update ps pid f)
   counted-update f same = by (process_in ps pid) refl
     where
@@ -44,7 +44,7 @@ module _ (tree : HeldTree) (c : Counted) (ps : ProcessTable) (up : IsCountedUp t
       by None at = up
       by (Some p) at = counted-with p (f p) at (same p at)
 
--- what a process owns, changed in what it neither uses nor holds
+-- a changed record with the same open files and references
 pub same-record : (p : Process) (r : ProcessRecord) → r.directory ≡ p.directory → r.unveiled.table ≡ p.table → r.descriptors ≡ p.descriptors → SameHolds p (with_record p r)
 same-record p r directory table descriptors = record { directory = directory; table = table; descriptors = descriptors; parent = refl }
 
@@ -52,13 +52,13 @@ pub some-at : {X : Type 0} (o : Option X) → is_some o ≡ true → (x : X) × 
 some-at None is = cc
 some-at (Some x) is = (x, refl)
 
--- what was lent is what the process owns
+-- a borrowed record is the record of its process
 pub lent-is : (o : Option Process) (p : Process) (r : ProcessRecord) → option_map record_of o ≡ Some r → o ≡ Some p → r ≡ record_of p
 lent-is o p r lent at = let mine : option_map record_of o ≡ Some (record_of p) = ap (option_map record_of) at in cc
 
 -- ---- instructions
 
--- what comes next holds the same, if it stays inside the process
+-- if the next instruction stays inside the process, the references stay the same
 abbrev HoldsNext : Process → Next → Type 0
 HoldsNext p (inside q) = SameHolds p q
 HoldsNext p (calls_for call) = p ≡ p
@@ -111,7 +111,7 @@ performs p (Line.Rename path new) = refl
 performs p (Line.Link path new) = refl
 performs p (Line.Symlink text path) = refl
 
--- an instruction inside a process changes nothing that it uses or holds
+-- an instruction inside a process changes neither its open files nor its references
 pub inside-same : (p q : Process) → next p ≡ inside q → SameHolds p q
 inside-same p q is = subst (HoldsNext p) is (by (slice_get p.program (p.line - 1)))
   where
@@ -123,7 +123,7 @@ both-same : (p mid q : Process) → SameHolds p mid → SameHolds mid q → Same
 both-same p mid q one two =
     stays p q (two.directory ∙ one.directory) (two.table ∙ one.table) (two.descriptors ∙ one.descriptors) (two.parent ∙ one.parent)
 
--- nor do several
+-- the same for several instructions
 pub passes-same : (n : ℕ) (p q : Process) → Passes n p q → SameHolds p q
 passes-same zero p q same = subst (SameHolds p) (sym same) (stays p p refl refl refl refl)
 passes-same (suc n) p q made = both-same p made.0 q (passes-same n p made.0 made.1) (inside-same made.0 q made.2)
@@ -131,13 +131,13 @@ passes-same (suc n) p q made = both-same p made.0 q (passes-same n p made.0 made
 -- ---- a process that changes by its instructions
 
 module _ (tree : HeldTree) (c : Counted) (ps qs : ProcessTable) (pid : ℕ) where
-  -- where it uses and holds what it did
+  -- the counts stay right
   counted-moved : (by : Process → Process → Type 0) → ((p q : Process) → by p q → SameHolds p q) → IsCountedUp tree c ps → is_sorted nat_cmp ps.processes ≡ true
       → Moves by pid ps qs → IsCountedUp tree c qs
   counted-moved by same up sorted made =
       subst (IsCountedUp tree c) (sym made.only) (counted-with tree c ps up sorted pid made.me made.after made.lives (same made.me made.after made.step))
 
-  -- what the state makes of it
+  -- the change as a change of the state
   moved-is : (by : Process → Process → Type 0) (s : State) → state_of tree c ps ≡ s → Moves by pid ps qs → MovesInside by s pid (state_of tree c qs)
   moved-is by s seen made = record {
     me = made.me;
@@ -147,7 +147,7 @@ module _ (tree : HeldTree) (c : Counted) (ps qs : ProcessTable) (pid : ℕ) wher
     only = ap (state_of tree c) made.only ∙ ap (λ (t : State). with_process_at t pid made.after) seen;
   }
 
-  -- an instruction that came next and was made
+  -- the next instruction was carried out
   pub counted-registered : (step_or_fetch : Fetched) → IsCountedUp tree c ps → is_sorted nat_cmp ps.processes ≡ true → Registered step_or_fetch pid ps qs → IsCountedUp tree c qs
   counted-registered Gone up sorted same = subst (IsCountedUp tree c) (sym same.1) up
   counted-registered Register up sorted made = counted-moved (λ me after. next me ≡ inside after) inside-same up sorted made
@@ -160,7 +160,7 @@ module _ (tree : HeldTree) (c : Counted) (ps qs : ProcessTable) (pid : ℕ) wher
   registered-is s (Call call) seen same =
       ((same.0.0, sym (ap (λ (t : State). process_at t pid) seen) ∙ same.0.1, same.0.2), ap (state_of tree c) same.1 ∙ seen)
 
-  -- several, one after another
+  -- several instructions were carried out in sequence
   pub counted-passed : (n : ℕ) → IsCountedUp tree c ps → is_sorted nat_cmp ps.processes ≡ true → PassesIn n pid ps qs → IsCountedUp tree c qs
   counted-passed zero up sorted same = subst (IsCountedUp tree c) (sym same) up
   counted-passed (suc n) up sorted made = counted-moved (Passes (suc n)) (passes-same (suc n)) up sorted made
@@ -186,7 +186,7 @@ counted-file tree c ps up k f g at same = record {
   holds = λ n. up.holds n ∙ ap (λ ns. times n (held_in ps.processes) + times n ns) (sym (nodes-same c.files k f g at same));
 }
 
--- the same where it is changed
+-- the same for a change of an open file
 pub counted-changed : (tree : HeldTree) (c new : Counted) (ps : ProcessTable) → IsCountedUp tree c ps → (k : ℕ) (change : OpenFile → OpenFile) → ((f : OpenFile) → (change f).node ≡ f.node)
     → option_map (λ f. with_file c k (change f)) (at_number c.files k) ≡ Some new → IsCountedUp tree new ps
 counted-changed tree c new ps up k change same is = by (at_number c.files k) refl is

@@ -1,4 +1,4 @@
--- A process that changes, and what it uses and holds with it.
+-- A process that changes, with its open files and references.
 use Rattle.std.proofs.Common.{◌≡◌, ℕ, ◌+◌, ◌*◌, ◌<◌, ◌≤◌, true, List, length, Option, None, Some, refl, ap, sym, subst, ◌∙◌, arith}
 use Rattle.std.specs.Prelude.{slice_index, option_map, IsSome}
 use Rattle.std.specs.FinMap.Entries.{find, is_sorted}
@@ -6,9 +6,9 @@ use Rattle.std.specs.Ordering.{nat_cmp}
 use Rattle.std.proofs.lemmas.Bool.{and_parts, leb-true}
 use Rattle.std.proofs.lemmas.List.{length-map}
 use Rattle.pv_files.specs.Counted.{Counted, IsCounted}
-use Rattle.pv_laws_states.specs.States.{IsWhole, IsPlaced, is_target}
+use Rattle.pv_laws_states.specs.States.{IsValid, IsPlaced, is_target}
 use Rattle.pv_laws_states.proofs.Members.{all_of, live-found, found-live}
-use Rattle.pv_model.specs.Held.{used_files, held_by_table, held_by_process, trim}
+use Rattle.pv_model.specs.Held.{used_files, held_by_table, held_by_process, collect}
 use Rattle.pv_model.specs.Numbered.{Numbered, at_number}
 use Rattle.pv_model.specs.State.{OpenFile, Process, live, ended_record, State, process_at, with_process as state_with_process}
 use Rattle.pv_model.specs.Tree.{Tree}
@@ -17,14 +17,14 @@ use Rattle.pv_model.specs.Answer.{update as state_updated, update_live as state_
 use Rattle.pv_procs.specs.declared.record.ProcessRecord.{ProcessRecord as Owned}
 use Rattle.pv_procs.specs.Parts.{record_of}
 use Rattle.pv_procs.specs.ProcessTable.{ProcessTable, process_in, with_process, update, update_live, state_with}
-use Rattle.pv_tree.specs.Holding.{HeldTree, holds_at, trimmed}
-use Rattle.pv_tree.specs.Standing.{IsStanding}
+use Rattle.pv_tree.specs.Holding.{HeldTree, holds_at, collected}
+use Rattle.pv_tree.specs.Present.{IsPresent}
 use Rattle.pv_calls_state.specs.Changes.{with_directory}
 use Rattle.pv_calls_state.specs.Counts.{state_of, times, used_in, held_in, open_nodes, IsCountedUp}
 use Rattle.pv_calls_state.specs.Releasing.{files_on, HoldsOpened}
 use Rattle.pv_calls_state.proofs.Counting.{one-self, times-put, times-within, length-all_of, length-listed}
 use Rattle.pv_calls_state.proofs.Releasing.{of_file, of_node}
-use Rattle.pv_calls_state.proofs.Trimming.{times-cons, trim-parts}
+use Rattle.pv_calls_state.proofs.Collecting.{times-cons, collect-parts}
 use Rattle.pv_tree.proofs.Entries.{one_if}
 
 pub some-process : (o : Option Process) → IsSome o → (p : Process) × (o ≡ Some p)
@@ -34,29 +34,29 @@ some-process None is = absurd (no is)
     no h = cc h
 some-process (Some p) is = (p, refl)
 
--- parts that are whole before a call, and a process of them
+-- the parts are valid before a call, and have this process
 pub record IsBefore (t : HeldTree) (c : Counted) (ps : ProcessTable) (pid : ℕ) (me : Process) : Type 0 where
-  pub whole : IsWhole (state_of t c ps)
+  pub whole : IsValid (state_of t c ps)
   pub up : IsCountedUp t c ps
-  pub standing : IsStanding t
+  pub present : IsPresent t
   pub counted : IsCounted c
   pub at : process_in ps pid ≡ Some me
 
-pub before : (s : State) (t : HeldTree) (c : Counted) (ps : ProcessTable) (pid : ℕ) (me : Process) → state_of t c ps ≡ s → IsWhole s → IsCountedUp t c ps → IsStanding t → IsCounted c
+pub before : (s : State) (t : HeldTree) (c : Counted) (ps : ProcessTable) (pid : ℕ) (me : Process) → state_of t c ps ≡ s → IsValid s → IsCountedUp t c ps → IsPresent t → IsCounted c
     → process_at s pid ≡ Some me → IsBefore t c ps pid me
-before s t c ps pid me view whole up standing counted at = record {
-  whole = subst IsWhole (sym view) whole;
+before s t c ps pid me view whole up present counted at = record {
+  whole = subst IsValid (sym view) whole;
   up = up;
-  standing = standing;
+  present = present;
   counted = counted;
   at = ap (λ x. process_at x pid) view ∙ at;
 }
 
--- and some process of them
-pub started : (s : State) (t : HeldTree) (c : Counted) (ps : ProcessTable) (pid : ℕ) → state_of t c ps ≡ s → IsWhole s → IsCountedUp t c ps → IsStanding t → IsCounted c
+-- the same for some process
+pub started : (s : State) (t : HeldTree) (c : Counted) (ps : ProcessTable) (pid : ℕ) → state_of t c ps ≡ s → IsValid s → IsCountedUp t c ps → IsPresent t → IsCounted c
     → IsSome (process_at s pid) → (me : Process) × IsBefore t c ps pid me
-started s t c ps pid view whole up standing counted there =
-    let found = some-process (process_at s pid) there in (found.0, before s t c ps pid found.0 view whole up standing counted found.1)
+started s t c ps pid view whole up present counted there =
+    let found = some-process (process_at s pid) there in (found.0, before s t c ps pid found.0 view whole up present counted found.1)
 
 module _ (t : HeldTree) (c : Counted) (ps : ProcessTable) (pid : ℕ) (me : Process) (is : IsBefore t c ps pid me) where
   pub ordered : is_sorted nat_cmp ps.processes ≡ true
@@ -71,7 +71,7 @@ module _ (t : HeldTree) (c : Counted) (ps : ProcessTable) (pid : ℕ) (me : Proc
   pub updated : (f : Process → Process) → update ps pid f ≡ with_process ps pid (f me)
   updated f = ap (update_live ps pid f) is.at
 
-  -- what one process has is among what all have
+  -- the elements of one process are among those of all processes
   part-of : (g : Process → List ℕ) (n : ℕ) → times n (g me) ≤ times n (all_of g ps.processes)
   part-of g n = omega (arith, times-put g n ps.processes pid (live me) (ended_record 0 0) ordered found)
 
@@ -84,7 +84,7 @@ module _ (t : HeldTree) (c : Counted) (ps : ProcessTable) (pid : ℕ) (me : Proc
   pub holds-opened : HoldsOpened t c
   holds-opened = record { each = λ n. omega (arith, is.up.holds n) }
 
-  -- what it owns
+  -- the record of the process
   pub owned : (r : Owned) → option_map record_of (process_in ps pid) ≡ Some r → record_of me ≡ r
   owned r same = let eq : Some (record_of me) ≡ Some r = ap (option_map record_of) (sym is.at) ∙ same in cc eq
 
@@ -92,14 +92,14 @@ module _ (t : HeldTree) (c : Counted) (ps : ProcessTable) (pid : ℕ) (me : Proc
   own-directory n same =
       omega (arith, holds-own n, times-cons n me.directory (held_by_table me.table), ap (λ m. one_if m n) (sym same), one-self n)
 
-  -- the state with it changed
+  -- the state with the process changed
   pub state-updated : (s : State) (f : Process → Process) → state_of t c ps ≡ s → state_with t.tree c.files (with_process ps pid (f me)) ≡ state_updated s pid f
   state-updated s f view = sym (ap (state_update_live (state_of t c ps) pid f) is.at) ∙ ap (λ x. state_updated x pid f) view
 
   pub state-put : (s : State) (you : Process) → state_of t c ps ≡ s → state_with t.tree c.files (with_process ps pid you) ≡ state_with_process s pid you
   state-put s you view = ap (λ x. state_with_process x pid you) view
 
-  -- ---- few
+  -- ---- bounds
 
   pub few-users : (k : ℕ) → slice_index c.users k ≤ 512
   few-users k =
@@ -137,12 +137,12 @@ module _ (t : HeldTree) (c : Counted) (ps : ProcessTable) (pid : ℕ) (me : Proc
     pub counted-changed : IsCountedUp u d qs
     counted-changed = subst (λ x. IsCountedUp u d x) (sym put) changed-up
 
-    pub trimmed-changed : (tree : Tree) (files : Numbered OpenFile) → IsCounted d → length files ≡ 128 → u.tree ≡ trimmed tree u.holds
+    pub collected-changed : (tree : Tree) (files : Numbered OpenFile) → IsCounted d → length files ≡ 128 → u.tree ≡ collected tree u.holds
         → ((k : ℕ) → 0 < slice_index d.users k → at_number d.files k ≡ at_number files k)
-        → state_of u d qs ≡ trim (state_with tree files (with_process ps pid you))
-    trimmed-changed tree files counted long nodes same =
+        → state_of u d qs ≡ collect (state_with tree files (with_process ps pid you))
+    collected-changed tree files counted long nodes same =
         ap (λ x. state_of u d x) put
-        ∙ sym (trim-parts (state_with tree files (with_process ps pid you)) u d (with_process ps pid you) changed-up counted long refl refl (sym nodes) same)
+        ∙ sym (collect-parts (state_with tree files (with_process ps pid you)) u d (with_process ps pid you) changed-up counted long refl refl (sym nodes) same)
 
   -- ---- another working directory
 

@@ -1,4 +1,4 @@
--- How often numbers stand in the lists that parts of a state make.
+-- The number of occurrences in the lists that the parts of a state yield.
 use Rattle.std.proofs.Common.{◌≡◌, ◌≢◌, ℕ, zero, suc, ◌+◌, ◌*◌, ◌<◌, ◌≤◌, Bool, true, false, cond, not, ◌==◌, List, [], ◌∷◌, ◌++◌, map, filter, length, drop, Option, None, Some, refl, ap, sym, subst, ◌∙◌, ⊎_elim, zero-add, add-zero, add-one, arith}
 use Rattle.std.specs.Prelude.{slice_get, slice_index, option_map}
 use Rattle.std.specs.Cmp.{unsigned_ties}
@@ -16,7 +16,7 @@ use Rattle.pv_laws_states.proofs.Members.{all_of, find_number_after}
 use Rattle.pv_laws_states.proofs.Running.{not_before}
 use Rattle.pv_tree.proofs.Entries.{one_if}
 use Rattle.pv_calls_state.specs.Counts.{times}
-use Rattle.pv_calls_state.proofs.Trimming.{times-append, times-cons}
+use Rattle.pv_calls_state.proofs.Collecting.{times-append, times-cons}
 
 pub times-one : (n m : ℕ) → times n (m ∷ []) ≡ one_if m n
 times-one n m = times-cons n m [] ∙ add-zero (one_if m n)
@@ -24,7 +24,7 @@ times-one n m = times-cons n m [] ∙ add-zero (one_if m n)
 pub one-self : (n : ℕ) → one_if n n ≡ 1
 one-self n = ap (λ b. cond b 1 0) (eq-eqb n n refl)
 
--- one less at one number, and the same at all others
+-- two functions differ by one at one number, and agree elsewhere
 pub one-apart : (f g : ℕ → ℕ) (m : ℕ) → f m + 1 ≡ g m → ((n : ℕ) → n ≢ m → f n ≡ g n) → (n : ℕ) → f n + one_if m n ≡ g n
 one-apart f g m here others n =
     ⊎_elim
@@ -32,7 +32,7 @@ one-apart f g m here others n =
     (λ other. let none : one_if m n ≡ 0 = ap (λ b. cond b 1 0) (ne_eqb m n (λ same. other (sym same))) in omega (arith, others n other))
     (cases_eq n m)
 
--- what is counted has a place
+-- an index with a positive count is in range
 pub indexed-within : (xs : List ℕ) (n : ℕ) → 0 < slice_index xs n → n < length xs
 indexed-within [] n more = absurd (omega arith)
 indexed-within (x ∷ xs) zero more = omega arith
@@ -41,15 +41,15 @@ indexed-within (x ∷ xs) (suc n) more = let below = indexed-within xs n more in
 pub times-within : (n : ℕ) (xs : List ℕ) → times n xs ≤ length xs
 times-within n xs = count_by-le-length (λ m. m == n) xs
 
--- ---- places with something in them or nothing
+-- ---- optional elements
 
 module _ {X : Type 0} (f : X → ℕ) where
-  -- the number of what is at a place
+  -- the number of an optional element
   abbrev pub of_place : Option X → List ℕ
   of_place None = []
   of_place (Some x) = f x ∷ []
 
-  -- the numbers of what is present
+  -- the numbers of the elements that are present
   abbrev pub listed : Numbered X → List ℕ
   listed xs = map f (present xs)
 
@@ -57,14 +57,14 @@ module _ {X : Type 0} (f : X → ℕ) where
   times-place n None xs = sym (zero-add (times n (listed xs)))
   times-place n (Some x) xs = times-cons n (f x) (listed xs) ∙ ap (λ a. a + times n (listed xs)) (sym (times-one n (f x)))
 
-  -- another thing at a place
+  -- the counts after an element is replaced
   pub times-with_number : (n : ℕ) (xs : Numbered X) (k : ℕ) (x : X)
       → times n (listed (with_number xs k x)) + times n (of_place (at_number xs k)) ≡ times n (listed xs) + times n (of_place (Some x))
   times-with_number n [] k x = add-zero _ ∙ sym (zero-add _)
   times-with_number n (o ∷ xs) zero x = omega (arith, times-place n (Some x) xs, times-place n o xs)
   times-with_number n (o ∷ xs) (suc k) x = omega (arith, times-place n o xs, times-place n o (with_number xs k x), times-with_number n xs k x)
 
-  -- nothing at a place
+  -- the counts after an element is removed
   pub times-without_number : (n : ℕ) (xs : Numbered X) (k : ℕ) → times n (listed (without_number xs k)) + times n (of_place (at_number xs k)) ≡ times n (listed xs)
   times-without_number n [] k = refl
   times-without_number n (o ∷ xs) zero = omega (arith, times-place n o xs, times-place n None xs)
@@ -76,11 +76,11 @@ module _ {X : Type 0} (f : X → ℕ) where
   from-place n (o ∷ xs) zero = times-place n o xs
   from-place n (o ∷ xs) (suc k) = from-place n xs k
 
-  -- from a place on
+  -- the counts from an index on
   pub times-drop : (n : ℕ) (xs : Numbered X) (k : ℕ) → times n (listed (drop k xs)) ≡ times n (of_place (at_number xs k)) + times n (listed (drop (k + 1) xs))
   times-drop n xs k = from-place n xs k ∙ ap (λ j. times n (of_place (at_number xs k)) + times n (listed (drop j xs))) (sym (add-one k))
 
-  -- what stands at a place
+  -- the count of an optional element
   pub place-is : (n : ℕ) (o : Option X) (m : ℕ) → option_map f o ≡ Some m → times n (of_place o) ≡ one_if m n
   place-is n None m is = cc
   place-is n (Some x) m is = let same : f x ≡ m = cc is in times-one n (f x) ∙ ap (λ j. one_if j n) same
@@ -89,7 +89,7 @@ module _ {X : Type 0} (f : X → ℕ) where
   place-none n None is = refl
   place-none n (Some x) is = cc
 
-  -- what stands there is counted
+  -- an element that is present has a positive count
   pub times-there : (xs : Numbered X) (k m : ℕ) → option_map f (at_number xs k) ≡ Some m → 0 < times m (listed xs)
   times-there xs k m is = omega (arith, times-without_number m xs k, place-is m (at_number xs k) m is, one-self m)
 
@@ -98,7 +98,7 @@ module _ {X : Type 0} (f : X → ℕ) where
   length-listed (None ∷ xs) = omega (arith, length-listed xs)
   length-listed (Some x ∷ xs) = omega (arith, length-listed xs)
 
--- ---- lists from a place on
+-- ---- lists from an index on
 
 from-entry : {X : Type 0} (f : X → ℕ) (n : ℕ) (xs : List X) (k : ℕ) (x : X) → slice_get xs k ≡ Some x
     → times n (map f (drop k xs)) ≡ one_if (f x) n + times n (map f (drop (suc k) xs))
@@ -119,7 +119,7 @@ times-get f (y ∷ xs) (suc k) x is = omega (arith, times-cons (f x) (f y) (map 
 -- ---- processes
 
 module _ (g : Process → List ℕ) where
-  -- the numbers of a live process; those of an ended one are none
+  -- the numbers of a live process; an ended process has none
   abbrev pub of_record : ProcessRecord → List ℕ
   of_record (live p) = g p
   of_record (ended_record parent status) = []
@@ -128,7 +128,7 @@ module _ (g : Process → List ℕ) where
   times-record n k (live p) ps = times-append n (g p) (all_of g ps)
   times-record n k (ended_record parent status) ps = sym (zero-add (times n (all_of g ps)))
 
-  -- another record under a number
+  -- the counts after a record is replaced
   pub times-put : (n : ℕ) (ps : List (ℕ × ProcessRecord)) (pid : ℕ) (r q : ProcessRecord) → is_sorted nat_cmp ps ≡ true → find nat_cmp pid ps ≡ Some r
       → times n (all_of g (put nat_cmp pid q ps)) + times n (of_record r) ≡ times n (all_of g ps) + times n (of_record q)
   times-put n [] pid r q sorted found = cc
@@ -147,7 +147,7 @@ module _ (g : Process → List ℕ) where
       by Greater is rest =
           omega (arith, times-record n k x ps, times-record n k x (put nat_cmp pid q ps), rest (sym (ap (λ o. cond (is_eq o) (Some x) (find nat_cmp pid ps)) is) ∙ found))
 
-  -- a record under a new number
+  -- the counts after a record is added
   pub times-put_new : (n : ℕ) (ps : List (ℕ × ProcessRecord)) (pid : ℕ) (q : ProcessRecord) → find nat_cmp pid ps ≡ None
       → times n (all_of g (put nat_cmp pid q ps)) ≡ times n (all_of g ps) + times n (of_record q)
   times-put_new n [] pid q none = omega (arith, times-record n pid q [])
@@ -161,7 +161,7 @@ module _ (g : Process → List ℕ) where
       by Greater is rest =
           omega (arith, times-record n k x ps, times-record n k x (put nat_cmp pid q ps), rest (sym (ap (λ o. cond (is_eq o) (Some x) (find nat_cmp pid ps)) is) ∙ none))
 
-  -- orphans hold what they held, and what nobody waits for holds nothing
+  -- adopted orphans keep their references, and unclaimed ended processes have none
   pub all_of-adopted : ((p : Process) (parent : ℕ) → g (record p { parent = parent }) ≡ g p) → (old new : ℕ) (ps : List (ℕ × ProcessRecord))
       → all_of g (filter (λ r. not (is_unclaimed r.1)) (map (adopt old new) ps)) ≡ all_of g ps
   all_of-adopted same old new [] = refl
@@ -181,7 +181,7 @@ module _ (g : Process → List ℕ) where
       ended above true rest = rest
       ended above false rest = rest
 
-  -- few where each process has few
+  -- a bound on the total, given a bound for each process
   pub length-all_of : (most : ℕ) (ps : List (ℕ × ProcessRecord)) → is_sorted nat_cmp ps ≡ true → ((pid : ℕ) (p : Process) → find nat_cmp pid ps ≡ Some (live p) → length (g p) ≤ most)
       → length (all_of g ps) ≤ length ps * most
   length-all_of most [] sorted few = omega arith

@@ -1,4 +1,4 @@
--- Descriptors that come and go, and what their calls come to.
+-- Calls on descriptors, and the counts after them.
 use Rattle.std.proofs.Common.{◌≡◌, ◌≢◌, ℕ, zero, suc, ◌+◌, ◌<◌, ◌≤◌, ℤ, pos, negsuc, Bool, true, false, cond, ◌==◌, nat_le, List, [], ◌∷◌, Option, None, Some, Result, Ok, Err, refl, ap, ap₂, sym, subst, ◌∙◌, arith}
 use Rattle.std.specs.Prelude.{slice_index, option_map, ok_or, IsSome, IfSome}
 use Rattle.std.proofs.lemmas.Bool.{ne_eqb, lt-leb}
@@ -11,22 +11,22 @@ use Rattle.pv_model.specs.declared.outcome.Cause.TheVariants.{Plain}
 use Rattle.pv_model.specs.Attempt.{done, refused, after_walks, demand, refuse_if, ◌>>=◌, ◌>>◌}
 use Rattle.pv_model.specs.Calls.Descriptors.{close, dup, dup2, within, is_number, without_descriptor, with_descriptor, with_duplicate}
 use Rattle.pv_model.specs.Effect.{answers, returns, descriptor_at}
-use Rattle.pv_model.specs.Held.{held_by_process, trim}
+use Rattle.pv_model.specs.Held.{held_by_process, collect}
 use Rattle.pv_model.specs.Numbered.{Numbered, at_number, with_number, least_free}
 use Rattle.pv_model.specs.State.{Descriptor, Process, State, with_process as state_with_process}
 use Rattle.pv_procs.specs.ProcessTable.{ProcessTable, with_process}
-use Rattle.pv_tree.specs.Holding.{HeldTree, holds_at, trimmed}
+use Rattle.pv_tree.specs.Holding.{HeldTree, holds_at, collected}
 use Rattle.pv_tree.proofs.Entries.{one_if}
 use Rattle.pv_laws_trees.proofs.Numbered.{least_free-free}
-use Rattle.pv_calls_state.specs.Attempts.{trimmed as trimmed_attempt}
+use Rattle.pv_calls_state.specs.Attempts.{collected as collected_attempt}
 use Rattle.pv_calls_state.specs.Changes.{with_descriptors}
 use Rattle.pv_calls_state.specs.Counts.{state_of, times, open_nodes, IsCountedUp}
 use Rattle.pv_calls_state.specs.Releasing.{files_on, at_most}
 use Rattle.pv_calls_state.proofs.Counting.{of_place, times-one, times-with_number, times-without_number}
 use Rattle.pv_calls_state.proofs.Releasing.{of_file}
-use Rattle.pv_calls_state.proofs.Changing.{IsBefore, placed, state-put, counted-changed, trimmed-changed}
+use Rattle.pv_calls_state.proofs.Changing.{IsBefore, placed, state-put, counted-changed, collected-changed}
 
--- ---- what calls find
+-- ---- lookups
 
 pub ok-descriptor : (o : Option Descriptor) (file : ℕ) → ok_or (option_map (λ e. e.file) o) EBADF ≡ Ok file → (x : Descriptor) × (o ≡ Some x) × (x.file ≡ file)
 ok-descriptor None file is = cc
@@ -51,14 +51,14 @@ at_most-place : (k : ℕ) (o : Option Descriptor) → times k (at_most (option_m
 at_most-place k None = refl
 at_most-place k (Some x) = refl
 
--- a descriptor in the place of what was there
+-- a descriptor in place of an earlier one
 pub times-set : (k : ℕ) (ds : Numbered Descriptor) (n : ℕ) (x : Descriptor) (left : Option ℕ) → left ≡ option_map (λ e. e.file) (at_number ds n)
     → times k (files_on (with_number ds n x)) + times k (at_most left) ≡ times k (files_on ds) + one_if x.file k
 times-set k ds n x left is =
     omega (arith, times-with_number of_file k ds n x, ap (λ o. times k (at_most o)) is, at_most-place k (at_number ds n), times-one k x.file)
 
 module _ (t : HeldTree) (c : Counted) (ps : ProcessTable) (pid : ℕ) (me : Process) (is : IsBefore t c ps pid me) where
-  -- each descriptor is on an open file
+  -- each descriptor refers to an open file
   pub under-opened : (d : ℤ) (x : Descriptor) → descriptor_under me.descriptors d ≡ Some x → IsSome (at_number c.files x.file)
   under-opened (pos n) x at = (placed t c ps pid me is).opens n x at
   under-opened (negsuc n) x at = cc
@@ -72,7 +72,7 @@ module _ (t : HeldTree) (c : Counted) (ps : ProcessTable) (pid : ℕ) (me : Proc
       by None there = search Rattle.std.proofs.Common.rules
       by (Some x) there = there x refl
 
-  -- other descriptors, with their users
+  -- a process with other descriptors, and the users of its open files
   module _ (u : HeldTree) (d : Counted) (qs : ProcessTable) (ds : Numbered Descriptor) (put : qs ≡ with_process ps pid (with_descriptors ds me))
       (users : (k : ℕ) → slice_index d.users k + times k (files_on me.descriptors) ≡ slice_index c.users k + times k (files_on ds))
       (holds : (n : ℕ) → holds_at u n + times n (open_nodes c.files) ≡ holds_at t n + times n (open_nodes d.files)) where
@@ -83,52 +83,52 @@ module _ (t : HeldTree) (c : Counted) (ps : ProcessTable) (pid : ℕ) (me : Proc
     pub exchanged-up : IsCountedUp u d qs
     exchanged-up = counted-changed t c ps pid me is u d qs (with_descriptors ds me) put users both
 
-    pub exchanged-state : (s : State) → state_of t c ps ≡ s → IsCounted d → u.tree ≡ trimmed t.tree u.holds
-        → ((k : ℕ) → 0 < slice_index d.users k → at_number d.files k ≡ at_number c.files k) → state_of u d qs ≡ trim (state_with_process s pid (with_descriptors ds me))
+    pub exchanged-state : (s : State) → state_of t c ps ≡ s → IsCounted d → u.tree ≡ collected t.tree u.holds
+        → ((k : ℕ) → 0 < slice_index d.users k → at_number d.files k ≡ at_number c.files k) → state_of u d qs ≡ collect (state_with_process s pid (with_descriptors ds me))
     exchanged-state s view counted nodes files =
-        trimmed-changed t c ps pid me is u d qs (with_descriptors ds me) put users both t.tree c.files counted is.counted.slots nodes files
-        ∙ ap trim (state-put t c ps pid me is s (with_descriptors ds me) view)
+        collected-changed t c ps pid me is u d qs (with_descriptors ds me) put users both t.tree c.files counted is.counted.slots nodes files
+        ∙ ap collect (state-put t c ps pid me is s (with_descriptors ds me) view)
 
 -- ---- system calls
 
--- a number that is no descriptor is not closed
+-- closing a descriptor that is not open is refused
 pub close-refused : (s : State) (pid : ℕ) (me : Process) (d : ℤ) (e : Errno) → Err e ≡ ok_or (option_map (λ x. x.file) (descriptor_under me.descriptors d)) EBADF
-    → trimmed_attempt (close s pid me d) ≡ refused 0 e Plain
+    → collected_attempt (close s pid me d) ≡ refused 0 e Plain
 close-refused s pid me d e is = by (descriptor_under me.descriptors d) refl is
   where
-    by : (o : Option Descriptor) → descriptor_under me.descriptors d ≡ o → Err e ≡ ok_or (option_map (λ x. x.file) o) EBADF → trimmed_attempt (close s pid me d) ≡ refused 0 e Plain
+    by : (o : Option Descriptor) → descriptor_under me.descriptors d ≡ o → Err e ≡ ok_or (option_map (λ x. x.file) o) EBADF → collected_attempt (close s pid me d) ≡ refused 0 e Plain
     by (Some x) at is = cc is
     by None at is =
         let same : e ≡ EBADF = cc is in
-        ap (λ o. trimmed_attempt (demand EBADF o >> answers (state_with_process s pid (with_descriptors (without_descriptor me.descriptors d) me)) 0)) (under-at me d ∙ at)
+        ap (λ o. collected_attempt (demand EBADF o >> answers (state_with_process s pid (with_descriptors (without_descriptor me.descriptors d) me)) 0)) (under-at me d ∙ at)
         ∙ ap (λ x. refused 0 x Plain) (sym same)
 
 module _ (s : State) (pid : ℕ) (me : Process) (d : ℤ) (x : Descriptor) (at : descriptor_under me.descriptors d ≡ Some x) (after : State) where
-  pub close-performed : after ≡ trim (state_with_process s pid (with_descriptors (without_descriptor me.descriptors d) me)) → trimmed_attempt (close s pid me d) ≡ done 0 (after, returns 0)
+  pub close-performed : after ≡ collect (state_with_process s pid (with_descriptors (without_descriptor me.descriptors d) me)) → collected_attempt (close s pid me d) ≡ done 0 (after, returns 0)
   close-performed is =
-      ap (λ o. trimmed_attempt (demand EBADF o >> answers (state_with_process s pid (with_descriptors (without_descriptor me.descriptors d) me)) 0)) (under-at me d ∙ at)
+      ap (λ o. collected_attempt (demand EBADF o >> answers (state_with_process s pid (with_descriptors (without_descriptor me.descriptors d) me)) 0)) (under-at me d ∙ at)
       ∙ ap (λ w. done 0 (w, returns 0)) (sym is)
 
   pub dup-performed : (number value : ℕ) → number ≡ least_free me.descriptors → number < 16 → value ≡ number
-      → after ≡ trim (state_with_process s pid (with_descriptors (with_number me.descriptors (least_free me.descriptors) (record { file = x.file; close_on_exec = false })) me))
-      → trimmed_attempt (dup s pid me d) ≡ done 0 (after, returns value)
+      → after ≡ collect (state_with_process s pid (with_descriptors (with_number me.descriptors (least_free me.descriptors) (record { file = x.file; close_on_exec = false })) me))
+      → collected_attempt (dup s pid me d) ≡ done 0 (after, returns value)
   dup-performed number value least few same is =
       let roomy : nat_le DESCRIPTORS (least_free me.descriptors) ≡ false = lt-leb 16 (least_free me.descriptors) (omega (arith, least, few)) in
-      ap (λ o. trimmed_attempt (demand EBADF o >>= (λ (y : Descriptor). refuse_if EMFILE (nat_le DESCRIPTORS (least_free me.descriptors)) >> answers (with_descriptor s pid me s y.file false) (least_free me.descriptors))))
+      ap (λ o. collected_attempt (demand EBADF o >>= (λ (y : Descriptor). refuse_if EMFILE (nat_le DESCRIPTORS (least_free me.descriptors)) >> answers (with_descriptor s pid me s y.file false) (least_free me.descriptors))))
       (under-at me d ∙ at)
-      ∙ ap (λ b. trimmed_attempt (after_walks 0 (refuse_if EMFILE b >> answers (with_descriptor s pid me s x.file false) (least_free me.descriptors)))) roomy
+      ∙ ap (λ b. collected_attempt (after_walks 0 (refuse_if EMFILE b >> answers (with_descriptor s pid me s x.file false) (least_free me.descriptors)))) roomy
       ∙ ap₂ (λ w v. done 0 (w, returns v)) (sym is) (sym least ∙ sym same)
 
   pub dup2-performed : (e : ℤ) (number value : ℕ) → Some number ≡ within 15 e → is_number d number ≡ false → value ≡ number
-      → after ≡ trim (state_with_process s pid (with_descriptors (with_number me.descriptors number (record { file = x.file; close_on_exec = false })) me))
-      → trimmed_attempt (dup2 s pid me d e) ≡ done 0 (after, returns value)
+      → after ≡ collect (state_with_process s pid (with_descriptors (with_number me.descriptors number (record { file = x.file; close_on_exec = false })) me))
+      → collected_attempt (dup2 s pid me d e) ≡ done 0 (after, returns value)
   dup2-performed e number value there other same is =
-      ap (λ o. trimmed_attempt (demand EBADF o >>= (λ (y : Descriptor). demand EBADF (within 15 e) >>= (λ (n : ℕ). answers (with_duplicate s pid me d n y) n)))) (under-at me d ∙ at)
-      ∙ ap (λ o. trimmed_attempt (after_walks 0 (demand EBADF o >>= (λ (n : ℕ). answers (with_duplicate s pid me d n x) n)))) (sym there)
-      ∙ ap (λ b. done 0 (trim (cond b s (state_with_process s pid (with_descriptors (with_number me.descriptors number (record { file = x.file; close_on_exec = false })) me))), returns number)) other
+      ap (λ o. collected_attempt (demand EBADF o >>= (λ (y : Descriptor). demand EBADF (within 15 e) >>= (λ (n : ℕ). answers (with_duplicate s pid me d n y) n)))) (under-at me d ∙ at)
+      ∙ ap (λ o. collected_attempt (after_walks 0 (demand EBADF o >>= (λ (n : ℕ). answers (with_duplicate s pid me d n x) n)))) (sym there)
+      ∙ ap (λ b. done 0 (collect (cond b s (state_with_process s pid (with_descriptors (with_number me.descriptors number (record { file = x.file; close_on_exec = false })) me))), returns number)) other
       ∙ ap₂ (λ w v. done 0 (w, returns v)) (sym is) (sym same)
 
--- another number than the one given
+-- a number other than the given one
 pub other-number : (d e : ℤ) (number : ℕ) → Some number ≡ within 15 e → d ≢ e → is_number d number ≡ false
 other-number (negsuc j) e number there other = refl
 other-number (pos j) (negsuc m) number there other = cc

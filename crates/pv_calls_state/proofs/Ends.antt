@@ -1,4 +1,4 @@
--- Processes that end, that get another program, and that have children.
+-- Processes that end, execute a program, or have children.
 use Rattle.std.proofs.Common.{◌≡◌, ◌≢◌, ℕ, zero, suc, ◌+◌, ◌<◌, ◌≤◌, Bool, true, false, ◌||◌, nat_le, nat_lt, List, [], ◌∷◌, map, length, Option, None, Some, is_some, refl, ap, ap₂, sym, subst, ◌∙◌, arith}
 use Rattle.std.specs.Prelude.{slice_index, option_map, IsSome, if◌then◌else◌}
 use Rattle.std.specs.FinMap.Entries.{find, put}
@@ -13,7 +13,7 @@ use Rattle.pv_model.specs.declared.limits.TheConstants.{LAST_PROCESS, PROCESSES}
 use Rattle.pv_model.specs.Attempt.{Attempt, done, refused, refuse_if, ◌>>◌}
 use Rattle.pv_model.specs.Calls.Processes.{descriptor_after_exec, end_process, adopter, fork, child, with_program}
 use Rattle.pv_model.specs.Effect.{Effect, answers, returns}
-use Rattle.pv_model.specs.Held.{used_files, held_by_table, held_by_process, trim}
+use Rattle.pv_model.specs.Held.{used_files, held_by_table, held_by_process, collect}
 use Rattle.pv_model.specs.Numbered.{Numbered, at_number}
 use Rattle.pv_model.specs.State.{Descriptor, Program, Process, ProcessRecord, live, ended_record, State, live_process, with_process as state_with_process}
 use Rattle.pv_model.specs.Tree.{node_at}
@@ -21,22 +21,22 @@ use Rattle.pv_model.specs.Unveil.{Table}
 use Rattle.pv_procs.specs.declared.record.ProcessRecord.{ProcessRecord as Owned}
 use Rattle.pv_procs.specs.Parts.{record_of}
 use Rattle.pv_procs.specs.ProcessTable.{ProcessTable, process_in, with_process, state_with}
-use Rattle.pv_tree.specs.Holding.{HeldTree, holds_at, trimmed}
-use Rattle.pv_tree.specs.Standing.{IsStanding}
+use Rattle.pv_tree.specs.Holding.{HeldTree, holds_at, collected}
+use Rattle.pv_tree.specs.Present.{IsPresent}
 use Rattle.pv_tree.proofs.Entries.{one_if}
-use Rattle.pv_calls_state.specs.Attempts.{trimmed as trimmed_attempt}
+use Rattle.pv_calls_state.specs.Attempts.{collected as collected_attempt}
 use Rattle.pv_calls_state.specs.Counts.{state_of, times, used_in, held_in, open_nodes, IsCountedUp}
-use Rattle.pv_calls_state.specs.Releasing.{files_on, if_marked, marked_of, Releases, Shares, LetsGo}
+use Rattle.pv_calls_state.specs.Releasing.{files_on, if_marked, marked_of, Releases, Shares, Unreferences}
 use Rattle.pv_calls_state.proofs.Counting.{of_place, times-place, one-self, times-within, times-put, times-put_new, all_of-adopted}
-use Rattle.pv_calls_state.proofs.Releasing.{of_file, trimmed_in_turn}
-use Rattle.pv_calls_state.proofs.Trimming.{times-cons, trim-parts}
-use Rattle.pv_calls_state.proofs.Changing.{IsBefore, ordered, found, uses-own, holds-own, few-users, few-holds, few-held, own-directory, counted-changed, trimmed-changed}
+use Rattle.pv_calls_state.proofs.Releasing.{of_file, collected_in_turn}
+use Rattle.pv_calls_state.proofs.Collecting.{times-cons, collect-parts}
+use Rattle.pv_calls_state.proofs.Changing.{IsBefore, ordered, found, uses-own, holds-own, few-users, few-holds, few-held, own-directory, counted-changed, collected-changed}
 
--- a tree that is trimmed twice
-pub then-nodes : (t v w : HeldTree) → IsStanding t → v.tree ≡ trimmed t.tree v.holds → w.tree ≡ trimmed v.tree w.holds → ((n : ℕ) → holds_at w n ≤ holds_at v n) → w.tree ≡ trimmed t.tree w.holds
-then-nodes t v w standing first second fewer = second ∙ ap (λ x. trimmed x w.holds) first ∙ trimmed_in_turn t.tree v.holds w.holds standing.well_formed fewer
+-- collecting twice equals collecting once
+pub then-nodes : (t v w : HeldTree) → IsPresent t → v.tree ≡ collected t.tree v.holds → w.tree ≡ collected v.tree w.holds → ((n : ℕ) → holds_at w n ≤ holds_at v n) → w.tree ≡ collected t.tree w.holds
+then-nodes t v w present first second fewer = second ∙ ap (λ x. collected x w.holds) first ∙ collected_in_turn t.tree v.holds w.holds present.well_formed fewer
 
--- descriptors are those that execve closes, and the others
+-- the descriptors are those that execve closes and the others
 pub times-marked : (k : ℕ) (ds : Numbered Descriptor) → times k (files_on (map descriptor_after_exec ds)) + times k (files_on (marked_of ds)) ≡ times k (files_on ds)
 times-marked k [] = refl
 times-marked k (o ∷ ds) =
@@ -55,7 +55,7 @@ table-split : (n : ℕ) (b : Bool) (table : Option Table)
 table-split n true table = Rattle.std.proofs.Common.add-zero _
 table-split n false table = Rattle.std.proofs.Common.zero-add _
 
--- what is left of all processes after one has ended
+-- the counts of all processes after one has ended
 ended-times : (g : Process → List ℕ) → ((p : Process) (parent : ℕ) → g (record p { parent = parent }) ≡ g p) → (n : ℕ) (s : State) (pid : ℕ) (me : Process) (status : ℕ)
     → times n (all_of g (end_process s pid me status).processes) ≡ times n (all_of g (put nat_cmp pid (ended_record me.parent status) s.processes))
 unfolding end_process
@@ -63,7 +63,7 @@ ended-times g same n s pid me status =
     let ended = put nat_cmp pid (ended_record me.parent status) s.processes in
     ap (times n) (all_of-adopted g same pid (adopter (record s { processes = ended })) ended)
 
--- what a fork that answers leaves
+-- the state after a successful fork
 record IsForked (s after : State) (pid : ℕ) (me : Process) (n : ℕ) : Type 0 where
   pub state : after ≡ record (state_with_process s (suc s.last_process) (child s pid me)) { last_process = suc s.last_process }
   pub number : n ≡ suc s.last_process
@@ -81,11 +81,11 @@ forked s after pid me n is = by (nat_le PROCESSES (length s.processes) || nat_lt
   where
     by : (b : Bool) → (refuse_if EAGAIN b >> answers (record (state_with_process s (suc s.last_process) (child s pid me)) { last_process = suc s.last_process }) (suc s.last_process)) ≡ answers after n
         → IsForked s after pid me n
-    by true wrong = cc wrong
+    by true invalid = cc invalid
     by false right = record { state = sym (ap (state_in after) right); number = sym (ap number_in right) }
 
 module _ (t : HeldTree) (c : Counted) (ps : ProcessTable) (pid : ℕ) (me : Process) (is : IsBefore t c ps pid me) where
-  -- ---- what one process owns
+  -- ---- the references of one process
 
   module _ (r : Owned) (own : record_of me ≡ r) where
     pub end-used : (k : ℕ) → times k (files_on r.descriptors) ≤ slice_index c.users k
@@ -99,7 +99,7 @@ module _ (t : HeldTree) (c : Counted) (ps : ProcessTable) (pid : ℕ) (me : Proc
       end-targets n =
           omega (arith, holds n, holds-own t c ps pid me is n, times-cons n me.directory (held_by_table me.table), ap (λ (x : Owned). times n (held_by_table x.unveiled.table)) own)
 
-      pub end-directory : (w : HeldTree) → LetsGo (held_by_table r.unveiled.table) v w → 0 < holds_at w r.directory
+      pub end-directory : (w : HeldTree) → Unreferences (held_by_table r.unveiled.table) v w → 0 < holds_at w r.directory
       end-directory w gone =
           let n = r.directory in
           omega (
@@ -113,7 +113,7 @@ module _ (t : HeldTree) (c : Counted) (ps : ProcessTable) (pid : ℕ) (me : Proc
             one-self n,
           )
 
-      pub end-holds : (w u : HeldTree) → LetsGo (held_by_table r.unveiled.table) v w → ((n : ℕ) → holds_at u n + one_if r.directory n ≡ holds_at w n) → (n : ℕ)
+      pub end-holds : (w u : HeldTree) → Unreferences (held_by_table r.unveiled.table) v w → ((n : ℕ) → holds_at u n + one_if r.directory n ≡ holds_at w n) → (n : ℕ)
           → (holds_at u n + times n (held_by_process me)) + times n (open_nodes c.files) ≡ holds_at t n + times n (open_nodes e.files)
       end-holds w u gone last n =
           omega (
@@ -126,7 +126,7 @@ module _ (t : HeldTree) (c : Counted) (ps : ProcessTable) (pid : ℕ) (me : Proc
             ap (λ (x : Owned). one_if x.directory n) own,
           )
 
-  -- ---- the end
+  -- ---- the end of a process
 
   module _ (u : HeldTree) (d : Counted) (qs : ProcessTable) (status : ℕ) (end : state_with t.tree c.files qs ≡ end_process (state_of t c ps) pid me status)
       (users : (k : ℕ) → slice_index d.users k + times k (files_on me.descriptors) ≡ slice_index c.users k)
@@ -151,16 +151,16 @@ module _ (t : HeldTree) (c : Counted) (ps : ProcessTable) (pid : ℕ) (me : Proc
       );
     }
 
-    pub ended-state : (s : State) → state_of t c ps ≡ s → IsCounted d → u.tree ≡ trimmed t.tree u.holds → ((k : ℕ) → 0 < slice_index d.users k → at_number d.files k ≡ at_number c.files k)
-        → state_of u d qs ≡ trim (end_process s pid me status)
+    pub ended-state : (s : State) → state_of t c ps ≡ s → IsCounted d → u.tree ≡ collected t.tree u.holds → ((k : ℕ) → 0 < slice_index d.users k → at_number d.files k ≡ at_number c.files k)
+        → state_of u d qs ≡ collect (end_process s pid me status)
     ended-state s view counted nodes files =
-        sym (trim-parts (state_with t.tree c.files qs) u d qs ended-up counted is.counted.slots refl refl (sym nodes) files)
-        ∙ ap trim (end ∙ ap (λ x. end_process x pid me status) view)
+        sym (collect-parts (state_with t.tree c.files qs) u d qs ended-up counted is.counted.slots refl refl (sym nodes) files)
+        ∙ ap collect (end ∙ ap (λ x. end_process x pid me status) view)
 
   -- ---- another program
 
   module _ (s : State) (program : Program) (r : Owned) (own : record_of me ≡ r) (v : HeldTree) (e : Counted) (gone : Releases (files_on (marked_of r.descriptors)) [] t c v e)
-      (keeps : Bool) (kept : keeps ≡ is_some me.execpromises) (u : HeldTree) (went : LetsGo (if keeps then [] else held_by_table r.unveiled.table) v u) where
+      (keeps : Bool) (preserved : keeps ≡ is_some me.execpromises) (u : HeldTree) (went : Unreferences (if keeps then [] else held_by_table r.unveiled.table) v u) where
     you : Process
     you = with_program s pid me program
 
@@ -178,17 +178,17 @@ module _ (t : HeldTree) (c : Counted) (ps : ProcessTable) (pid : ℕ) (me : Proc
           times-cons n me.directory (held_by_table (if is_some me.execpromises then me.table else None)),
           table-split n (is_some me.execpromises) me.table,
           ap (λ (x : Owned). times n (if keeps then [] else held_by_table x.unveiled.table)) own,
-          ap (λ b. times n (if b then [] else held_by_table me.table)) kept,
+          ap (λ b. times n (if b then [] else held_by_table me.table)) preserved,
         )
 
     pub load-up : (qs : ProcessTable) → qs ≡ with_process ps pid (with_program s pid me program) → IsCountedUp u e qs
     load-up qs put = counted-changed t c ps pid me is u e qs (with_program s pid me program) put load-users load-holds
 
     pub load-state : (qs : ProcessTable) → qs ≡ with_process ps pid (with_program s pid me program) → IsCounted e
-        → state_of u e qs ≡ trim (state_with t.tree c.files (with_process ps pid (with_program s pid me program)))
+        → state_of u e qs ≡ collect (state_with t.tree c.files (with_process ps pid (with_program s pid me program)))
     load-state qs put counted =
-        trimmed-changed t c ps pid me is u e qs (with_program s pid me program) put load-users load-holds t.tree c.files counted is.counted.slots
-        (then-nodes t v u is.standing gone.nodes went.nodes (λ n. omega (arith, went.holds n))) gone.files
+        collected-changed t c ps pid me is u e qs (with_program s pid me program) put load-users load-holds t.tree c.files counted is.counted.slots
+        (then-nodes t v u is.present gone.nodes went.nodes (λ n. omega (arith, went.holds n))) gone.files
 
   -- ---- a child
 
@@ -219,7 +219,7 @@ module _ (t : HeldTree) (c : Counted) (ps : ProcessTable) (pid : ℕ) (me : Proc
       same-directory = ap (λ (x : Owned). x.directory) (sym own)
 
       pub child-there : IsSome (node_at t.tree r.directory)
-      child-there = is.standing.held_are_nodes r.directory (own-directory t c ps pid me is r.directory same-directory)
+      child-there = is.present.held_are_nodes r.directory (own-directory t c ps pid me is r.directory same-directory)
 
       pub child-few : holds_at t r.directory < 65535
       child-few = omega (arith, few-holds t c ps pid me is r.directory)
@@ -227,7 +227,7 @@ module _ (t : HeldTree) (c : Counted) (ps : ProcessTable) (pid : ℕ) (me : Proc
       pub child-targets : (v : HeldTree) → v.tree ≡ t.tree → (m : ℕ) → 0 < times m (held_by_table r.unveiled.table) → IsSome (node_at v.tree m)
       child-targets v tree m more =
           subst (λ x. IsSome (node_at x m)) (sym tree)
-          (is.standing.held_are_nodes m (omega (arith, holds-own t c ps pid me is m, times-cons m me.directory (held_by_table me.table), ap (λ (x : Owned). times m (held_by_table x.unveiled.table)) own)))
+          (is.present.held_are_nodes m (omega (arith, holds-own t c ps pid me is m, times-cons m me.directory (held_by_table me.table), ap (λ (x : Owned). times m (held_by_table x.unveiled.table)) own)))
 
       pub child-room : (v : HeldTree) → ((m : ℕ) → holds_at t m + one_if r.directory m ≡ holds_at v m) → (m : ℕ) → holds_at v m + times m (held_by_table r.unveiled.table) ≤ 65535
       child-room v more m =
@@ -274,9 +274,9 @@ module _ (t : HeldTree) (c : Counted) (ps : ProcessTable) (pid : ℕ) (me : Proc
           );
         }
 
-        pub fork-performed : (s : State) → state_of t c ps ≡ s → IsCounted d → IsStanding u → u.tree ≡ t.tree → trimmed_attempt (fork s pid me) ≡ done 0 (state_of u d qs, returns n)
-        fork-performed s view counted standing tree =
-            ap (λ x. trimmed_attempt (fork x pid me)) (sym view) ∙ ap trimmed_attempt answer
+        pub fork-performed : (s : State) → state_of t c ps ≡ s → IsCounted d → IsPresent u → u.tree ≡ t.tree → collected_attempt (fork s pid me) ≡ done 0 (state_of u d qs, returns n)
+        fork-performed s view counted present tree =
+            ap (λ x. collected_attempt (fork x pid me)) (sym view) ∙ ap collected_attempt answer
             ∙ ap (λ x. done 0 (x, returns n))
-            (trim-parts (state_with t.tree c.files qs) u d qs forked-up counted is.counted.slots refl refl (ap (λ x. trimmed x u.holds) (sym tree) ∙ standing.is_trimmed)
+            (collect-parts (state_with t.tree c.files qs) u d qs forked-up counted is.counted.slots refl refl (ap (λ x. collected x u.holds) (sym tree) ∙ present.is_collected)
             (λ k used. ap (λ fs. at_number fs k) shared.files))

@@ -1,4 +1,4 @@
--- Trees that change under what holds them.
+-- Changes of the tree under unchanged references.
 use Rattle.std.proofs.Common.{◌≡◌, ◌≢◌, ℕ, ◌+◌, ◌<◌, ◌≤◌, true, false, ◌==◌, List, [], length, drop, Option, None, Some, is_some, refl, ap, sym, subst, ◌∙◌, inl, inr, ◌⊎◌, ⊎_elim, arith}
 use Rattle.std.specs.FinMap.Entries.{find}
 use Rattle.std.proofs.lemmas.Bool.{cases_eq, or_cases, or_left}
@@ -9,16 +9,16 @@ use Rattle.pv_model.specs.declared.kind.NewNode.{NewNode}
 use Rattle.pv_model.specs.declared.kind.NewNode.TheVariants.{Directory, File, Executable, Symlink}
 use Rattle.pv_model.specs.Bytes.{Bytes}
 use Rattle.pv_model.specs.Calls.Descriptors.{with_content, with_content_of}
-use Rattle.pv_model.specs.Held.{among, trim}
+use Rattle.pv_model.specs.Held.{among, collect}
 use Rattle.pv_model.specs.State.{State, with_tree}
 use Rattle.pv_model.specs.Tree.{Node, directory_node, file_node, link_node, Tree, root, node_at, entries_of, entries_at, is_directory, is_directory_at, find_entry, named_numbers, with_node, with_entry, new_number, with_new_node, IsWellFormed}
 use Rattle.pv_procs.specs.ProcessTable.{ProcessTable}
-use Rattle.pv_tree.specs.Holding.{HeldTree, held_numbers, trimmed, after, with_tree as with_held}
+use Rattle.pv_tree.specs.Holding.{HeldTree, held_numbers, collected, after, with_tree as with_held}
 use Rattle.pv_tree.specs.Changes.{new_node}
 use Rattle.pv_tree.specs.Rooms.{refusal}
-use Rattle.pv_tree.specs.Standing.{IsStanding}
-use Rattle.pv_tree.proofs.Keeping.{all-kept, wanted-counted}
-use Rattle.pv_laws_trees.specs.Kept.{wanted, kept}
+use Rattle.pv_tree.specs.Present.{IsPresent}
+use Rattle.pv_tree.proofs.Keeping.{all-preserved, wanted-counted}
+use Rattle.pv_laws_trees.specs.Preserved.{wanted, preserved}
 use Rattle.pv_laws_trees.proofs.Changes.{node_at-same, node_at-other}
 use Rattle.pv_laws_trees.proofs.Edits.{new_number-free}
 use Rattle.pv_laws_trees.proofs.Entries.{by_name}
@@ -26,11 +26,11 @@ use Rattle.pv_laws_trees.proofs.Keeping.{only_nodes_all, wanted-is, wanted-named
 use Rattle.pv_laws_trees.proofs.NewNodes.{entry-was, entry-stays, dir-new, stays-new, named-new}
 use Rattle.pv_laws_trees.proofs.Numbered.{at_number-below, with_number-other_within, length-drop_one, least_free-within}
 use Rattle.pv_laws_trees.proofs.Trees.{IsOrdered, ordered, among-entry, entry-among}
-use Rattle.pv_calls_state.proofs.Trimming.{trim-parts}
+use Rattle.pv_calls_state.proofs.Collecting.{collect-parts}
 
--- ---- what stays kept
+-- ---- nodes that stay
 
--- what is wanted is so where more is held
+-- more references keep at least the same nodes
 pub wanted-more : (t : Tree) (few many : List ℕ) → ((n : ℕ) → among few n ≡ true → among many n ≡ true) → (n : ℕ) → among (wanted t few) n ≡ true → among (wanted t many) n ≡ true
 wanted-more t few many more n is =
     ⊎_elim (λ top. or_left (root == n) _ top)
@@ -38,10 +38,10 @@ wanted-more t few many more n is =
     (or_cases (root == n) _ (sym (wanted-is t few n) ∙ is))
 
 module _ (t : Tree) (held : List ℕ) (o : IsOrdered t) (there : (n : ℕ) → is_some (node_at t n) ≡ true → among (wanted t held) n ≡ true) where
-  -- where each entry stays, and each further node is named, none goes
-  along-kept : (u : Tree) → ((n : ℕ) → is_some (node_at u n) ≡ true → (is_some (node_at t n) ≡ true) ⊎ (among (named_numbers u) n ≡ true))
-      → ((d : ℕ) (name : Bytes) (n : ℕ) → find_entry t d name ≡ Some n → find_entry u d name ≡ Some n) → kept u held ≡ u
-  along-kept u was stay =
+  -- if every entry stays and every new node has a name, no node is collected
+  along-preserved : (u : Tree) → ((n : ℕ) → is_some (node_at u n) ≡ true → (is_some (node_at t n) ≡ true) ⊎ (among (named_numbers u) n ≡ true))
+      → ((d : ℕ) (name : Bytes) (n : ℕ) → find_entry t d name ≡ Some n → find_entry u d name ≡ Some n) → preserved u held ≡ u
+  along-preserved u was stay =
       only_nodes_all u (wanted u held) (λ n node at.
       ⊎_elim
       (λ old.
@@ -53,11 +53,11 @@ module _ (t : Tree) (held : List ℕ) (o : IsOrdered t) (there : (n : ℕ) → i
       (λ named. wanted-named u held n named)
       (was n (ap is_some at)))
 
-  -- one name more
-  entry-kept : (d : ℕ) (name : Bytes) (m : ℕ) → is_directory_at t d ≡ true → find_entry t d name ≡ None → kept (with_entry t d name m) held ≡ with_entry t d name m
-  entry-kept d name m dir free = along-kept (with_entry t d name m) (λ n is. inl (entry-was t d name dir free m n is)) (entry-stays t d name dir free m)
+  -- the tree with another name
+  entry-preserved : (d : ℕ) (name : Bytes) (m : ℕ) → is_directory_at t d ≡ true → find_entry t d name ≡ None → preserved (with_entry t d name m) held ≡ with_entry t d name m
+  entry-preserved d name m dir free = along-preserved (with_entry t d name m) (λ n is. inl (entry-was t d name dir free m n is)) (entry-stays t d name dir free m)
 
-  -- other bytes
+  -- the tree with other bytes in a file
   module _ (f : ℕ) (node was : Node) (at : node_at t f ≡ Some was) (entries : entries_of (Some node) ≡ entries_of (Some was)) where
     below : f < length t.nodes
     below = at_number-below t.nodes f was at
@@ -68,25 +68,25 @@ module _ (t : Tree) (held : List ℕ) (o : IsOrdered t) (there : (n : ℕ) → i
         (λ here. ap (entries_at (with_node t f node)) here ∙ ap entries_of (node_at-same t f node below) ∙ entries ∙ ap entries_of (sym at) ∙ ap (entries_at t) (sym here))
         (λ other. ap entries_of (node_at-other t f node e below other)) (cases_eq e f)
 
-    node-kept : kept (with_node t f node) held ≡ with_node t f node
-    node-kept =
-        along-kept (with_node t f node)
+    node-preserved : preserved (with_node t f node) held ≡ with_node t f node
+    node-preserved =
+        along-preserved (with_node t f node)
         (λ n is. inl (⊎_elim (λ here. ap (λ k. is_some (node_at t k)) here ∙ ap is_some at) (λ other. ap is_some (sym (node_at-other t f node n below other)) ∙ is) (cases_eq n f)))
         (λ d name n found. ap (find by_name name) (same-entries d) ∙ found)
 
-  all-wanted : kept t held ≡ t
+  all-wanted : preserved t held ≡ t
   all-wanted = only_nodes_all t (wanted t held) (λ n node at. there n (ap is_some at))
 
-  content-kept : (f : ℕ) (bytes : Bytes) → kept (with_content t f bytes) held ≡ with_content t f bytes
-  content-kept f bytes = by (node_at t f) refl
+  content-preserved : (f : ℕ) (bytes : Bytes) → preserved (with_content t f bytes) held ≡ with_content t f bytes
+  content-preserved f bytes = by (node_at t f) refl
     where
-      by : (o : Option Node) → node_at t f ≡ o → kept (with_content_of t f o bytes) held ≡ with_content_of t f o bytes
+      by : (o : Option Node) → node_at t f ≡ o → preserved (with_content_of t f o bytes) held ≡ with_content_of t f o bytes
       by None at = all-wanted
       by (Some (directory_node es)) at = all-wanted
-      by (Some (file_node executable old)) at = node-kept f (file_node executable bytes) (file_node executable old) at refl
+      by (Some (file_node executable old)) at = node-preserved f (file_node executable bytes) (file_node executable old) at refl
       by (Some (link_node text)) at = all-wanted
 
-  -- a new node under a new name
+  -- the tree with a new node under a new name
   module _ (d : ℕ) (name : Bytes) (node : Node) (dir : is_directory_at t d ≡ true) (free : find_entry t d name ≡ None) (bare : entries_of (Some node) ≡ [])
       (within : new_number t ≤ length t.nodes) where
     abbrev m0 : ℕ
@@ -101,30 +101,30 @@ module _ (t : Tree) (held : List ℕ) (o : IsOrdered t) (there : (n : ℕ) → i
     free-new : find_entry (with_node t m0 node) d name ≡ None
     free-new = ap (λ o. find by_name name (entries_of o)) (new-other d apart) ∙ free
 
-    new_within-kept : kept (with_new_node t d name node) held ≡ with_new_node t d name node
-    new_within-kept =
-        along-kept (with_new_node t d name node)
+    new_within-preserved : preserved (with_new_node t d name node) held ≡ with_new_node t d name node
+    new_within-preserved =
+        along-preserved (with_new_node t d name node)
         (λ n is. ⊎_elim (λ here. inr (ap (among (named_numbers (with_new_node t d name node))) here ∙ named-new t d name node dir free bare within))
         (λ other. inl (ap is_some (sym (new-other n other)) ∙ entry-was (with_node t m0 node) d name (dir-new t d name node dir free bare within) free-new m0 n is)) (cases_eq n m0))
         (stays-new t d name node dir free bare within)
 
-  pub new-kept : length t.nodes ≡ t.inodes + 1 → (d : ℕ) (name : Bytes) (node : Node) → is_directory_at t d ≡ true → find_entry t d name ≡ None → entries_of (Some node) ≡ []
-      → kept (with_new_node t d name node) held ≡ with_new_node t d name node
-  new-kept numbers d name node dir free bare =
-      new_within-kept d name node dir free bare
+  pub new-preserved : length t.nodes ≡ t.inodes + 1 → (d : ℕ) (name : Bytes) (node : Node) → is_directory_at t d ≡ true → find_entry t d name ≡ None → entries_of (Some node) ≡ []
+      → preserved (with_new_node t d name node) held ≡ with_new_node t d name node
+  new-preserved numbers d name node dir free bare =
+      new_within-preserved d name node dir free bare
       (omega (arith, least_free-within (drop 1 t.nodes), length-drop_one t.nodes t.inodes (omega arith), numbers))
 
--- ---- the same of what is held by counts
+-- ---- the same with counted references
 
-counted-wanted : (t : Tree) (holds : List ℕ) → trimmed t holds ≡ t → (n : ℕ) → is_some (node_at t n) ≡ true → among (wanted t (held_numbers holds)) n ≡ true
-counted-wanted t holds same n is = wanted-counted t holds n ∙ all-kept t holds same n is
+counted-wanted : (t : Tree) (holds : List ℕ) → collected t holds ≡ t → (n : ℕ) → is_some (node_at t n) ≡ true → among (wanted t (held_numbers holds)) n ≡ true
+counted-wanted t holds same n is = wanted-counted t holds n ∙ all-preserved t holds same n is
 
-pub kept-entry : (t : Tree) (holds : List ℕ) → IsOrdered t → trimmed t holds ≡ t → (d : ℕ) (name : Bytes) (m : ℕ) → is_directory_at t d ≡ true → find_entry t d name ≡ None
-    → trimmed (with_entry t d name m) holds ≡ with_entry t d name m
-kept-entry t holds o same = entry-kept t (held_numbers holds) o (counted-wanted t holds same)
+pub preserved-entry : (t : Tree) (holds : List ℕ) → IsOrdered t → collected t holds ≡ t → (d : ℕ) (name : Bytes) (m : ℕ) → is_directory_at t d ≡ true → find_entry t d name ≡ None
+    → collected (with_entry t d name m) holds ≡ with_entry t d name m
+preserved-entry t holds o same = entry-preserved t (held_numbers holds) o (counted-wanted t holds same)
 
-pub kept-content : (t : Tree) (holds : List ℕ) → IsOrdered t → trimmed t holds ≡ t → (f : ℕ) (bytes : Bytes) → trimmed (with_content t f bytes) holds ≡ with_content t f bytes
-kept-content t holds o same = content-kept t (held_numbers holds) o (counted-wanted t holds same)
+pub preserved-content : (t : Tree) (holds : List ℕ) → IsOrdered t → collected t holds ≡ t → (f : ℕ) (bytes : Bytes) → collected (with_content t f bytes) holds ≡ with_content t f bytes
+preserved-content t holds o same = content-preserved t (held_numbers holds) o (counted-wanted t holds same)
 
 -- ---- states with another tree
 
@@ -132,32 +132,32 @@ module _ (h : HeldTree) (c : Counted) (ps : ProcessTable) (s : State) (view : st
   same-tree : h.tree ≡ s.tree
   same-tree = ap (λ x. x.tree) view
 
-  pub kept-seen : IsStanding h → trimmed s.tree h.holds ≡ s.tree
-  kept-seen standing = subst (λ t. trimmed t h.holds ≡ t) same-tree standing.is_trimmed
+  pub preserved-seen : IsPresent h → collected s.tree h.holds ≡ s.tree
+  preserved-seen present = subst (λ t. collected t h.holds ≡ t) same-tree present.is_collected
 
-  -- a state with another tree is trimmed as the tree is
-  pub trim-after : (u : Tree) → trim (with_tree s u) ≡ state_of (after h u) c ps
-  trim-after u =
-      ap (λ x. trim (with_tree x u)) (sym view)
-      ∙ trim-parts (with_tree (state_of h c ps) u) (after h u) c ps (record { users = up.users; holds = up.holds }) is is.slots refl refl refl (λ k more. refl)
+  -- a state with another tree is collected like the tree
+  pub collect-after : (u : Tree) → collect (with_tree s u) ≡ state_of (after h u) c ps
+  collect-after u =
+      ap (λ x. collect (with_tree x u)) (sym view)
+      ∙ collect-parts (with_tree (state_of h c ps) u) (after h u) c ps (record { users = up.users; holds = up.holds }) is is.slots refl refl refl (λ k more. refl)
 
   module _ (change : Tree → Tree) where
-    pub after-changed : (new : HeldTree) → new ≡ after h (change h.tree) → state_of new c ps ≡ trim (with_tree s (change s.tree))
-    after-changed new same = ap (λ x. state_of x c ps) same ∙ ap (λ t. state_of (after h (change t)) c ps) same-tree ∙ sym (trim-after (change s.tree))
+    pub after-changed : (new : HeldTree) → new ≡ after h (change h.tree) → state_of new c ps ≡ collect (with_tree s (change s.tree))
+    after-changed new same = ap (λ x. state_of x c ps) same ∙ ap (λ t. state_of (after h (change t)) c ps) same-tree ∙ sym (collect-after (change s.tree))
 
-    pub after-refused : (why : Space) → refusal (trimmed (change h.tree) h.holds) ≡ Some why → refusal (trim (with_tree s (change s.tree))).tree ≡ Some why
-    after-refused why no_room = ap (λ x. refusal x.tree) (trim-after (change s.tree)) ∙ ap (λ t. refusal (trimmed (change t) h.holds)) (sym same-tree) ∙ no_room
+    pub after-refused : (why : Space) → refusal (collected (change h.tree) h.holds) ≡ Some why → refusal (collect (with_tree s (change s.tree))).tree ≡ Some why
+    after-refused why no_room = ap (λ x. refusal x.tree) (collect-after (change s.tree)) ∙ ap (λ t. refusal (collected (change t) h.holds)) (sym same-tree) ∙ no_room
 
-    -- and so is one of whose tree no node goes
-    module _ (kept : trimmed (change s.tree) h.holds ≡ change s.tree) where
-      kept-before : trimmed (change h.tree) h.holds ≡ change h.tree
-      kept-before = subst (λ t. trimmed (change t) h.holds ≡ change t) (sym same-tree) kept
+    -- the same for a state from whose tree no node is collected
+    module _ (preserved : collected (change s.tree) h.holds ≡ change s.tree) where
+      preserved-before : collected (change h.tree) h.holds ≡ change h.tree
+      preserved-before = subst (λ t. collected (change t) h.holds ≡ change t) (sym same-tree) preserved
 
-      pub grown-changed : (new : HeldTree) → new ≡ with_held h (change h.tree) → state_of new c ps ≡ trim (with_tree s (change s.tree))
-      grown-changed new same = after-changed new (same ∙ ap (with_held h) (sym kept-before))
+      pub grown-changed : (new : HeldTree) → new ≡ with_held h (change h.tree) → state_of new c ps ≡ collect (with_tree s (change s.tree))
+      grown-changed new same = after-changed new (same ∙ ap (with_held h) (sym preserved-before))
 
-      pub grown-refused : (why : Space) → refusal (change h.tree) ≡ Some why → refusal (trim (with_tree s (change s.tree))).tree ≡ Some why
-      grown-refused why no_room = after-refused why (ap refusal kept-before ∙ no_room)
+      pub grown-refused : (why : Space) → refusal (change h.tree) ≡ Some why → refusal (collect (with_tree s (change s.tree))).tree ≡ Some why
+      grown-refused why no_room = after-refused why (ap refusal preserved-before ∙ no_room)
 
 pub ordered-seen : (t : Tree) → IsWellFormed t → IsOrdered t
 ordered-seen t w = ordered t w.each_node
@@ -169,9 +169,9 @@ new-bare File = refl
 new-bare Executable = refl
 new-bare (Symlink text) = refl
 
--- a new node leaves each that is there
-pub kept-made : (t : Tree) (holds : List ℕ) → IsWellFormed t → trimmed t holds ≡ t → (d : ℕ) (name : Bytes) (k : NewNode) → is_directory_at t d ≡ true → find_entry t d name ≡ None
-    → trimmed (with_new_node t d name (new_node k)) holds ≡ with_new_node t d name (new_node k)
-kept-made t holds w same d name k dir free =
+-- with a new node, every existing node stays
+pub preserved-made : (t : Tree) (holds : List ℕ) → IsWellFormed t → collected t holds ≡ t → (d : ℕ) (name : Bytes) (k : NewNode) → is_directory_at t d ≡ true → find_entry t d name ≡ None
+    → collected (with_new_node t d name (new_node k)) holds ≡ with_new_node t d name (new_node k)
+preserved-made t holds w same d name k dir free =
     let numbers : length t.nodes ≡ t.inodes + 1 = omega (arith, w.numbers) in
-    new-kept t (held_numbers holds) (ordered-seen t w) (counted-wanted t holds same) numbers d name (new_node k) dir free (new-bare k)
+    new-preserved t (held_numbers holds) (ordered-seen t w) (counted-wanted t holds same) numbers d name (new_node k) dir free (new-bare k)

@@ -1,11 +1,12 @@
--- Lemmas of the counted state.
--- - what counts become: Counting, Alone (a process that changes alone), Changing, Releasing, Sharing, Targets, Adding (a table's
---   entry), Descriptors, Owned (what a process owns), Ends, Opening, Growing, Writing, Reading, Reaping, Beginning
--- - Trimming: counts let go what trim does. Attempts: what attempts come to one after another, for the system calls too
+-- Lemmas about the counted state.
+-- - counts of users and references: Counting, Alone (a process that changes alone), Changing, Releasing, Sharing,
+--   Targets, Adding (a table entry), Descriptors, Owned (a process's record), Ends, Opening, Growing, Writing, Reading,
+--   Reaping, Prefix
+-- - Collecting: collecting by counts equals the definition. Attempts: sequences of attempts, for the system calls too
 pub mod Adding
 pub mod Alone
 pub mod Attempts
-pub mod Beginning
+pub mod Prefix
 pub mod Changing
 pub mod Counting
 pub mod Descriptors
@@ -18,5 +19,5 @@ pub mod Reaping
 pub mod Releasing
 pub mod Sharing
 pub mod Targets
-pub mod Trimming
+pub mod Collecting
 pub mod Writing

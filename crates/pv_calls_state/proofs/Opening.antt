@@ -1,18 +1,18 @@
--- A node that is opened, and its descriptor.
+-- Opening of a node, with its descriptor.
 use Rattle.std.proofs.Common.{◌≡◌, ◌≢◌, ℕ, zero, suc, ◌+◌, ◌-◌, ◌<◌, ◌≤◌, Bool, true, false, [], ◌++◌, length, take, replicate, Option, None, Some, is_some, refl, ap, sym, subst, ◌∙◌, ⊎_elim, arith}
 use Rattle.std.specs.Prelude.{slice_index, IsSome, IsTrue, if◌then◌else◌}
 use Rattle.std.proofs.lemmas.Bool.{cases_eq, cases_Bool}
 use Rattle.pv_files.specs.Counted.{Counted, IsCounted, with_opened}
 use Rattle.pv_inodes.specs.declared.space.Space.TheVariants.{Full, TooBig}
-use Rattle.pv_laws_states.specs.States.{IsTree, IsWhole}
+use Rattle.pv_laws_states.specs.States.{IsTree, IsValid}
 use Rattle.pv_laws_states.proofs.ByOpen.{held-more}
 use Rattle.pv_laws_states.proofs.Grown.{carries-content, there-wanted, new-below}
-use Rattle.pv_laws_states.proofs.Trim.{held_after, tree-trim}
+use Rattle.pv_laws_states.proofs.Collect.{held_after, tree-collect}
 use Rattle.pv_model.specs.declared.open_flags.OpenFlags.{OpenFlags}
 use Rattle.pv_model.specs.Bytes.{Bytes}
 use Rattle.pv_model.specs.Calls.Descriptors.{new_open_file, with_content, with_content_of, with_open_file}
 use Rattle.pv_model.specs.Effect.{bytes_of, resize}
-use Rattle.pv_model.specs.Held.{held_by_process, trim}
+use Rattle.pv_model.specs.Held.{held_by_process, collect}
 use Rattle.pv_model.specs.Numbered.{least_free}
 use Rattle.pv_model.specs.Sealed.{is_file}
 use Rattle.pv_model.specs.Room.{fits, is_too_long}
@@ -20,34 +20,34 @@ use Rattle.pv_model.specs.State.{OpenFile, Process, State, process_at}
 use Rattle.pv_model.specs.Tree.{Node, directory_node, file_node, link_node, Tree, node_at, is_directory_at, find_entry, with_node, new_number, with_new_node}
 use Rattle.pv_procs.specs.ProcessTable.{ProcessTable, with_process, update, state_with}
 use Rattle.pv_tree.specs.Changes.{resized}
-use Rattle.pv_tree.specs.Holding.{HeldTree, holds_at, trimmed}
+use Rattle.pv_tree.specs.Holding.{HeldTree, holds_at, collected}
 use Rattle.pv_tree.specs.Rooms.{refusal}
-use Rattle.pv_tree.specs.Standing.{IsStanding}
+use Rattle.pv_tree.specs.Present.{IsPresent}
 use Rattle.pv_tree.proofs.Counting.{read-same, read-other}
 use Rattle.pv_tree.proofs.Entries.{one_if}
 use Rattle.pv_tree.proofs.Rooms.{refusal-fits}
 use Rattle.pv_laws_trees.specs.Room.{IsNoLonger, IsNoLarger}
 use Rattle.pv_laws_trees.proofs.Changes.{node_at-same, node_at-other}
 use Rattle.pv_laws_trees.proofs.Numbered.{at_number-below, least_free-free}
-use Rattle.pv_laws_trees.specs.Kept.{kept}
+use Rattle.pv_laws_trees.specs.Preserved.{preserved}
 use Rattle.pv_laws_trees.proofs.NewNodes.{there-new, new-same}
-use Rattle.pv_laws_trees.proofs.Rooms.{smaller-fits, smaller-not_too_long, kept-no_larger}
+use Rattle.pv_laws_trees.proofs.Rooms.{smaller-fits, smaller-not_too_long, preserved-no_larger}
 use Rattle.pv_calls_state.specs.Changes.{with_opened_descriptor, with_file_made}
 use Rattle.pv_calls_state.specs.Counts.{state_of, times, open_nodes, IsCountedUp}
 use Rattle.pv_calls_state.specs.Releasing.{files_on}
-use Rattle.pv_calls_state.proofs.Changing.{IsBefore, updated, few-holds, counted-changed, trimmed-changed}
+use Rattle.pv_calls_state.proofs.Changing.{IsBefore, updated, few-holds, counted-changed, collected-changed}
 use Rattle.pv_calls_state.proofs.Counting.{one-apart, of_place, times-one, times-with_number}
 use Rattle.pv_calls_state.proofs.Descriptors.{times-given}
-use Rattle.pv_calls_state.proofs.Growing.{ordered-seen, wanted-more, new-kept}
+use Rattle.pv_calls_state.proofs.Growing.{ordered-seen, wanted-more, new-preserved}
 use Rattle.pv_calls_state.proofs.Releasing.{of_node}
 
--- ---- a file that is cut
+-- ---- a truncated file
 
 file-some : (o : Option Node) → is_file o ≡ true → is_some o ≡ true
 file-some None is = cc
 file-some (Some node) is = refl
 
--- a file that is cut is there
+-- a node that may be truncated exists in the tree that open leaves
 pub cut-there : (t : Tree) → IsTree t → (n : ℕ) (cuts : Bool) → (IsTrue cuts → IsTrue (is_file (node_at t n))) → IsSome (node_at t n)
     → IsSome (node_at (if cuts then with_content t n [] else t) n)
 cut-there t is n true file there = file-some (node_at (with_content t n []) n) ((carries-content t is n [] refl).file n there ∙ file refl)
@@ -57,7 +57,7 @@ no_longer : (t : Tree) (o : Option Node) → IsNoLonger t.version o o
 no_longer t None = tt
 no_longer t (Some node) = omega arith
 
--- no bytes have room
+-- truncation to no bytes has room
 pub cut-fits : (t : Tree) (n : ℕ) → is_file (node_at t n) ≡ true → is_too_long t ≡ false → fits t ≡ true → refusal (resized t n 0) ≡ None
 cut-fits t n file short room = by (node_at t n) refl file
   where
@@ -84,39 +84,39 @@ cut-fits t n file short room = by (node_at t n) refl file
         ∙ ap (λ k. refusal (with_node t n (file_node x (take 0 old ++ replicate k 0)))) nothing
         ∙ refusal-fits u stays (smaller-fits t u less room)
 
--- ---- a node that is made
+-- ---- a new node
 
 allowed-fits : (u : Tree) → refusal u ≡ None → fits u ≡ true
 allowed-fits u none = by (is_too_long u) (fits u) none
   where
     by : (a b : Bool) → (if a then Some TooBig else (if b then None else Some Full)) ≡ None → b ≡ true
-    by true b wrong = cc wrong
+    by true b invalid = cc invalid
     by false true is = refl
-    by false false wrong = cc wrong
+    by false false invalid = cc invalid
 
--- it is there under its number
-pub made-there : (s : State) → IsWhole s → (d : ℕ) (name : Bytes) → is_directory_at s.tree d ≡ true → find_entry s.tree d name ≡ None
+-- the new node exists under its number
+pub made-there : (s : State) → IsValid s → (d : ℕ) (name : Bytes) → is_directory_at s.tree d ≡ true → find_entry s.tree d name ≡ None
     → refusal (with_new_node s.tree d name (file_node false [])) ≡ None → IsSome (node_at (with_new_node s.tree d name (file_node false [])) (new_number s.tree))
 made-there s whole d name dir free allowed =
     let u : Tree = with_new_node s.tree d name (file_node false []) in
-    let roomy = smaller-fits u (kept u (held_after s)) (kept-no_larger u (held_after s)) (allowed-fits u allowed) in
+    let roomy = smaller-fits u (preserved u (held_after s)) (preserved-no_larger u (held_after s)) (allowed-fits u allowed) in
     let below : new_number s.tree < length s.tree.nodes = new-below s whole d name (file_node false []) (held_after s) dir free refl (λ n is. is) roomy in
     let within : new_number s.tree ≤ length s.tree.nodes = omega arith in
     there-new s.tree d name (file_node false []) dir free refl within (new_number s.tree) (ap is_some (new-same s.tree d name (file_node false []) dir free refl within))
 
--- the open file of it leaves each node
-pub made-tree : (s : State) (pid : ℕ) (me : Process) → IsWhole s → process_at s pid ≡ Some me → (f : OpenFlags) (d : ℕ) (name : Bytes) → is_directory_at s.tree d ≡ true → find_entry s.tree d name ≡ None
-    → least_free s.files < 128 → least_free me.descriptors < 16 → (trim (with_file_made s pid me f d name)).tree ≡ with_new_node s.tree d name (file_node false [])
+-- the open file on it keeps every node
+pub made-tree : (s : State) (pid : ℕ) (me : Process) → IsValid s → process_at s pid ≡ Some me → (f : OpenFlags) (d : ℕ) (name : Bytes) → is_directory_at s.tree d ≡ true → find_entry s.tree d name ≡ None
+    → least_free s.files < 128 → least_free me.descriptors < 16 → (collect (with_file_made s pid me f d name)).tree ≡ with_new_node s.tree d name (file_node false [])
 made-tree s pid me whole at f d name dir free room_file room_descriptor =
     let made : State = with_file_made s pid me f d name in
     let numbers : length s.tree.nodes ≡ s.tree.inodes + 1 = omega (arith, whole.tree.well_formed.numbers) in
     let more = held-more s pid me whole at f (new_number s.tree) (with_new_node s.tree d name (file_node false []))
     (omega (arith, room_file, whole.files.count)) (omega (arith, room_descriptor, (whole.processes.placed pid me at).descriptors)) in
-    tree-trim made
-    ∙ new-kept s.tree (held_after made) (ordered-seen s.tree whole.tree.well_formed)
+    tree-collect made
+    ∙ new-preserved s.tree (held_after made) (ordered-seen s.tree whole.tree.well_formed)
     (λ n is. wanted-more s.tree (held_after s) (held_after made) more n (there-wanted s whole n is)) numbers d name (file_node false []) dir free refl
 
--- ---- the node that is opened
+-- ---- the opened node
 
 module _ (t : HeldTree) (c : Counted) (ps : ProcessTable) (pid : ℕ) (me : Process) (is : IsBefore t c ps pid me) (node : ℕ) (flags : OpenFlags) (v : HeldTree) (same : v.holds ≡ t.holds) where
   pub open-few : holds_at v node < 65535
@@ -133,7 +133,7 @@ module _ (t : HeldTree) (c : Counted) (ps : ProcessTable) (pid : ℕ) (me : Proc
         by (suc n) some =
             let there = (is.counted.used (least_free c.files)).1 (omega (arith, some)) in
             let none = least_free-free c.files in
-            let wrong : is_some {T = OpenFile} None ≡ true = ap is_some (sym none) ∙ there in cc wrong
+            let invalid : is_some {T = OpenFile} None ≡ true = ap is_some (sym none) ∙ there in cc invalid
 
     one-user : (k : ℕ) → slice_index c.users k + one_if (least_free c.files) k ≡ slice_index d.users k
     one-user = one-apart (slice_index c.users) (slice_index d.users) (least_free c.files)
@@ -165,10 +165,10 @@ module _ (t : HeldTree) (c : Counted) (ps : ProcessTable) (pid : ℕ) (me : Proc
     pub opened-up : IsCountedUp u d qs
     opened-up = counted-changed t c ps pid me is u d qs (with_opened_descriptor (least_free c.files) flags.close_on_exec me) put' users holds
 
-    pub opened-state : (s : State) → state_of t c ps ≡ s → (tree : Tree) → u.tree ≡ tree → IsStanding u → IsCounted d
-        → state_of u d qs ≡ trim (with_open_file s pid me flags node tree)
-    opened-state s view tree nodes standing counted =
-        trimmed-changed t c ps pid me is u d qs (with_opened_descriptor (least_free c.files) flags.close_on_exec me) put' users holds tree d.files counted counted.slots
-        (sym standing.is_trimmed ∙ ap (λ x. trimmed x u.holds) nodes) (λ k used. refl)
-        ∙ ap (λ fs. trim (state_with tree fs (with_process ps pid (with_opened_descriptor (least_free c.files) flags.close_on_exec me)))) (ap (λ (x : Counted). x.files) files)
-        ∙ ap (λ x. trim (with_open_file x pid me flags node tree)) view
+    pub opened-state : (s : State) → state_of t c ps ≡ s → (tree : Tree) → u.tree ≡ tree → IsPresent u → IsCounted d
+        → state_of u d qs ≡ collect (with_open_file s pid me flags node tree)
+    opened-state s view tree nodes present counted =
+        collected-changed t c ps pid me is u d qs (with_opened_descriptor (least_free c.files) flags.close_on_exec me) put' users holds tree d.files counted counted.slots
+        (sym present.is_collected ∙ ap (λ x. collected x u.holds) nodes) (λ k used. refl)
+        ∙ ap (λ fs. collect (state_with tree fs (with_process ps pid (with_opened_descriptor (least_free c.files) flags.close_on_exec me)))) (ap (λ (x : Counted). x.files) files)
+        ∙ ap (λ x. collect (with_open_file x pid me flags node tree)) view

@@ -1,4 +1,4 @@
--- What a process owns, where a part of it was lent and has changed, or has not.
+-- The record of a process, after a part of it was borrowed and possibly changed.
 use Rattle.std.proofs.Common.{◌≡◌, ℕ, true, cond, List, [], ◌∷◌, Option, None, Some, Result, Ok, Err, refl, ap, ap₂, sym, ◌∙◌}
 use Rattle.std.specs.Prelude.{option_map, IsSome, IfOk, OnOk}
 use Rattle.std.specs.FinMap.Entries.{by_order, find, put, is_sorted, below_all}
@@ -21,7 +21,7 @@ live-there None me is = cc
 live-there (Some (live p)) me is = let same : p ≡ me = cc is in ap (λ x. Some (live x)) same
 live-there (Some (ended_record parent status)) me is = cc
 
--- what is put where it stood
+-- putting a value where it already is changes nothing
 put-again : (pid : ℕ) (r : Found) (ps : List (ℕ × Found)) → is_sorted nat_cmp ps ≡ true → find nat_cmp pid ps ≡ Some r → put nat_cmp pid r ps ≡ ps
 put-again pid r [] sorted is = cc
 put-again pid r (e ∷ ps) sorted is = by (nat_cmp pid e.0) refl (λ there. put-again pid r ps (and_parts (below_all nat_cmp e.0 ps) _ sorted).1 there)
@@ -31,7 +31,7 @@ put-again pid r (e ∷ ps) sorted is = by (nat_cmp pid e.0) refl (λ there. put-
     by Equal order rest = let same : e.1 ≡ r = cc (sym (ap (λ o. cond (is_eq o) (Some e.1) (find nat_cmp pid ps)) order) ∙ is) in ap (λ x. (e.0, x) ∷ ps) (sym same)
     by Greater order rest = ap (λ es. e ∷ es) (rest (sym (ap (λ o. cond (is_eq o) (Some e.1) (find nat_cmp pid ps)) order) ∙ is))
 
--- what it owns is as it was: nothing has changed
+-- an unchanged record: the processes are unchanged
 pub same-owned : (ps : ProcessTable) (pid : ℕ) → is_sorted nat_cmp ps.processes ≡ true → IsSome (process_in ps pid) → (r : Owned) → option_map record_of (process_in ps pid) ≡ Some r
     → (w : Owned) → w ≡ r → update ps pid (λ p. with_record p w) ≡ ps
 same-owned ps pid sorted lives r lent w same =
@@ -41,7 +41,7 @@ same-owned ps pid sorted lives r lent w same =
     ∙ ap (λ own. with_process ps pid (with_record me own)) (same ∙ lent-is (process_in ps pid) me r lent found.1)
     ∙ ap (λ es. record ps { processes = es }) (put-again pid (live me) ps.processes sorted (live-there (find nat_cmp pid ps.processes) me found.1))
 
--- its descriptors alone are others: it has changed by them
+-- only the descriptors changed
 pub other-descriptors : (ps : ProcessTable) (pid : ℕ) (r : Owned) → option_map record_of (process_in ps pid) ≡ Some r
     → (ds : Numbered Descriptor) (change : Numbered Descriptor → Numbered Descriptor) → ds ≡ change r.descriptors
     → update ps pid (λ p. with_record p (record r { descriptors = ds })) ≡ update ps pid (λ p. with_descriptors (change p.descriptors) p)
@@ -54,7 +54,7 @@ other-descriptors ps pid r lent ds change is = by (process_in ps pid) lent
         let own : r ≡ record_of me = lent-is (Some me) me r lent refl in
         ap₂ (λ (x : Owned) es. with_process ps pid (with_record me (record x { descriptors = es }))) own (is ∙ ap (λ (x : Owned). change x.descriptors) own)
 
--- what is given under a number, and the number is the least that is free
+-- a value was put under the least free number
 pub given-least : {E : Type 0} {Q : Type 0} (result : Result ℕ E) (under : ℕ → Numbered Descriptor) (new : Numbered Descriptor) {least : ℕ} → IfOk result (λ n. n ≡ least) → IfOk result (λ n. new ≡ under n)
     → (new ≡ under least → Q) → OnOk result Q
 given-least (Ok n) under new number given then = then (given ∙ ap under number)

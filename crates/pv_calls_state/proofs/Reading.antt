@@ -1,4 +1,4 @@
--- Bytes that are read to the front of a process's buffer.
+-- Reading of bytes to the front of a process's buffer.
 use Rattle.std.proofs.Common.{◌≡◌, ℕ, zero, suc, ◌≤◌, min, true, [], ◌∷◌, ◌++◌, length, take, drop, Option, None, Some, refl, ap, ap₂, sym, ◌∙◌, arith}
 use Rattle.std.specs.Prelude.{option_map}
 use Rattle.std.proofs.lemmas.List.{append_assoc, length-drop, length-take, length-append, take-append-drop, take-append-le}
@@ -32,7 +32,7 @@ drop-within (suc n) zero xs less = absurd (omega (arith, less))
 drop-within (suc n) (suc m) [] less = refl
 drop-within (suc n) (suc m) (x ∷ xs) less = let rest : n ≤ m = omega (arith, less) in drop-within n m xs rest
 
--- a buffer, into whose first bytes what a file has is read
+-- a buffer after bytes of a file are read to its front
 pub read-in : (buffer content first : Bytes) (count taken : ℕ) → count ≤ length buffer → taken ≡ min (length (take count buffer)) (length content)
     → first ≡ take taken content ++ drop taken (take count buffer) → first ++ drop count buffer ≡ take count content ++ drop (length (take count content)) buffer
 read-in buffer content first count taken few read front =
@@ -41,7 +41,7 @@ read-in buffer content first count taken few read front =
     ap (λ bs. bs ++ drop count buffer) front ∙ append_assoc (take taken content) (drop taken (take count buffer)) (drop count buffer)
     ∙ ap₂ (λ xs ys. xs ++ ys) (take-front count taken content same) (drop-within taken count buffer less ∙ ap (λ n. drop n buffer) same)
 
--- a buffer that was lent, and came back with other bytes at its front
+-- a borrowed buffer that was returned with other bytes at its front
 pub lent-back : (buffer bytes last : Bytes) → length bytes ≤ length buffer → last ≡ bytes ++ drop (length bytes) buffer
     → take (length buffer) (last ++ drop (length last) buffer) ≡ bytes ++ drop (length bytes) buffer
 lent-back buffer bytes last few is =

@@ -1,9 +1,9 @@
--- Waiting: a child that has ended used and held nothing.
+-- Waiting: an ended child has no users and no references.
 use Rattle.std.proofs.Common.{◌≡◌, ◌≢◌, ℕ, Bool, true, false, cond, not, ◌==◌, List, [], ◌∷◌, ◌++◌, filter, Some, refl, ap, sym, ◌∙◌}
 use Rattle.std.specs.FinMap.Entries.{find, below_all, is_sorted}
 use Rattle.std.specs.Ordering.{nat_cmp, is_eq}
 use Rattle.std.proofs.lemmas.Bool.{and_parts, eqb-true}
-use Rattle.pv_calls_state.specs.Attempts.{trimmed}
+use Rattle.pv_calls_state.specs.Attempts.{collected}
 use Rattle.pv_laws_states.proofs.ByTable.{first-ended}
 use Rattle.pv_laws_states.proofs.Members.{all_of, find_number_after}
 use Rattle.pv_laws_states.proofs.Processes.{number-itself}
@@ -12,7 +12,7 @@ use Rattle.pv_model.specs.Attempt.{done, refuse_if, ◌>>◌}
 use Rattle.pv_model.specs.Bytes.{is_empty}
 use Rattle.pv_model.specs.Calls.Processes.{parent_of, statuses, children, reap, wait}
 use Rattle.pv_model.specs.Effect.{Effect}
-use Rattle.pv_model.specs.Held.{trim}
+use Rattle.pv_model.specs.Held.{collect}
 use Rattle.pv_model.specs.State.{Process, ProcessRecord, live, ended_record, State}
 use Rattle.pv_procs.specs.declared.processes.Reap.{Reap}
 use Rattle.pv_procs.specs.declared.processes.Reap.TheVariants.{Child, Blocked, NoChild}
@@ -23,7 +23,7 @@ abbrev others : ℕ → List (ℕ × ProcessRecord) → List (ℕ × ProcessReco
 others k ps = filter (λ r. not (r.0 == k)) ps
 
 module _ (g : Process → List ℕ) where
-  -- without a number that is not live the same is used and held
+  -- without the record of a number that is not live, the counts are the same
   all_of-others : (ps : List (ℕ × ProcessRecord)) (k : ℕ) → is_sorted nat_cmp ps ≡ true → ((p : Process) → find nat_cmp k ps ≢ Some (live p)) → all_of g (others k ps) ≡ all_of g ps
   all_of-others [] k sorted gone = refl
   all_of-others ((n, r) ∷ ps) k sorted gone =
@@ -42,7 +42,7 @@ value_of : {a b : ℕ} {x y : Effect} → done a x ≡ done b y → x ≡ y
 value_of {a} {b} {x} {y} is = cc is
 
 module _ (s after : State) (pid : ℕ) (me : Process) (sorted : is_sorted nat_cmp s.processes ≡ true) where
-  -- what was found, by cases: no child, none that has ended, one that has
+  -- the cases of a wait: no child, no ended child, an ended child
   reap-cases : (P : Type 0) (found : Reap) → wait s pid me ≡ waited found after
       → (found ≡ NoChild → P) → (found ≡ Blocked → after ≡ s → P)
       → ((k status : ℕ) (rs : List (ℕ × ℕ)) → statuses (children s pid me) ≡ (k, status) ∷ rs → after ≡ record s { processes = others k s.processes } → P) → P
@@ -58,7 +58,7 @@ module _ (s after : State) (pid : ℕ) (me : Process) (sorted : is_sorted nat_cm
       by (Child number status) false [] are is none blocked = let pair = value_of is in let reply = ap (λ (e : Effect). e.1) pair in cc reply
       by (Child number status) false ((k, other) ∷ rs) are is none blocked = child k other rs are (sym (ap (λ (e : Effect). e.0) (value_of is)))
 
-  -- where none has ended nothing changes
+  -- without an ended child nothing changes
   pub reap-blocked : (found : Reap) → wait s pid me ≡ waited found after → found ≡ Blocked → after ≡ s
   reap-blocked found is none = by (is_empty (children s pid me)) (statuses (children s pid me)) (is ∙ ap (λ r. waited r after) none)
     where
@@ -67,7 +67,7 @@ module _ (s after : State) (pid : ℕ) (me : Process) (sorted : is_sorted nat_cm
       by false [] is = sym (ap (λ (e : Effect). e.0) (value_of is))
       by false ((k, status) ∷ rs) is = let pair = value_of is in let reply = ap (λ (e : Effect). e.1) pair in cc reply
 
-  -- the same is used and held
+  -- the users and references stay the same
   pub reap-same : (g : Process → List ℕ) (found : Reap) → wait s pid me ≡ waited found after → (found ≡ NoChild → after ≡ s) → all_of g after.processes ≡ all_of g s.processes
   reap-same g found is unchanged =
       reap-cases (all_of g after.processes ≡ all_of g s.processes) found is (λ none. ap (λ x. all_of g x.processes) (unchanged none)) (λ none same. ap (λ x. all_of g x.processes) same)
@@ -75,11 +75,11 @@ module _ (s after : State) (pid : ℕ) (me : Process) (sorted : is_sorted nat_cm
       ap (λ x. all_of g x.processes) same
       ∙ all_of-others g s.processes k sorted (λ p lives. let ended = first-ended s.processes (λ r. parent_of r.1 == pid) sorted k status rs are in let two = sym lives ∙ ended.1 in cc))
 
--- a state that is trimmed is what a wait leaves
-pub trimmed-waited : (found : Reap) (after : State) → trim after ≡ after → trimmed (waited found after) ≡ waited found after
-trimmed-waited found after is = by found
+-- if the state after a wait is collected, so is the result of the wait
+pub collected-waited : (found : Reap) (after : State) → collect after ≡ after → collected (waited found after) ≡ waited found after
+collected-waited found after is = by found
   where
-    by : (found : Reap) → trimmed (waited found after) ≡ waited found after
+    by : (found : Reap) → collected (waited found after) ≡ waited found after
     by (Child number status) = ap (λ s. waited (Child number status) s) is
     by Blocked = ap (λ s. waited Blocked s) is
     by NoChild = refl

@@ -1,4 +1,4 @@
--- Users that come, one after the other.
+-- Addition of users, one at a time.
 use Rattle.std.proofs.Common.{◌≡◌, ℕ, ◌+◌, ◌<◌, ◌≤◌, [], length, drop, None, Some, ap, sym, subst, ◌∙◌, arith}
 use Rattle.std.specs.Prelude.{slice_index, option_map, IsSome}
 use Rattle.std.proofs.lemmas.List.{drop_all}
@@ -12,7 +12,7 @@ use Rattle.pv_calls_state.specs.Releasing.{files_on, Shares}
 use Rattle.pv_calls_state.proofs.Counting.{one-self, one-apart, indexed-within, times-drop, times-there, place-is, place-none}
 use Rattle.pv_calls_state.proofs.Releasing.{of_file}
 
--- an open file has one user more
+-- an open file has one more user
 pub one-more : (c d : Counted) (file : ℕ) → IsCounted c → IsSome (at_number c.files file) → d ≡ with_users c file (slice_index c.users file + 1)
     → (k : ℕ) → slice_index c.users k + one_if file k ≡ slice_index d.users k
 one-more c d file is there users =
@@ -42,7 +42,7 @@ module _ (places : Numbered Descriptor) (k file : ℕ) (c d : Counted) (at : opt
     files = ap (λ x. x.files) more ∙ before.files;
   }
 
--- all places were gone through
+-- all indices are done
 pub shares-all : (places : Numbered Descriptor) (k : ℕ) (c d : Counted) → length places ≤ k → Shares (files_on places) (files_on (drop k places)) c d → Shares (files_on places) [] c d
 shares-all places k c d past before = record {
   users = λ n. omega (arith, before.users n, ap (λ xs. times n (files_on xs)) (drop_all k places past));

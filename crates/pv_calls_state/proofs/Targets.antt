@@ -1,4 +1,4 @@
--- The directories of a table's targets, one after the other.
+-- The directories of a table's targets, one at a time.
 use Rattle.std.proofs.Common.{◌≡◌, ◌≢◌, ℕ, ◌+◌, ◌<◌, ◌≤◌, List, map, drop, Option, None, Some, refl, ap, sym, subst, ◌∙◌, arith}
 use Rattle.std.specs.Prelude.{slice_get, option_map, IsSome}
 use Rattle.pv_model.specs.declared.perms.Perms.{Perms}
@@ -7,12 +7,12 @@ use Rattle.pv_model.specs.Calls.Restraints.{entries_of_table}
 use Rattle.pv_model.specs.Held.{held_by_table}
 use Rattle.pv_model.specs.Tree.{node_at}
 use Rattle.pv_model.specs.Unveil.{Table, target_directory}
-use Rattle.pv_tree.specs.Holding.{HeldTree, holds_at, trimmed}
-use Rattle.pv_tree.specs.Standing.{IsStanding}
+use Rattle.pv_tree.specs.Holding.{HeldTree, holds_at, collected}
+use Rattle.pv_tree.specs.Present.{IsPresent}
 use Rattle.pv_tree.proofs.Entries.{one_if}
 use Rattle.pv_calls_state.specs.Counts.{times}
 use Rattle.pv_calls_state.proofs.Counting.{one-self, one-apart, times-from, times-get}
-use Rattle.pv_calls_state.proofs.Releasing.{trimmed_in_turn}
+use Rattle.pv_calls_state.proofs.Releasing.{collected_in_turn}
 
 abbrev pub of_entry : Target × Perms → ℕ
 of_entry e = target_directory e.0
@@ -43,7 +43,7 @@ module _ (table : Option Table) (k : ℕ) (target : Target) (n : ℕ) (at : opti
       subst (λ ns. 0 < times n ns) (sym (held-entries table))
       (subst (λ j. 0 < times j (directories (entries_of_table table))) (sym same) (times-get of_entry (entries_of_table table) k found.0 found.1))
 
-  -- a tree that holds the first k once more each
+  -- the first k directories have one more reference each
   module _ (t u : HeldTree) (nodes : u.tree ≡ t.tree)
       (holds : (m : ℕ) → holds_at u m + times m (directories (drop k (entries_of_table table))) ≡ holds_at t m + times m (held_by_table table)) where
     pub hold-there : ((m : ℕ) → 0 < times m (held_by_table table) → IsSome (node_at t.tree m)) → IsSome (node_at u.tree n)
@@ -57,8 +57,8 @@ module _ (table : Option Table) (k : ℕ) (target : Target) (n : ℕ) (at : opti
     hold-next w more others m =
         omega (arith, holds m, targets-next m, one-apart (holds_at u) (holds_at w) n (sym more) (λ j other. sym (others j other)) m)
 
-  -- a tree that holds the first k once less each
-  module _ (t u : HeldTree) (nodes : u.tree ≡ trimmed t.tree u.holds)
+  -- the first k directories have one reference less each
+  module _ (t u : HeldTree) (nodes : u.tree ≡ collected t.tree u.holds)
       (holds : (m : ℕ) → holds_at u m + times m (held_by_table table) ≡ holds_at t m + times m (directories (drop k (entries_of_table table)))) where
     pub go-held : ((m : ℕ) → times m (held_by_table table) ≤ holds_at t m) → 0 < holds_at u n
     go-held held = omega (arith, held n, holds n, targets-next n, one-self n)
@@ -70,6 +70,6 @@ module _ (table : Option Table) (k : ℕ) (target : Target) (n : ℕ) (at : opti
       pub go-next : (m : ℕ) → holds_at w m + times m (held_by_table table) ≡ holds_at t m + times m (directories (drop (k + 1) (entries_of_table table)))
       go-next m = omega (arith, holds m, targets-next m, one-gone m)
 
-      pub go-nodes : IsStanding t → w.tree ≡ trimmed u.tree w.holds → w.tree ≡ trimmed t.tree w.holds
-      go-nodes standing tree =
-          tree ∙ ap (λ x. trimmed x w.holds) nodes ∙ trimmed_in_turn t.tree u.holds w.holds standing.well_formed (λ m. omega (arith, one-gone m))
+      pub go-nodes : IsPresent t → w.tree ≡ collected u.tree w.holds → w.tree ≡ collected t.tree w.holds
+      go-nodes present tree =
+          tree ∙ ap (λ x. collected x w.holds) nodes ∙ collected_in_turn t.tree u.holds w.holds present.well_formed (λ m. omega (arith, one-gone m))

@@ -1,4 +1,4 @@
--- Bytes that are written through an open file.
+-- Writing of bytes through an open file.
 use Rattle.std.proofs.Common.{◌≡◌, ℕ, ◌+◌, ◌-◌, ◌^◌, ◌<◌, ◌↔◌, true, [], ◌∷◌, length, None, Some, refl, ap, ap₂, sym, subst, ◌∙◌, ⊎_elim, arith, length-append, length-drop}
 use Rattle.std.specs.Prelude.{slice_index, option_map, is_some}
 use Rattle.std.proofs.lemmas.Bool.{cases_eq}
@@ -10,7 +10,7 @@ use Rattle.pv_laws_states.proofs.ByFile.{greatest-low}
 use Rattle.pv_model.specs.Bytes.{Bytes}
 use Rattle.pv_model.specs.Calls.Descriptors.{with_content, with_content_of}
 use Rattle.pv_model.specs.Effect.{bytes_of, overwrite, with_file}
-use Rattle.pv_model.specs.Held.{trim}
+use Rattle.pv_model.specs.Held.{collect}
 use Rattle.pv_model.specs.Numbered.{at_number, with_number}
 use Rattle.pv_model.specs.Sealed.{is_file}
 use Rattle.pv_model.specs.State.{OpenFile, Process, State, process_at, with_tree}
@@ -19,29 +19,29 @@ use Rattle.pv_procs.specs.declared.record.ProcessRecord.{ProcessRecord}
 use Rattle.pv_procs.specs.Parts.{record_of}
 use Rattle.pv_procs.specs.ProcessTable.{ProcessTable, process_in}
 use Rattle.pv_tree.specs.Changes.{overwritten}
-use Rattle.pv_tree.specs.Holding.{HeldTree, trimmed, with_tree as with_held}
+use Rattle.pv_tree.specs.Holding.{HeldTree, collected, with_tree as with_held}
 use Rattle.pv_tree.specs.Rooms.{refusal}
-use Rattle.pv_tree.specs.Standing.{IsStanding}
+use Rattle.pv_tree.specs.Present.{IsPresent}
 use Rattle.pv_tree.proofs.Contents.{file-of}
 use Rattle.pv_tree.proofs.Rooms.{refusal-none}
 use Rattle.pv_laws_trees.proofs.Changes.{node_at-same}
 use Rattle.pv_laws_trees.proofs.Numbered.{at_number-below, length-with_number, with_number-same, with_number-other}
 use Rattle.pv_laws_trees.proofs.Rooms.{length-within}
 use Rattle.pv_calls_state.proofs.Alone.{counted-file, lent-is, some-at}
-use Rattle.pv_calls_state.proofs.Growing.{kept-content, kept-seen, ordered-seen}
-use Rattle.pv_calls_state.proofs.Trimming.{trim-parts}
+use Rattle.pv_calls_state.proofs.Growing.{preserved-content, preserved-seen, ordered-seen}
+use Rattle.pv_calls_state.proofs.Collecting.{collect-parts}
 
 -- ---- lengths
 
 length-overwrite : (old : Bytes) (at : ℕ) (new : Bytes) → length (overwrite old at new) ≡ (at + length new) + (length old - (at + length new))
 length-overwrite old at new = simp (length-append, length-take, length-append, length-replicate, length-drop) (omega arith)
 
--- to write bytes is to replace a file's by those with the new ones among them
+-- overwriting replaces the content by the content with the new bytes in it
 pub overwritten-is : (t : Tree) (n at : ℕ) (bytes : Bytes) → 0 < length bytes → overwritten t n at bytes ≡ with_content t n (overwrite (bytes_of (node_at t n)) at bytes)
 overwritten-is t n at [] some = absurd (omega arith)
 overwritten-is t n at (b ∷ bytes) some = refl
 
--- what is written ends where a file may end
+-- a write without a refusal ends within the maximum length
 pub write-fits : (t : Tree) (n at : ℕ) (bytes : Bytes) → 0 < length bytes → is_file (node_at t n) ≡ true → refusal (overwritten t n at bytes) ≡ None → at + length bytes < 2 ^ 32
 write-fits t n at bytes some is allowed =
     let file = file-of (node_at t n) is in
@@ -52,7 +52,7 @@ write-fits t n at bytes some is allowed =
     let within = length-within u n (file_node file.0 new) here (refusal-none u (ap refusal (sym same) ∙ allowed)).0 in
     omega (arith, within, greatest-low t.version, length-overwrite file.1 at bytes)
 
--- what is read out of a live process's record is its buffer
+-- the buffer in a live process's record is the buffer of the process
 pub own-buffer : (h : HeldTree) (c : Counted) (ps : ProcessTable) (s : State) → state_of h c ps ≡ s → (pid : ℕ) (me : Process) (r : ProcessRecord) (buffer : Bytes) → process_at s pid ≡ Some me
     → option_map record_of (process_in ps pid) ≡ Some r → buffer ≡ r.context.buffer → buffer ≡ me.buffer
 own-buffer h c ps s view pid me r buffer lives owned is =
@@ -77,30 +77,30 @@ counted-slots c k f g is at =
 -- ---- states with another tree and another open file
 
 module _ (h : HeldTree) (c : Counted) (ps : ProcessTable) (s : State) (view : state_of h c ps ≡ s) (up : IsCountedUp h c ps) (is : IsCounted c)
-    (k : ℕ) (f g : OpenFile) (at : at_number c.files k ≡ Some f) (same : g.node ≡ f.node) (change : Tree → Tree) (kept : trimmed (change s.tree) h.holds ≡ change s.tree) where
+    (k : ℕ) (f g : OpenFile) (at : at_number c.files k ≡ Some f) (same : g.node ≡ f.node) (change : Tree → Tree) (preserved : collected (change s.tree) h.holds ≡ change s.tree) where
   seen : h.tree ≡ s.tree
   seen = ap (λ x. x.tree) view
 
-  kept-before : trimmed (change h.tree) h.holds ≡ change h.tree
-  kept-before = subst (λ t. trimmed (change t) h.holds ≡ change t) (sym seen) kept
+  preserved-before : collected (change h.tree) h.holds ≡ change h.tree
+  preserved-before = subst (λ t. collected (change t) h.holds ≡ change t) (sym seen) preserved
 
-  trim-written : trim (with_file (with_tree s (change s.tree)) k g) ≡ state_of (with_held h (change h.tree)) (with_counted c k g) ps
-  trim-written =
-      ap (λ x. trim (with_file (with_tree x (change x.tree)) k g)) (sym view)
-      ∙ trim-parts (with_file (with_tree (state_of h c ps) (change h.tree)) k g) (with_held h (change h.tree)) (with_counted c k g) ps
+  collect-written : collect (with_file (with_tree s (change s.tree)) k g) ≡ state_of (with_held h (change h.tree)) (with_counted c k g) ps
+  collect-written =
+      ap (λ x. collect (with_file (with_tree x (change x.tree)) k g)) (sym view)
+      ∙ collect-parts (with_file (with_tree (state_of h c ps) (change h.tree)) k g) (with_held h (change h.tree)) (with_counted c k g) ps
       (counted-file (with_held h (change h.tree)) c ps (record { users = up.users; holds = up.holds }) k f g at same)
-      (counted-slots c k f g is at) (counted-slots c k f g is at).slots refl refl kept-before (λ j more. refl)
+      (counted-slots c k f g is at) (counted-slots c k f g is at).slots refl refl preserved-before (λ j more. refl)
 
   pub written-changed : (new : HeldTree) (files : Counted) → new ≡ with_held h (change h.tree) → files ≡ with_counted c k g
-      → state_of new files ps ≡ trim (with_file (with_tree s (change s.tree)) k g)
-  written-changed new files tree file = ap₂ (λ x y. state_of x y ps) tree file ∙ sym trim-written
+      → state_of new files ps ≡ collect (with_file (with_tree s (change s.tree)) k g)
+  written-changed new files tree file = ap₂ (λ x y. state_of x y ps) tree file ∙ sym collect-written
 
-  pub written-refused : (why : Space) → refusal (change h.tree) ≡ Some why → refusal (trim (with_file (with_tree s (change s.tree)) k g)).tree ≡ Some why
-  written-refused why no_room = ap (λ x. refusal x.tree) trim-written ∙ no_room
+  pub written-refused : (why : Space) → refusal (change h.tree) ≡ Some why → refusal (collect (with_file (with_tree s (change s.tree)) k g)).tree ≡ Some why
+  written-refused why no_room = ap (λ x. refusal x.tree) collect-written ∙ no_room
 
 -- ---- writing
 
-module _ (h : HeldTree) (c : Counted) (ps : ProcessTable) (s : State) (view : state_of h c ps ≡ s) (up : IsCountedUp h c ps) (is : IsCounted c) (standing : IsStanding h)
+module _ (h : HeldTree) (c : Counted) (ps : ProcessTable) (s : State) (view : state_of h c ps ≡ s) (up : IsCountedUp h c ps) (is : IsCounted c) (present : IsPresent h)
     (whole : IsWellFormed s.tree) (k n at : ℕ) (bytes : Bytes) (some : 0 < length bytes) (node : option_map (λ f. f.node) (at_number c.files k) ≡ Some n) where
   abbrev placed : OpenFile → OpenFile
   placed f = record f { offset = at + length bytes }
@@ -117,23 +117,23 @@ module _ (h : HeldTree) (c : Counted) (ps : ProcessTable) (s : State) (view : st
       let number : n ≡ f.node = cc in
       overwritten-is h.tree n at bytes some ∙ ap (λ m. with_content h.tree m (overwrite (bytes_of (node_at h.tree m)) at bytes)) number
 
-  kept : (f : OpenFile) → trimmed (content f s.tree) h.holds ≡ content f s.tree
-  kept f = kept-content s.tree h.holds (ordered-seen s.tree whole) (kept-seen h c ps s view up is standing) f.node (overwrite (bytes_of (node_at s.tree f.node)) at bytes)
+  preserved : (f : OpenFile) → collected (content f s.tree) h.holds ≡ content f s.tree
+  preserved f = preserved-content s.tree h.holds (ordered-seen s.tree whole) (preserved-seen h c ps s view up is present) f.node (overwrite (bytes_of (node_at s.tree f.node)) at bytes)
 
   pub write-changed : (new : HeldTree) (files : Counted) → new ≡ with_held h (overwritten h.tree n at bytes)
       → option_map (λ f. with_counted c k (placed f)) (at_number c.files k) ≡ Some files → (f : OpenFile) → at_number s.files k ≡ Some f
-      → state_of new files ps ≡ trim (with_file (with_tree s (content f s.tree)) k (placed f))
+      → state_of new files ps ≡ collect (with_file (with_tree s (content f s.tree)) k (placed f))
   write-changed new files tree file f found =
       let mine : option_map (λ f. with_counted c k (placed f)) (at_number c.files k) ≡ Some (with_counted c k (placed f)) = ap (option_map (λ f. with_counted c k (placed f))) (here f found) in
       let moved : files ≡ with_counted c k (placed f) = cc in
-      written-changed h c ps s view up is k f (placed f) (here f found) refl (content f) (kept f) new files (tree ∙ ap (with_held h) (content-is f found)) moved
+      written-changed h c ps s view up is k f (placed f) (here f found) refl (content f) (preserved f) new files (tree ∙ ap (with_held h) (content-is f found)) moved
 
   pub write-refused : (why : Space) → refusal (overwritten h.tree n at bytes) ≡ Some why → (f : OpenFile) → at_number s.files k ≡ Some f
-      → refusal (trim (with_file (with_tree s (content f s.tree)) k (placed f))).tree ≡ Some why
+      → refusal (collect (with_file (with_tree s (content f s.tree)) k (placed f))).tree ≡ Some why
   write-refused why no_room f found =
-      written-refused h c ps s view up is k f (placed f) (here f found) refl (content f) (kept f) why (ap refusal (sym (content-is f found)) ∙ no_room)
+      written-refused h c ps s view up is k f (placed f) (here f found) refl (content f) (preserved f) why (ap refusal (sym (content-is f found)) ∙ no_room)
 
-  -- the file ends where a file may
+  -- the file ends within the maximum length
   pub write-within : ((f : OpenFile) → at_number s.files k ≡ Some f → is_file (node_at s.tree f.node) ≡ true) → is_some (at_number s.files k) ≡ true
       → refusal (overwritten h.tree n at bytes) ≡ None → at + length bytes < 2 ^ 32
   write-within file there allowed =

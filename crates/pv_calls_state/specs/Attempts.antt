@@ -1,18 +1,19 @@
--- What a system call comes to in code: the definitions' attempt, with what it leaves trimmed.
+-- The result of a system call in code: the attempt of the definitions, with unreferenced nodes collected from its
+-- state.
 use Rattle.std.specs.Prelude.{ℕ, Result, Ok, Err}
 use Rattle.pv_model.specs.declared.errno.Errno.{Errno}
 use Rattle.pv_model.specs.declared.outcome.Cause.TheVariants.{Plain}
 use Rattle.pv_model.specs.Attempt.{Attempt, done, refused}
 use Rattle.pv_model.specs.Effect.{Effect, returns}
-use Rattle.pv_model.specs.Held.{trim}
+use Rattle.pv_model.specs.Held.{collect}
 use Rattle.pv_model.specs.State.{State}
 
--- an attempt, with the state that it leaves trimmed
-abbrev pub trimmed : Attempt Effect → Attempt Effect
-trimmed (done walks effect) = done walks (trim effect.0, effect.1)
-trimmed (refused walks errno cause) = refused walks errno cause
+-- an attempt, with unreferenced nodes collected from its state
+abbrev pub collected : Attempt Effect → Attempt Effect
+collected (done walks effect) = done walks (collect effect.0, effect.1)
+collected (refused walks errno cause) = refused walks errno cause
 
--- a value or an error, without a walk, that leaves state s
+-- a value or an error without a walk, with state s
 abbrev pub plainly : State → Result ℕ Errno → Attempt Effect
 plainly s (Ok value) = done 0 (s, returns value)
 plainly s (Err errno) = refused 0 errno Plain

@@ -1,4 +1,4 @@
--- What the parts come to.
+-- The changes that the methods of `Parts` make.
 use Rattle.std.specs.Prelude.{◌≡◌, ℕ, ℤ, zero, suc, if◌then◌else◌, [], length, nat_lt, take, drop, Bool, false, None, Some}
 use Rattle.pv_model.specs.declared.open_flags.OpenFlags.{OpenFlags}
 use Rattle.pv_model.specs.declared.perms.Perms.{Perms}
@@ -21,7 +21,7 @@ use Rattle.pv_script.specs.Passing.{Passes}
 use Rattle.pv_unveil.specs.Added.{add_to}
 use Rattle.pv_unveil.specs.Unveiled.{Unveiled}
 
--- a live process alone changed, to one that stands to it in this relation
+-- only a live process changed, and the relation holds between its earlier and its later value
 pub record MovesInside (by : Process → Process → Type 0) (s : State) (pid : ℕ) (new : State) : Type 0 where
   pub me : Process
   pub lives : process_at s pid ≡ Some me
@@ -29,16 +29,16 @@ pub record MovesInside (by : Process → Process → Type 0) (s : State) (pid : 
   pub step : by me after
   pub only : new ≡ with_process s pid after
 
--- the instruction inside a live process that comes next was made
+-- the next instruction inside a live process was carried out
 abbrev pub StepsInside : State → ℕ → State → Type 0
 StepsInside s pid new = MovesInside (λ me after. next me ≡ inside after) s pid new
 
--- so many instructions inside a live process were made, one after another, and nothing changed where they are none
+-- n instructions inside a live process were carried out in sequence; for n = 0 nothing changed
 abbrev pub PassesInside : ℕ → ℕ → State → State → Type 0
 PassesInside zero pid s new = new ≡ s
 PassesInside (suc n) pid s new = MovesInside (Passes (suc n)) s pid new
 
--- what came next in a process was made, if it is an instruction inside it, and else nothing changed
+-- the next instruction of a process was carried out if it is inside the process; otherwise nothing changed
 abbrev pub IsRegistered : Fetched → ℕ → State → State → Type 0
 IsRegistered Gone pid s new = (process_at s pid ≡ None) × (new ≡ s)
 IsRegistered Register pid s new = StepsInside s pid new
@@ -53,16 +53,16 @@ with_directory n p = record p { directory = n }
 abbrev pub with_descriptors : Numbered Descriptor → Process → Process
 with_descriptors ds p = record p { descriptors = ds }
 
--- without the descriptor that a call gives
+-- the process without the descriptor that a call names
 abbrev pub with_closed_descriptor : ℤ → Process → Process
 with_closed_descriptor d p = with_descriptors (without_descriptor p.descriptors d) p
 
--- with a number the descriptor of an open file, which an execve keeps
+-- the process with descriptor `number` on an open file, not marked close-on-exec
 abbrev pub with_descriptor_at : ℕ → ℕ → Process → Process
 with_descriptor_at number file p =
     with_descriptors (with_number p.descriptors number (record { file = file; close_on_exec = false })) p
 
--- with a descriptor of an open file, the least that is free
+-- the process with a descriptor for an open file, under the least free number
 abbrev pub with_opened_descriptor : ℕ → Bool → Process → Process
 with_opened_descriptor file close_on_exec p =
     with_descriptors (with_number p.descriptors (least_free p.descriptors) (record { file = file; close_on_exec = close_on_exec })) p
@@ -70,20 +70,20 @@ with_opened_descriptor file close_on_exec p =
 abbrev pub with_table : Table → Process → Process
 with_table table p = record p { table = Some table }
 
--- an entry was added to a process's table, or left with fewer permissions
+-- an entry was added to the table of a process, or an existing entry lost permissions
 pub record Unveils (s : State) (pid : ℕ) (me : Process) (target : Target) (permissions : Perms) (new : State) : Type 0 where
   pub table : Table
   pub added : add_to (unveiled_of me) target permissions ≡ give table
   pub only : new ≡ with_process s pid (with_table table me)
 
--- the same, of the processes alone, and whether the entry is new
+-- the same change of the process table, and whether the entry is new
 pub record AddsEntry (ps : ProcessTable) (pid : ℕ) (me : Process) (target : Target) (permissions : Perms) (is_new : Bool) (new : ProcessTable) : Type 0 where
   pub table : Table
   pub added : add_to (unveiled_of me) target permissions ≡ give table
   pub longer : is_new ≡ nat_lt (length (entries_of_table me.table)) (length table)
   pub only : new ≡ process_put ps pid (with_table table me)
 
--- the tree in which a node is opened: a file is cut where the flags say so
+-- the tree in which a node is opened: the file is truncated if the flags say so
 abbrev pub tree_for_open : Tree → OpenFlags → ℕ → Tree
 tree_for_open t f n = if f.truncate then with_content t n [] else t
 
@@ -95,6 +95,6 @@ with_node_opened s pid me f n = with_open_file s pid me f n (tree_for_open s.tre
 abbrev pub with_file_made : State → ℕ → Process → OpenFlags → ℕ → Bytes → State
 with_file_made s pid me f d name = with_open_file s pid me f (new_number s.tree) (with_new_node s.tree d name (file_node false []))
 
--- at most so many bytes of a file, from a place on
+-- at most `count` bytes of a file, from offset `at`
 abbrev pub bytes_read : Tree → ℕ → ℕ → ℕ → Bytes
 bytes_read t n at count = take count (drop at (bytes_of (node_at t n)))

@@ -1,4 +1,4 @@
--- The parts of the system, seen as the definitions' state, and how what is used and held is counted.
+-- The parts of the machine as a state, and the counts of users and references.
 use Rattle.std.specs.Prelude.{◌≡◌, ℕ, ◌+◌, ◌==◌, List, map, flat_map, count_by, slice_index}
 use Rattle.pv_files.specs.Counted.{Counted}
 use Rattle.pv_model.specs.Held.{live_processes, used_files, held_by_process}
@@ -7,7 +7,7 @@ use Rattle.pv_model.specs.State.{OpenFile, ProcessRecord, State}
 use Rattle.pv_procs.specs.ProcessTable.{ProcessTable, state_with}
 use Rattle.pv_tree.specs.Holding.{HeldTree, holds_at}
 
--- the state that a tree, open files and processes make
+-- the state of a tree, open files and processes
 abbrev pub state_of : HeldTree → Counted → ProcessTable → State
 state_of tree counted processes = state_with tree.tree counted.files processes
 
@@ -15,15 +15,15 @@ state_of tree counted processes = state_with tree.tree counted.files processes
 abbrev pub processes_of : State → ProcessTable
 processes_of s = record { processes = s.processes; last_process = s.last_process }
 
--- how often a number stands in a list
+-- the number of times that n occurs in a list
 abbrev pub times : ℕ → List ℕ → ℕ
 times n ns = count_by (λ m. m == n) ns
 
--- the open files that the descriptors of live processes are on, each as often as there is a descriptor
+-- the open file of each descriptor of each live process, with repetitions
 abbrev pub used_in : List (ℕ × ProcessRecord) → List ℕ
 used_in rs = flat_map (λ p. used_files p.1) (live_processes rs)
 
--- the working directories and the targets of tables of live processes
+-- the working directories and the table targets of live processes, with repetitions
 abbrev pub held_in : List (ℕ × ProcessRecord) → List ℕ
 held_in rs = flat_map (λ p. held_by_process p.1) (live_processes rs)
 
@@ -31,7 +31,8 @@ held_in rs = flat_map (λ p. held_by_process p.1) (live_processes rs)
 abbrev pub open_nodes : Numbered OpenFile → List ℕ
 open_nodes files = map (λ f. f.node) (present files)
 
--- each open file has as many users as there are descriptors on it, and each node is held as often as a working directory, a target or an open file stands for it
+-- the users of each open file count the descriptors on it, and the references of each node count the working
+-- directories, targets and open files that refer to it
 pub record IsCountedUp (tree : HeldTree) (counted : Counted) (processes : ProcessTable) : Type 0 where
   pub users : (k : ℕ) → slice_index counted.users k ≡ times k (used_in processes.processes)
   pub holds : (n : ℕ) → holds_at tree n ≡ times n (held_in processes.processes) + times n (open_nodes counted.files)

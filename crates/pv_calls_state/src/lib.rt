@@ -1,9 +1,10 @@
-//! The parts of the system: the tree, the open files and the processes, with who uses and who holds what.
+//! The mutable state of the machine: the file tree, the open-file table and the process table, with reference counts.
 //!
-//! A contract sees the definitions' state. Each change of `Parts` is the definitions' change, trimmed, and nothing but
-//! `Parts::new` takes memory. `descriptors` has descriptors and their open files, `files` offsets and bytes,
-//! `holding` working directories and targets of tables, `names` names that come and go, `ending` children, ends and new
-//! programs, and `process` what changes in a process alone.
+//! A contract sees `Parts` as a state of `pv_model`. Each method makes one state change of the definitions and leaves
+//! no unreferenced open file or node behind. Only `Parts::new` allocates. The modules below `parts` are: `descriptors`
+//! (descriptors and the open files they refer to), `files` (offsets and bytes of open files), `holding` (working
+//! directories and unveil targets), `names` (link, unlink, rename and new nodes), `ending` (fork, wait, exit and
+//! execve), and `process` (changes within one process: registers, buffer, promises and the lock).
 #![tactic(auto)]
 
 pub mod parts;

@@ -1,13 +1,13 @@
-//! The parts of the system: its tree, its open files, its processes.
+//! The state of the machine: its tree, its open files and its processes.
 ghost use Rattle.std.specs.Prelude.{◌≡◌, IfOk, IsSome, Some, option_copied, option_map};
 ghost use Rattle.pv_files.specs.Counted.{IsCounted};
-ghost use Rattle.pv_model.specs.Held.{trim};
+ghost use Rattle.pv_model.specs.Held.{collect};
 ghost use Rattle.pv_model.specs.State.{first_state, process_at};
 ghost use Rattle.pv_calls_state.specs.Counts.{processes_of};
 ghost use Rattle.pv_procs.specs.Parts.{record_of};
 ghost use Rattle.pv_procs.specs.ProcessTable.{IsProcessTable};
 ghost use Rattle.pv_procs.specs.Turns.{context_of};
-ghost use Rattle.pv_tree.specs.Standing.{IsStanding};
+ghost use Rattle.pv_tree.specs.Present.{IsPresent};
 
 mod descriptors;
 mod ending;
@@ -24,10 +24,10 @@ use pv_tree::{Store, Tree};
 use std::alloc::{AllocError, Global};
 use std::marker::Model;
 
-/// The tree, the open files and the processes of the system, with who uses and who holds what: an open file goes
-/// with its last descriptor, and a node with its last name and holder.
+/// The tree, the open files and the processes of the machine, with reference counts.
 ///
-/// Only `new` takes memory.
+/// An open file is dropped with its last descriptor. A node is dropped when it has no name and no reference. Only `new`
+/// allocates.
 #[derive(Drop)]
 pub struct Parts {
     tree: Tree,
@@ -47,11 +47,11 @@ impl Model for Parts {
 }
 
 impl Parts {
-    /// The parts before the first step: process 1 with its program, at the root of a tree.
+    /// Returns the state before the first step: process 1 runs `program` in the root of the tree in `store`.
     ///
     /// # Errors
     ///
-    /// Where there is no memory for the tables. No other call of `Parts` asks for any.
+    /// `AllocError`, if there is no memory for the tables. No other method of `Parts` allocates.
     pub fn new(alloc: Global, store: Store, program: Program) -> Result<Parts, AllocError>
         ensures { IfOk result (λ parts. parts ≡ first_state store program) }
     {
@@ -67,9 +67,9 @@ impl Parts {
         })
     }
 
-    /// Does nothing: its contract says that what is not used and not held is gone.
+    /// Does nothing. Its contract states that the state has no unused open file and no unreferenced node.
     pub fn invariant(&self)
-        ensures trimmed { trim self.now ≡ self.now }
+        ensures collected { collect self.now ≡ self.now }
         ensures processes { IsProcessTable (processes_of self.now) }
     {
         self.tree.invariant();
@@ -77,28 +77,28 @@ impl Parts {
         self.processes.invariant();
     }
 
-    /// The tree.
+    /// Returns the tree.
     pub fn tree(&self) -> &Tree
         ensures { result.now.tree ≡ self.now.tree }
     {
         &self.tree
     }
 
-    /// The open files.
+    /// Returns the open files.
     pub fn files(&self) -> &OpenFiles
         ensures { result.now.files ≡ self.now.files }
     {
         &self.files
     }
 
-    /// The processes.
+    /// Returns the processes.
     pub fn processes(&self) -> &Processes
         ensures { result.now ≡ processes_of self.now }
     {
         &self.processes
     }
 
-    /// What a live process owns.
+    /// Returns the record of a live process.
     pub fn record(&self, pid: u32) -> &ProcessRecord
         requires { IsSome (process_at self.now pid) }
         ensures { option_map record_of (process_at self.now pid) ≡ Some result.now }
@@ -106,7 +106,7 @@ impl Parts {
         self.processes.record(pid)
     }
 
-    /// What a process owns, where it is live.
+    /// Returns the record of a process, or `None` if the process is not live.
     pub fn live_record(&self, pid: u32) -> Option<&ProcessRecord>
         ensures { option_map record_of (process_at self.now pid) ≡ option_copied result }
     {

@@ -1,19 +1,23 @@
-//! `pvsim`: the program of `pv_cli_line` over the files and the streams of its system.
+//! `pvsim`: the program of `pv_cli_line`, over the files and streams of the operating system.
 //!
-//! `main` hands over the words, the files, the standard input, output and errors; the output is gathered, so that many small
-//! writes are one of the system's. Without words, on a terminal, it says first what is read. Where the standard error is a terminal, a
-//! search shows there how far it is. What is proved of the program is the contract of `run`, over any files and streams.
+//! `main` passes the words, the files and the standard streams to `run`. The output is buffered, so that many small
+//! writes are one system call. Without arguments, and with a terminal as standard input, the program first says that it
+//! reads a bundle. If the standard error is a terminal, a search shows its progress there. The contract of `run`, over
+//! any files and streams, is what is proved of the program.
 #![tactic(auto)]
 
 use pv_cli_commands::HostSystem;
 use pv_cli_host::{HostFiles, Input, Output, Screen, ScreenWriter, Shown};
-use pv_cli_line::{Fault, LineFault, run, tell};
+use pv_cli_line::{Fault, LineFault, report, run};
 use pv_streams::Buffered;
 use std::io::IsTerminal;
 use std::process::ExitCode;
 use std::{env, io};
 
-// The words of the command line, of which the first is the program's name.
+// The commit that this program is built from. The build writes it here; a program that is built without proofs has none.
+const BUILD: &str = "";
+
+// Returns the words of the command line. The first word is the name of the program.
 fn words_of(rt: &HostRuntime) -> Result<Vec<String>, Fault> {
     let words = match env::args(rt) {
         Ok(words) => words,
@@ -28,13 +32,22 @@ fn words_of(rt: &HostRuntime) -> Result<Vec<String>, Fault> {
     }
 }
 
-// Says that a bundle is read from the terminal, where the standard input is one and there are no words.
+// Says that a bundle is read from the terminal, if there are no arguments and the standard input is a terminal.
 fn greet(rt: &HostRuntime, words: &[String]) {
     if words.len() <= 1 && rt.stdin().is_terminal() {
         let _written = eprint!(rt;
-            "pvsim: a bundle is read from the terminal; `pvsim --help` says what else there is\n"
+            "pvsim: reading a bundle from the terminal; see 'pvsim --help' for the commands\n"
         );
     }
+}
+
+// Writes the commit that the program is built from below the version, and returns whether that was possible.
+fn name_build(rt: &HostRuntime, words: &[String]) -> bool {
+    let [_, word] = words else {
+        return true;
+    };
+    let is_asked = word.as_str() == "--version" || word.as_str() == "-V";
+    !is_asked || BUILD.is_empty() || print!(rt; "{BUILD}\n").is_ok()
 }
 
 fn main(rt: HostRuntime) -> ExitCode {
@@ -50,9 +63,12 @@ fn main(rt: HostRuntime) -> ExitCode {
         Ok(words) => {
             greet(&rt, words.as_slice());
             let mut progress = Shown::new(&screen);
-            run(rt.alloc(), words.as_slice(), &mut system, &mut progress)
+            match run(rt.alloc(), words.as_slice(), &mut system, &mut progress) {
+                0 if !name_build(&rt, words.as_slice()) => report(&Fault::Write, &mut system),
+                status => status,
+            }
         }
-        Err(fault) => tell(&fault, &mut system),
+        Err(fault) => report(&fault, &mut system),
     };
     ExitCode::from(status)
 }

@@ -1,2 +1,2 @@
--- Outcomes: a command that ends early has another status than one that is done.
+-- Outcomes: a command that fails has another status than one that succeeds.
 pub mod Outcomes

@@ -1,4 +1,4 @@
--- A command that ends early has another status than one that is done.
+-- A command that fails has another status than one that succeeds.
 use Rattle.std.proofs.Common.{◌≢◌, Ok, Err}
 use Rattle.std.specs.Prelude.{IfErr}
 use Rattle.pv_host_copy.specs.declared.image.ImportStop.{ImportStop}
@@ -83,7 +83,7 @@ status-not_zero (Source stop) = source_status-not_zero stop
 status-not_zero (Importing stop) = import_status-not_zero stop
 status-not_zero (Exporting fault) = export_status-not_zero fault
 
--- whatever a command answers
+-- the status of any result
 pub failed_with_status : (answer : Answer) → IfErr answer (λ fault. status_of fault ≢ 0)
 failed_with_status (Ok done) = tt
 failed_with_status (Err fault) = status-not_zero fault

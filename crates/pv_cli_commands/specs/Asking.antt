@@ -1,11 +1,11 @@
--- Questions of runs and of trees.
+-- Questions about runs and trees.
 use Rattle.std.specs.Prelude.{◌≡◌, ◌≢◌, ◌⊎◌, ⊤, codes, Result, Ok, Err, IfSome, OnOk, IfErr}
 use Rattle.pv_model.specs.declared.run_fault.RunFault.TheVariants.{Read}
 use Rattle.pv_model.specs.declared.stream.Sink.{Ghosts as Writing}
 use Rattle.pv_model.specs.declared.stream.Source.{Ghosts as Reading}
 use Rattle.pv_model.specs.Bytes.{Bytes}
 use Rattle.pv_questions.specs.Answering.{Answer as Text, bundle_answer, image_answer}
-use Rattle.pv_questions.specs.Asking.{IsBundleStop, IsImageStop, StandsInAnswer, TellsAnswer, TellsNothingUnlessStopped}
+use Rattle.pv_questions.specs.Asking.{IsBundleStop, IsImageStop, AppearsInAnswer, WritesAnswer, WritesNothingUnlessStopped}
 use Rattle.pv_questions.specs.Trees.{image_tree_answer, manifest_tree_answer}
 use Rattle.pv_questions.specs.declared.question.Question.{Question}
 use Rattle.pv_questions.specs.declared.question.TreeQuestion.{TreeQuestion}
@@ -21,48 +21,49 @@ use Rattle.pv_cli_commands.specs.Faults.{Answer, IsOfAsking}
 use Rattle.pv_cli_commands.specs.Status.{Flushes}
 use Rattle.pv_cli_commands.specs.Streams.{Disk, FailsToTake, Inputs, IsOpened, IsUnknown, OneFailsToGive, inputs_of}
 
--- a question of what a schedule makes of an image was answered, from two sources to a sink
+-- a question about the run of a schedule on an image was answered, from two sources to a sink
 pub record AsksImage {S W : Type 0} (reading : Reading S) (writing : Writing W) (question : Question) (first last : Inputs S) (before after : W) (answer : Answer)
     : Type 0 where
-  -- done: the sink was given just the answer
+  -- success: the sink received exactly the answer
   pub answered : OnOk answer (IfSome (reading.remaining first.image) (λ bytes. IfSome (reading.remaining first.schedule) (λ turns.
-      TellsAnswer (image_answer question bytes turns) (writing.written before) (writing.written after))))
-  -- refused: by the answer, and nothing was written but where it could not be written whole
+      WritesAnswer (image_answer question bytes turns) (writing.written before) (writing.written after))))
+  -- failure: the error is that of the answer, and nothing was written unless the answer could not be written completely
   pub refused : IfErr answer (IsOfAsking (λ stop. IfSome (reading.remaining first.image) (λ bytes. IfSome (reading.remaining first.schedule) (λ turns.
-      StandsInAnswer (image_answer question bytes turns) (writing.written before) (writing.written after) stop))))
+      AppearsInAnswer (image_answer question bytes turns) (writing.written before) (writing.written after) stop))))
   pub kind : IfErr answer (IsOfAsking IsImageStop)
-  pub unwritten : IfErr answer (IsOfAsking (TellsNothingUnlessStopped (writing.written before) (writing.written after)))
+  pub unwritten : IfErr answer (IsOfAsking (WritesNothingUnlessStopped (writing.written before) (writing.written after)))
   pub flushed : Flushes writing before after answer
   -- a failed read or write was counted
   pub read : answer ≡ Err (Asking (Machine Read)) → OneFailsToGive reading first last
   pub write : answer ≡ Err (Asking Write) → FailsToTake writing before after
 
--- that of the image in a file, under the schedule in another; or a file whose bytes are not known did not open
+-- the same for the image in a file and the schedule in another; or a file whose bytes are not known could not be opened
 abbrev pub AsksFiles : {F R V W : Type 0} → Disk F R V → Writing W → F → Question → Inputs Bytes → W → W → Answer → Type 0
 AsksFiles {F} {R} disk writing files question names before after answer =
     ((image image_last turns turns_last : R) × IsOpened disk files names.image image × IsOpened disk files names.schedule turns
     × AsksImage disk.reading writing question (inputs_of image turns) (inputs_of image_last turns_last) before after answer)
     ⊎ ((IsUnknown disk files names.image ⊎ IsUnknown disk files names.schedule) × (answer ≡ Err (Asking (Machine Read))) × (after ≡ before))
 
--- one source was asked, which answers by its bytes, and the answer written to a sink; it may stop so
+-- a question was answered from one source, whose bytes determine the answer, to a sink; `may_stop` has the possible
+-- errors
 pub record AsksSource {S W : Type 0} (reading : Reading S) (writing : Writing W) (may_stop : AskStop → Type 0) (answered_by : Bytes → Text) (first last : S)
     (before after : W) (answer : Answer) : Type 0 where
-  pub answered : OnOk answer (IfSome (reading.remaining first) (λ bytes. TellsAnswer (answered_by bytes) (writing.written before) (writing.written after)))
+  pub answered : OnOk answer (IfSome (reading.remaining first) (λ bytes. WritesAnswer (answered_by bytes) (writing.written before) (writing.written after)))
   pub refused : IfErr answer (IsOfAsking (λ stop. IfSome (reading.remaining first) (λ bytes.
-      StandsInAnswer (answered_by bytes) (writing.written before) (writing.written after) stop)))
+      AppearsInAnswer (answered_by bytes) (writing.written before) (writing.written after) stop)))
   pub kind : IfErr answer (IsOfAsking may_stop)
-  pub unwritten : IfErr answer (IsOfAsking (TellsNothingUnlessStopped (writing.written before) (writing.written after)))
+  pub unwritten : IfErr answer (IsOfAsking (WritesNothingUnlessStopped (writing.written before) (writing.written after)))
   pub flushed : Flushes writing before after answer
   pub read : answer ≡ Err (Asking (Machine Read)) → FailsToGive reading first last
   pub write : answer ≡ Err (Asking Write) → FailsToTake writing before after
 
--- a file was asked so; or one whose bytes are not known did not open
+-- the same for a file; or a file whose bytes are not known could not be opened
 abbrev pub AsksFile : {F R V W : Type 0} → Disk F R V → Writing W → (AskStop → Type 0) → (Bytes → Text) → F → Bytes → W → W → Answer → Type 0
 AsksFile {F} {R} disk writing may_stop answered_by files name before after answer =
     ((first last : R) × IsOpened disk files name first × AsksSource disk.reading writing may_stop answered_by first last before after answer)
     ⊎ (IsUnknown disk files name × (answer ≡ Err (Asking (Machine Read))) × (after ≡ before))
 
--- ---- a question of the run of a bundle
+-- ---- a question about the run of a bundle
 
 abbrev pub AsksBundle : {S W : Type 0} → Reading S → Writing W → Question → S → S → W → W → Answer → Type 0
 AsksBundle reading writing question first last before after answer = AsksSource reading writing IsBundleStop (bundle_answer question) first last before after answer
@@ -70,7 +71,7 @@ AsksBundle reading writing question first last before after answer = AsksSource 
 abbrev pub AsksBundleFile : {F R V W : Type 0} → Disk F R V → Writing W → F → Question → Bytes → W → W → Answer → Type 0
 AsksBundleFile disk writing files question name before after answer = AsksFile disk writing IsBundleStop (bundle_answer question) files name before after answer
 
--- ---- a question of the tree of an image
+-- ---- a question about the tree of an image
 
 abbrev pub AsksImageTree : {S W : Type 0} → Reading S → Writing W → TreeQuestion → S → S → W → W → Answer → Type 0
 AsksImageTree reading writing question first last before after answer = AsksSource reading writing IsImageStop (image_tree_answer question) first last before after answer
@@ -78,7 +79,7 @@ AsksImageTree reading writing question first last before after answer = AsksSour
 abbrev pub AsksImageFile : {F R V W : Type 0} → Disk F R V → Writing W → F → TreeQuestion → Bytes → W → W → Answer → Type 0
 AsksImageFile disk writing files question name before after answer = AsksFile disk writing IsImageStop (image_tree_answer question) files name before after answer
 
--- ---- and of the tree of a manifest, which may be a bundle's
+-- ---- a question about the tree of a manifest, possibly in a bundle
 
 abbrev pub AsksManifest : {S W : Type 0} → Reading S → Writing W → TreeQuestion → S → S → W → W → Answer → Type 0
 AsksManifest reading writing question first last before after answer =
@@ -88,7 +89,7 @@ abbrev pub AsksManifestFile : {F R V W : Type 0} → Disk F R V → Writing W �
 AsksManifestFile disk writing files question name before after answer =
     AsksFile disk writing IsBundleStop (manifest_tree_answer question) files name before after answer
 
--- ---- what is run, and what has a tree: that of the standard input, where `-` is the name
+-- ---- the input of a run and the input with a tree; the name `-` is the standard input
 
 abbrev pub AsksRun : {F R V I W : Type 0} → Disk F R V → Reading I → Writing W → F → Question → RunInput → I → I → W → W → Answer → Type 0
 AsksRun disk reading writing files question (Files image schedule) first last before after answer =
@@ -103,7 +104,7 @@ AsksTree disk reading writing files question (Manifest name) first last before a
     (name.now ≡ codes "-" → AsksManifest reading writing question first last before after answer)
     × (name.now ≢ codes "-" → AsksManifestFile disk writing files question name.now before after answer)
 
--- files alone are read
+-- only files are read
 abbrev pub ReadsRunFiles : RunInput → Type 0
 ReadsRunFiles (Files image schedule) = ⊤
 ReadsRunFiles (Bundle name) = name.now ≢ codes "-"

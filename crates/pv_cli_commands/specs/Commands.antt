@@ -1,4 +1,4 @@
--- What a command reads and writes.
+-- The input and output of a command.
 use Rattle.std.specs.Prelude.{◌≡◌, ◌≢◌, ⊤, codes, option_map}
 use Rattle.pv_model.specs.declared.stream.Sink.{Ghosts as Writing}
 use Rattle.pv_model.specs.declared.stream.Source.{Ghosts as Reading}
@@ -18,31 +18,31 @@ use Rattle.pv_cli_commands.specs.Running.{RunsBundle, RunsFile}
 use Rattle.pv_cli_commands.specs.Sources.{WritesSource, WritesSourceFile}
 use Rattle.pv_cli_commands.specs.Streams.{Disk, Host, inputs_of}
 
--- what was asked for was done, or ended early
+-- the command was carried out or ended early
 abbrev pub Performs : {F R V T I O E : Type 0} → Disk F R V → Host F T → Reading I → Writing O → Writing E → Command → HostSystem F I O E → HostSystem F I O E → Answer → Type 0
-Performs disk host reading writing telling (RunTree name) before after answer =
+Performs disk host reading writing reporting (RunTree name) before after answer =
     (name.now ≡ codes "-" → RunsBundle reading writing before.input after.input before.output after.output answer)
     × (name.now ≢ codes "-" → RunsFile disk writing before.files name.now before.output after.output answer)
-Performs disk host reading writing telling (MakeImage manifest image) before after answer = MakesFile disk before.files manifest.now image.now answer
-Performs disk host reading writing telling (ListImage image) before after answer = ListsFile disk writing before.files image.now before.output after.output answer
-Performs disk host reading writing telling (RunImage image schedule out) before after answer =
+Performs disk host reading writing reporting (MakeImage manifest image) before after answer = MakesFile disk before.files manifest.now image.now answer
+Performs disk host reading writing reporting (ListImage image) before after answer = ListsFile disk writing before.files image.now before.output after.output answer
+Performs disk host reading writing reporting (RunImage image schedule out) before after answer =
     RunsFiles disk writing before.files (inputs_of image.now schedule.now) out.now before.output after.output answer
-Performs disk host reading writing telling (MigrateImage image out blocks inodes) before after answer = MigratesFile disk before.files image.now out.now (sizes_of blocks inodes) answer
-Performs disk host reading writing telling (ImportDirectory directory image version skips) before after answer =
-    ImportsDirectory disk telling version skips (host.entries before.files directory.now) image.now before.errors after.errors answer
-Performs disk host reading writing telling (ExportImage image directory) before after answer =
-    ExportsFile disk host telling before.files image.now directory.now before.errors after.errors answer
-Performs disk host reading writing telling (AuditImage image schedule path) before after answer =
+Performs disk host reading writing reporting (MigrateImage image out blocks inodes) before after answer = MigratesFile disk before.files image.now out.now (sizes_of blocks inodes) answer
+Performs disk host reading writing reporting (ImportDirectory directory image version skips) before after answer =
+    ImportsDirectory disk reporting version skips (host.entries before.files directory.now) image.now before.errors after.errors answer
+Performs disk host reading writing reporting (ExportImage image directory) before after answer =
+    ExportsFile disk host reporting before.files image.now directory.now before.errors after.errors answer
+Performs disk host reading writing reporting (AuditImage image schedule path) before after answer =
     AuditsFiles disk writing before.files (inputs_of image.now schedule.now) (option_map (λ text. text.now) path) before.output after.output answer
-Performs disk host reading writing telling (WriteSource name) before after answer =
-    (name.now ≡ codes "-" → WritesSource reading writing telling name.now before.input after.input before.output after.output before.errors after.errors answer)
-    × (name.now ≢ codes "-" → WritesSourceFile disk writing telling before.files name.now before.output after.output before.errors after.errors answer)
-Performs disk host reading writing telling (Ask question run) before after answer =
+Performs disk host reading writing reporting (WriteSource name) before after answer =
+    (name.now ≡ codes "-" → WritesSource reading writing reporting name.now before.input after.input before.output after.output before.errors after.errors answer)
+    × (name.now ≢ codes "-" → WritesSourceFile disk writing reporting before.files name.now before.output after.output before.errors after.errors answer)
+Performs disk host reading writing reporting (Ask question run) before after answer =
     AsksRun disk reading writing before.files question run before.input after.input before.output after.output answer
-Performs disk host reading writing telling (AskTree question tree) before after answer =
+Performs disk host reading writing reporting (AskTree question tree) before after answer =
     AsksTree disk reading writing before.files question tree before.input after.input before.output after.output answer
 
--- the command writes to a file alone, or makes a directory
+-- the command writes only to a file, or makes a directory
 abbrev pub WritesFile : Command → Type 0
 WritesFile (MakeImage manifest image) = ⊤
 WritesFile (MigrateImage image out blocks inodes) = ⊤
@@ -50,7 +50,7 @@ WritesFile (ImportDirectory directory image version skips) = ⊤
 WritesFile (ExportImage image directory) = ⊤
 WritesFile command = ⊥
 
--- the command reads files alone
+-- the command reads only files
 abbrev pub ReadsFiles : Command → Type 0
 ReadsFiles (RunTree name) = name.now ≢ codes "-"
 ReadsFiles (WriteSource name) = name.now ≢ codes "-"
@@ -58,7 +58,7 @@ ReadsFiles (Ask question run) = ReadsRunFiles run
 ReadsFiles (AskTree question tree) = ReadsTreeFile tree
 ReadsFiles command = ⊤
 
--- the command tells nothing on the standard error by itself
+-- the command reports nothing on the standard error itself
 abbrev pub KeepsErrors : Command → Type 0
 KeepsErrors (WriteSource name) = ⊥
 KeepsErrors (ImportDirectory directory image version skips) = ⊥

@@ -6,24 +6,26 @@ use Rattle.pv_model.specs.declared.stream.Source.{Ghosts as Reading}
 use Rattle.pv_model.specs.Bytes.{Bytes}
 use Rattle.pv_model.specs.Start.{image_started}
 use Rattle.pv_run.specs.declared.turns.Summary.{Summary}
-use Rattle.pv_run.specs.Images.{HasRunOn, IsRunFault, StandsOn, TellsNeitherUnlessCut}
+use Rattle.pv_run.specs.Images.{HasRunOn, IsRunFault, AppearsOn, WritesNeitherUnlessCut}
 use Rattle.pv_cli_commands.specs.declared.fault.Fault.TheVariants.{Run}
 use Rattle.pv_cli_commands.specs.Faults.{Answer, IsOfRun}
 use Rattle.pv_cli_commands.specs.Status.{Flushes}
 use Rattle.pv_cli_commands.specs.Streams.{Disk, FailsToTake, Inputs, IsCreatedOn, IsOpened, IsUnknown, OneFailsToGive, Outputs, inputs_of, outputs_of}
 
--- an image was run under a schedule, with a sink for the trace and one for the image that is left
+-- a schedule was run on an image, with a sink for the trace and a sink for the image after the run
 pub record RunsImage {S W O : Type 0} (reading : Reading S) (tracing : Writing W) (writing : Writing O) (first last : Inputs S) (before after : Outputs W O)
     (answer : Answer) : Type 0 where
-  -- done: the trace grew by just the text of the machine's run, and the sink was given bytes that hold the tree that it leaves, none of which is still buffered
+  -- success: the trace grew by exactly the text of the machine's run, and the sink received bytes that hold the tree
+  -- after it, all of them flushed
   pub ran : OnOk answer (IfSome (reading.remaining first.image) (λ bytes. IfSome (reading.remaining first.schedule) (λ turns. (summary : Summary)
       × HasRunOn bytes turns (tracing.written before.trace) (tracing.written after.trace) (writing.written before.image) (writing.written after.image) summary)))
   pub left : OnOk answer (writing.buffered after.image ≡ 0)
-  -- refused: the first fault stands in the bytes, and nothing was written but where the trace or the image could not be written whole
+  -- failure: the error is the first of the bytes, and nothing was written unless the trace or the image could not be
+  -- written completely
   pub refused : IfErr answer (IsOfRun (λ fault. IfSome (reading.remaining first.image) (λ bytes. IfSome (reading.remaining first.schedule) (λ turns.
-      StandsOn (image_started bytes turns) (tracing.written before.trace) (tracing.written after.trace) (writing.written before.image) (writing.written after.image) fault))))
+      AppearsOn (image_started bytes turns) (tracing.written before.trace) (tracing.written after.trace) (writing.written before.image) (writing.written after.image) fault))))
   pub kind : IfErr answer (IsOfRun IsRunFault)
-  pub unwritten : IfErr answer (IsOfRun (TellsNeitherUnlessCut (tracing.written before.trace) (tracing.written after.trace)
+  pub unwritten : IfErr answer (IsOfRun (WritesNeitherUnlessCut (tracing.written before.trace) (tracing.written after.trace)
       (writing.written before.image) (writing.written after.image)))
   pub flushed : Flushes tracing before.trace after.trace answer
   -- a failed read or write was counted
@@ -31,8 +33,9 @@ pub record RunsImage {S W O : Type 0} (reading : Reading S) (tracing : Writing W
   pub write_trace : answer ≡ Err (Run WriteTrace) → FailsToTake tracing before.trace after.trace
   pub write_image : answer ≡ Err (Run WriteImage) → FailsToTake writing before.image after.image
 
--- the image in a file was run under the schedule in another, and what it leaves went to the file of a name; or a file whose bytes
--- are not known did not open, or memory was refused for the name: then nothing was written
+-- the schedule in a file was run on the image in another, and the image after the run was written to the file with a
+-- name; or a file whose bytes are not known could not be opened, or there was no memory for the name, and nothing was
+-- written
 abbrev pub RunsFiles : {F R V W : Type 0} → Disk F R V → Writing W → F → Inputs Bytes → Bytes → W → W → Answer → Type 0
 RunsFiles {F} {R} {V} disk tracing files names out before after answer =
     ((image image_last turns turns_last : R) × (empty left : V) × IsOpened disk files names.image image × IsOpened disk files names.schedule turns

@@ -1,4 +1,4 @@
--- The exit status of a command: 0 done, 1 refused input, 3 memory, 4 a failed read or write.
+-- The exit status of a command: 0 for success, 1 for invalid input, 3 for out of memory, 4 for a failed read or write.
 use Rattle.std.specs.Prelude.{◌≡◌, ◌≢◌, ℕ, Bool, true, false, Result, Ok, Err}
 use Rattle.pv_host_copy.specs.declared.image.ImportStop.{ImportStop}
 use Rattle.pv_host_copy.specs.declared.image.ImportStop.TheVariants as unimported
@@ -95,18 +95,19 @@ status_of (Source stop) = source_status_of stop
 status_of (Importing stop) = import_status_of stop
 status_of (Exporting fault) = export_status_of fault
 
--- it was told already: the lines of a source that are at fault, what has no room in an image, and what was not made of one
-abbrev pub is_told : Fault → Bool
-is_told (Source unwritten.Refused) = true
-is_told (Importing unimported.Refused) = true
-is_told (Exporting unexported.Make) = true
-is_told fault = false
+-- the error is already reported: the lines in error of a source, the entries that an image can't have, and the entries
+-- that could not be exported
+abbrev pub is_reported : Fault → Bool
+is_reported (Source unwritten.Refused) = true
+is_reported (Importing unimported.Refused) = true
+is_reported (Exporting unexported.Make) = true
+is_reported fault = false
 
--- what a command ends with
+-- the exit status of a command
 abbrev pub status_of_answer : Answer → ℕ
 status_of_answer (Ok done) = 0
 status_of_answer (Err fault) = status_of fault
 
--- where nothing was buffered in a sink and no read or write failed, nothing is afterwards
+-- if a sink had no buffered bytes and no read or write failed, it has none afterwards
 abbrev pub Flushes : {W : Type 0} → Writing W → W → W → Answer → Type 0
 Flushes writing before after answer = writing.buffered before ≡ 0 → status_of_answer answer ≢ 4 → writing.buffered after ≡ 0

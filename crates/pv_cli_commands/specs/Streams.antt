@@ -1,4 +1,4 @@
--- What is seen of the files, the directories, the sources and the sinks of a command.
+-- The files, directories, sources and sinks of a command, as contracts see them.
 use Rattle.std.specs.Prelude.{◌≡◌, ◌⊎◌, List, Option, None}
 use Rattle.pv_host_copy.specs.Hosts.{HostEntries}
 use Rattle.pv_model.specs.declared.stream.Sink.{Ghosts as Writing}
@@ -30,11 +30,11 @@ pub record Outputs (W O : Type 0) : Type 0 where
 abbrev pub outputs_of : {W O : Type 0} → W → O → Outputs W O
 outputs_of trace image = record { trace = trace; image = image }
 
--- the source of an image or that of a schedule failed, or gave more than one may give
+-- the source of an image or of a schedule failed, or gave more bytes than allowed
 abbrev pub OneFailsToGive : {S : Type 0} → Reading S → Inputs S → Inputs S → Type 0
 OneFailsToGive reading first last = FailsToGive reading first.image last.image ⊎ FailsToGive reading first.schedule last.schedule
 
--- what is seen of files: of all of them, of one that is read, and of one that is written
+-- all files, a file that is read, and a file that is written
 pub record Disk (F R V : Type 0) : Type 1 where
   pub files : Filing F R V
   pub reading : Reading R
@@ -43,11 +43,11 @@ pub record Disk (F R V : Type 0) : Type 1 where
 abbrev pub disk_of : {F R V : Type 0} → Filing F R V → Reading R → Writing V → Disk F R V
 disk_of files reading writing = record { files = files; reading = reading; writing = writing }
 
--- a file that was opened gives the bytes that its name has
+-- an opened file gives the bytes of its name
 abbrev pub IsOpened : {F R V : Type 0} → Disk F R V → F → Bytes → R → Type 0
 IsOpened disk files name first = disk.reading.remaining first ≡ disk.files.bytes files name
 
--- the bytes of the file of a name are not known
+-- the bytes of the file with a name are not known
 abbrev pub IsUnknown : {F R V : Type 0} → Disk F R V → F → Bytes → Type 0
 IsUnknown disk files name = disk.files.bytes files name ≡ None
 
@@ -55,7 +55,7 @@ IsUnknown disk files name = disk.files.bytes files name ≡ None
 abbrev pub IsCreatedOn : {F R V : Type 0} → Disk F R V → Bytes → V → Type 0
 IsCreatedOn disk name writer = IsCreated disk.files.file_of disk.writing.written name writer
 
--- what is seen of directories: the entries that one of a name has, and of one in which a tree is made the name, and what was made
+-- the entries of each directory with a name, and the name and the made entries of a directory for a tree
 pub record Host (F T : Type 0) : Type 0 where
   pub entries : F → Bytes → Option HostEntries
   pub target_of : T → Bytes
@@ -64,6 +64,6 @@ pub record Host (F T : Type 0) : Type 0 where
 abbrev pub host_of : {F T : Type 0} → (F → Bytes → Option HostEntries) → (T → Bytes) → (T → Option (List Entry)) → Host F T
 host_of entries target_of made = record { entries = entries; target_of = target_of; made = made }
 
--- a directory in which a tree is to be made has this name, and nothing was made in it
+-- a directory for a tree has this name, and nothing was made in it
 abbrev pub IsEmptiedOn : {F T : Type 0} → Host F T → Bytes → T → Type 0
 IsEmptiedOn host name target = IsEmptied host.target_of host.made name target

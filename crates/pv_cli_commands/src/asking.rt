@@ -1,4 +1,4 @@
-//! Questions of runs and of trees.
+//! Questions about runs and trees.
 ghost use Rattle.std.specs.Prelude.{◌≡◌};
 ghost use Rattle.pv_cli_commands.specs.Asking.{ReadsRunFiles, ReadsTreeFile, AsksRun, AsksTree, AsksBundle, AsksBundleFile, AsksFiles, AsksImage, AsksImageFile, AsksImageTree, AsksManifest, AsksManifestFile};
 ghost use Rattle.pv_cli_commands.specs.Streams.{disk_of, inputs_of};
@@ -13,7 +13,7 @@ use pv_questions::{
 use pv_streams::{Failed, Sink, Source};
 use std::alloc::Global;
 
-// Answers a question of what the schedule of a source makes of the image of another.
+// Answers a question about the run of one source's schedule on another source's image.
 fn ask_image<S: Source, W: Sink>(
     alloc: Global,
     question: Question<'_>,
@@ -27,7 +27,7 @@ fn ask_image<S: Source, W: Sink>(
     Ok(())
 }
 
-// Answers a question of what the schedule in a file makes of the image in another.
+// Answers a question about the run of a schedule in a file on an image in another.
 fn ask_files<F: Files, W: Sink>(
     alloc: Global,
     files: &F,
@@ -47,7 +47,7 @@ fn ask_files<F: Files, W: Sink>(
     ask_image(alloc, question, &mut image, &mut schedule, out)
 }
 
-// Answers a question of the run of the bundle that a source gives.
+// Answers a question about the run of the bundle in a source.
 fn ask_from<S: Source, W: Sink>(
     alloc: Global,
     question: Question<'_>,
@@ -60,7 +60,7 @@ fn ask_from<S: Source, W: Sink>(
     Ok(())
 }
 
-// Answers a question of the run of the bundle in a file.
+// Answers a question about the run of the bundle in a file.
 fn ask_file<F: Files, W: Sink>(
     alloc: Global,
     files: &F,
@@ -76,7 +76,7 @@ fn ask_file<F: Files, W: Sink>(
     }
 }
 
-// Answers a question of the tree of the image that a source gives.
+// Answers a question about the tree of the image in a source.
 fn ask_tree_from<S: Source, W: Sink, P: Progress>(
     alloc: Global,
     question: TreeQuestion<'_>,
@@ -90,7 +90,7 @@ fn ask_tree_from<S: Source, W: Sink, P: Progress>(
     Ok(())
 }
 
-// Answers a question of the tree of the image in a file.
+// Answers a question about the tree of the image in a file.
 fn ask_tree_file<F: Files, W: Sink, P: Progress>(
     alloc: Global,
     files: &F,
@@ -107,7 +107,7 @@ fn ask_tree_file<F: Files, W: Sink, P: Progress>(
     }
 }
 
-// Answers a question of the tree of the manifest or the bundle that a source gives.
+// Answers a question about the tree of the manifest or bundle in a source.
 fn ask_manifest_from<S: Source, W: Sink, P: Progress>(
     alloc: Global,
     question: TreeQuestion<'_>,
@@ -121,7 +121,7 @@ fn ask_manifest_from<S: Source, W: Sink, P: Progress>(
     Ok(())
 }
 
-// Answers a question of the tree of the manifest or the bundle in a file.
+// Answers a question about the tree of the manifest or bundle in a file.
 fn ask_manifest_file<F: Files, W: Sink, P: Progress>(
     alloc: Global,
     files: &F,
@@ -138,7 +138,7 @@ fn ask_manifest_file<F: Files, W: Sink, P: Progress>(
     }
 }
 
-// Answers a question of what is run: the bundle on the standard input for `-`.
+// Answers a question about a run. The bundle `-` is read from the standard input.
 pub(crate) fn ask_run<F: Files, I: Source, W: Sink>(
     alloc: Global,
     files: &F,
@@ -159,7 +159,7 @@ pub(crate) fn ask_run<F: Files, I: Source, W: Sink>(
     }
 }
 
-// Answers a question of what has a tree: the manifest on the standard input for `-`.
+// Answers a question about a tree. The manifest `-` is read from the standard input.
 pub(crate) fn ask_tree_of<F: Files, I: Source, W: Sink, P: Progress>(
     alloc: Global,
     files: &F,

@@ -10,14 +10,14 @@ use pv_run::{AuditStop, audit_image};
 use pv_streams::{Sink, Source};
 use std::alloc::Global;
 
-// The bytes of a path, where there is one.
+// Returns the bytes of a path, if there is one.
 fn bytes_of(path: Option<&str>) -> Option<&[u8]>
     ensures { option_map (λ bytes. bytes.now) result ≡ option_map (λ text. text.now) path.entry }
 {
     path.map(|text| text.as_bytes())
 }
 
-// Audits what the schedule of a source leaves on the image of another.
+// Audits the image in one source after the run of the schedule in another.
 fn audit_from<S: Source, W: Sink>(
     alloc: Global,
     image: &mut S,
@@ -32,7 +32,7 @@ fn audit_from<S: Source, W: Sink>(
     Ok(())
 }
 
-// Audits what the schedule in a file leaves on the image in another.
+// Audits the image in a file after the run of the schedule in another.
 pub(crate) fn audit_files<F: Files, W: Sink>(
     alloc: Global,
     files: &F,

@@ -1,9 +1,9 @@
-//! What may be asked for.
+//! Commands and their arguments.
 
 use pv_model::Version;
 use pv_questions::{Question, TreeQuestion};
 
-/// What is run: an image under a schedule, or a bundle.
+/// The input of a run: an image and a schedule, or a bundle.
 #[derive(Clone, Copy, Debug, PartialEq, Eq)]
 pub enum RunInput<'a> {
     /// The image in a file, under the schedule in another.
@@ -13,95 +13,94 @@ pub enum RunInput<'a> {
         /// The file of the schedule.
         schedule: &'a str,
     },
-    /// The bundle of a file: `-` is the standard input.
+    /// The bundle in a file. `-` is the standard input.
     Bundle(&'a str),
 }
 
-/// What has a tree: an image, or a manifest.
+/// The input that has a tree: an image or a manifest.
 #[derive(Clone, Copy, Debug, PartialEq, Eq)]
 pub enum TreeInput<'a> {
     /// The image in a file.
     Image(&'a str),
-    /// The manifest of a file, which may be a bundle's: `-` is the standard input.
+    /// The manifest in a file, which may be a bundle. `-` is the standard input.
     Manifest(&'a str),
 }
 
-/// What a command line asks for.
+/// A command.
 #[derive(Clone, Copy, Debug, PartialEq, Eq)]
 pub enum Command<'a> {
-    /// Run the bundle of a file: `-` is the standard input.
+    /// Runs the bundle in a file. `-` is the standard input.
     RunTree(&'a str),
-    /// Make the image of a manifest.
+    /// Makes the image of a manifest.
     MakeImage {
         /// The file of the manifest.
         manifest: &'a str,
-        /// The file that gets the image.
+        /// The file to which the image is written.
         image: &'a str,
     },
-    /// List the tree of the image in a file.
+    /// Lists the tree of the image in a file.
     ListImage(&'a str),
-    /// Run an image under a schedule.
+    /// Runs a schedule on an image.
     RunImage {
         /// The file of the image.
         image: &'a str,
         /// The file of the schedule.
         schedule: &'a str,
-        /// The file that gets the image of what the run leaves.
+        /// The file to which the image after the run is written.
         out: &'a str,
     },
-    /// Make an image of version 2 of one of version 1.
+    /// Makes an image of version 2 from an image of version 1.
     MigrateImage {
         /// The file of the image.
         image: &'a str,
-        /// The file that gets the new image.
+        /// The file to which the new image is written.
         out: &'a str,
-        /// The blocks of the new image.
+        /// The number of blocks in the new image.
         blocks: u32,
-        /// Its inodes.
+        /// The number of inodes in the new image.
         inodes: u32,
     },
-    /// Make the image of a directory.
+    /// Makes an image of a host directory.
     ImportDirectory {
         /// The directory.
         directory: &'a str,
-        /// The file that gets the image.
+        /// The file to which the image is written.
         image: &'a str,
         /// The version of the image.
         version: Version,
-        /// Whether what an image can't have is left out.
+        /// Whether entries that an image can't have are skipped.
         skips: bool,
     },
-    /// Make a directory of the tree of an image.
+    /// Makes a host directory from the tree of an image.
     ExportImage {
         /// The file of the image.
         image: &'a str,
-        /// The directory: there is nothing there, or one that has nothing.
+        /// The directory. It is created if it does not exist; otherwise it must be empty.
         directory: &'a str,
     },
-    /// Run an image under a schedule, and tell which files of what is left are sealed.
+    /// Runs a schedule on an image, and reports which files are then sealed.
     AuditImage {
         /// The file of the image.
         image: &'a str,
         /// The file of the schedule.
         schedule: &'a str,
-        /// The path of a file of the image; without it, all files.
+        /// The path of a file in the image. Without a path, all files are audited.
         path: Option<&'a str>,
     },
-    /// Write the manifest or bundle that the source of a file stands for, or tell its lines at fault: `-` is the standard
-    /// input.
+    /// Writes the manifest or bundle of the source in a file, or reports the lines in error. `-` is the standard input.
     WriteSource(&'a str),
-    /// Answer a question of a run.
+    /// Answers a question about a run.
     Ask {
-        /// What is asked.
+        /// The question.
         question: Question<'a>,
-        /// What is run.
+        /// The run.
         run: RunInput<'a>,
     },
-    /// Answer a question of a tree.
+    /// Answers a question about a tree.
     AskTree {
-        /// What is asked.
+        /// The question.
         question: TreeQuestion<'a>,
-        /// What has the tree.
+        /// The input that has the tree.
         tree: TreeInput<'a>,
     },
 }

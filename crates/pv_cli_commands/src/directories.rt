@@ -1,4 +1,4 @@
-//! Directories from which an image is made, and in which the tree of one is.
+//! Host directories that are imported as images, or to which images are exported.
 ghost use Rattle.std.specs.Prelude.{◌≡◌, ◌≢◌, ℕ, List, Option, Err, IfOk, IsSome};
 ghost use Rattle.pv_cli_commands.specs.Created.{IsEmptied};
 ghost use Rattle.pv_host_copy.specs.Hosts.{HostEntries};
@@ -6,37 +6,40 @@ ghost use Rattle.pv_host_copy.specs.Hosts.{HostEntries};
 use pv_host_copy::{HostDirectory, HostFault, HostTarget, TargetFault};
 use std::alloc::Global;
 
-/// Directories by their names.
+/// Access to directories by name.
 ///
-/// A clause sees the entries that the directory of a name has, where they are known (those of a system's directory are not).
+/// A contract sees the entries of the directory with a name, if they are known. Those of a directory of the operating
+/// system are not known.
 pub trait Directories {
-    /// A directory that was opened.
+    /// A directory opened for reading.
     type Directory: HostDirectory;
 
     /// A directory in which the tree of an image is made.
     type Target: HostTarget + Drop;
 
-    /// The entries of the directory of a name, where they are known.
+    /// The entries of the directory with a name, if they are known.
     ghost entries: { Self → List ℕ → Option HostEntries };
 
     /// The name of the directory in which a tree is made.
     ghost target_of: { Self.Target → List ℕ };
 
-    /// Opens the directory of a name. One whose entries are known opens.
+    /// Opens the directory with a name. If its entries are known, this succeeds.
     ///
     /// # Errors
     ///
-    /// `Read` where there is no such directory, or it does not open; `Memory` where memory was refused.
+    /// - `Read`, if the directory does not exist or cannot be opened.
+    /// - `Memory`, if there is no memory.
     fn open_directory(&self, alloc: Global, name: &str) -> Result<Self::Directory, HostFault>
         ensures entries { IfOk result (λ directory. Self.Directory.rest directory ≡ entries self.now name.now) }
         ensures opens { IsSome (entries self.now name.now) → result ≢ Err HostFault.Read };
 
-    /// The directory of a name, in which nothing was made yet: it is made where nothing is there, and else it is one that has
-    /// nothing.
+    /// Returns the directory with a name, in which nothing is made yet. The directory is created if it does not exist;
+    /// otherwise it must be empty.
     ///
     /// # Errors
     ///
-    /// `Make` where it is not made, has something, or is no directory; `Memory` where memory was refused.
+    /// - `Make`, if the directory cannot be created, is not empty, or is not a directory.
+    /// - `Memory`, if there is no memory.
     fn create_directory(&self, alloc: Global, name: &str) -> Result<Self::Target, TargetFault>
         ensures { IfOk result (IsEmptied target_of Self.Target.made name.now) };
 }

@@ -1,7 +1,7 @@
-//! Directories of images.
+//! Export of images to directories.
 ghost use Rattle.pv_cli_commands.specs.Exporting.{ExportsFile, ExportsImage, ExportsTree, MakesTree};
 ghost use Rattle.pv_cli_commands.specs.Streams.{disk_of, host_of};
-ghost use Rattle.pv_host_copy.specs.Spelled.{spelled_entries};
+ghost use Rattle.pv_host_copy.specs.Encoded.{encoded_entries};
 
 use crate::directories::Directories;
 use crate::fault::Fault;
@@ -11,20 +11,20 @@ use pv_streams::{Sink, Source};
 use pv_tree::Store;
 use std::alloc::Global;
 
-// Makes a tree in a directory that has nothing.
+// Makes a tree in an empty directory.
 fn export_into<T: HostTarget, E: Sink>(
     alloc: Global,
     store: &Store,
     target: &mut T,
     errors: &mut E,
 ) -> Result<(), Fault>
-    ensures { ExportsTree T.made E.Sink (spelled_entries store.now) target.old target.new errors.old errors.new result }
+    ensures { ExportsTree T.made E.Sink (encoded_entries store.now) target.old target.new errors.old errors.new result }
 {
     export_tree(alloc, store.tree(), target, errors)?;
     Ok(())
 }
 
-// Makes a tree in the directory of a name.
+// Makes a tree in the directory with a name.
 fn make_tree<F: Directories, E: Sink>(
     alloc: Global,
     files: &F,
@@ -32,7 +32,7 @@ fn make_tree<F: Directories, E: Sink>(
     store: &Store,
     errors: &mut E,
 ) -> Result<(), Fault>
-    ensures { MakesTree (host_of F.entries F.target_of F.Target.made) E.Sink directory.now (spelled_entries store.now) errors.old errors.new result }
+    ensures { MakesTree (host_of F.entries F.target_of F.Target.made) E.Sink directory.now (encoded_entries store.now) errors.old errors.new result }
 {
     let mut target = match files.create_directory(alloc, directory) {
         Ok(target) => target,
@@ -42,7 +42,7 @@ fn make_tree<F: Directories, E: Sink>(
     export_into(alloc, store, &mut target, errors)
 }
 
-// Makes the tree of the image that a source gives in the directory of a name.
+// Makes the tree of the image in a source in the directory with a name.
 fn export_from<F: Directories, S: Source, E: Sink>(
     alloc: Global,
     files: &F,
@@ -56,7 +56,7 @@ fn export_from<F: Directories, S: Source, E: Sink>(
     make_tree(alloc, files, directory, &store, errors)
 }
 
-// Makes the tree of the image in a file in the directory of a name.
+// Makes the tree of the image in a file in the directory with a name.
 pub(crate) fn export_file<F: Files + Directories, E: Sink>(
     alloc: Global,
     files: &F,

@@ -1,6 +1,6 @@
-//! What a command tells a person, and the exit status.
+//! Error messages and the exit status.
 ghost use Rattle.std.specs.Prelude.{◌≡◌};
-ghost use Rattle.pv_cli_commands.specs.Status.{ask_status_of, audit_status_of, export_status_of, import_status_of, is_told, list_status_of, migrate_status_of, run_status_of, source_status_of, status_of};
+ghost use Rattle.pv_cli_commands.specs.Status.{ask_status_of, audit_status_of, export_status_of, import_status_of, is_reported, list_status_of, migrate_status_of, run_status_of, source_status_of, status_of};
 ghost use Rattle.pv_cli_commands.specs.declared.fault.Fault.TheVariants.{Run as RunVariant, Listing as ListingVariant, Migrating as MigratingVariant, Auditing as AuditingVariant, Asking as AskingVariant, Source as SourceVariant, Importing as ImportingVariant, Exporting as ExportingVariant};
 
 use pv_host_copy::{ExportFault, ImportStop};
@@ -10,33 +10,33 @@ use pv_run::{AuditStop, MigrateStop};
 use pv_source::SourceStop;
 use thiserror::Error;
 
-/// Why a command ends without what it was asked for. Its `Display` is the whole text for a person, with the LF at its
-/// end.
+/// The reason why a command fails. Its `Display` is the whole message for a person, with a newline at its end.
 #[derive(Clone, Copy, Debug, PartialEq, Eq, Error)]
 pub enum Fault {
-    /// A run, or the making of an image, was refused, or ended early.
+    /// A run was refused or ended early, or an image was not made.
     #[error("pvsim: {0}\n")]
     Run(RunFault),
-    /// An image was not listed, or not whole.
+    /// An image was not listed, or not completely.
     #[error("pvsim: {0}\n")]
     Listing(ListFault),
-    /// An image was not migrated, or not whole.
+    /// An image was not migrated, or not completely.
     #[error("pvsim: {0}\n")]
     Migrating(MigrateStop),
     /// The files of an image were not audited, or not all.
     #[error("pvsim: {0}\n")]
     Auditing(AuditStop),
-    /// A question was not answered, or not whole.
+    /// A question was not answered, or not completely.
     #[error("pvsim: {0}\n")]
     Asking(AskStop),
-    /// What a source stands for was not written, or not whole. The text of `Refused` is empty, since the lines at fault were
-    /// told.
+    /// The manifest or bundle of a source was not written, or not completely. The message of `Refused` is empty,
+    /// because the lines in error are already reported.
     #[error("{}", source_text(*.0))]
     Source(SourceStop),
-    /// No image was made of a directory, or not whole. The text of `Refused` is empty, since it was told.
+    /// No image was made of a directory, or not completely. The message of `Refused` is empty, because the entries are
+    /// already reported.
     #[error("{}", import_text(*.0))]
     Importing(ImportStop),
-    /// The tree of an image was not made in a directory, or not whole.
+    /// The tree of an image was not made in a directory, or not completely.
     #[error("pvsim: {0}\n")]
     Exporting(ExportFault),
 }
@@ -105,7 +105,7 @@ impl From<ExportFault> for Fault {
     }
 }
 
-// The text of why a source was not written.
+// Returns the message for a source that was not written.
 fn source_text(stop: SourceStop) -> &'static str {
     match stop {
         SourceStop::Read => "pvsim: read\n",
@@ -115,7 +115,7 @@ fn source_text(stop: SourceStop) -> &'static str {
     }
 }
 
-// The text of why no image was made of a directory.
+// Returns the message for a directory that was not imported.
 fn import_text(stop: ImportStop) -> &'static str {
     match stop {
         ImportStop::Read => "pvsim: read\n",
@@ -125,7 +125,7 @@ fn import_text(stop: ImportStop) -> &'static str {
     }
 }
 
-// The status of a run that was refused or ended early.
+// Returns the status of a run that was refused or ended early.
 fn run_status(fault: RunFault) -> u8
     ensures { result ≡ run_status_of fault }
 {
@@ -138,7 +138,7 @@ fn run_status(fault: RunFault) -> u8
     }
 }
 
-// The status of a listing that was refused or ended early.
+// Returns the status of a listing that was refused or ended early.
 fn list_status(fault: ListFault) -> u8
     ensures { result ≡ list_status_of fault }
 {
@@ -149,7 +149,7 @@ fn list_status(fault: ListFault) -> u8
     }
 }
 
-// The status of a migration that was refused or ended early.
+// Returns the status of a migration that was refused or ended early.
 fn migrate_status(stop: MigrateStop) -> u8
     ensures { result ≡ migrate_status_of stop }
 {
@@ -160,7 +160,7 @@ fn migrate_status(stop: MigrateStop) -> u8
     }
 }
 
-// The status of an audit that was refused or ended early.
+// Returns the status of an audit that was refused or ended early.
 fn audit_status(stop: AuditStop) -> u8
     ensures { result ≡ audit_status_of stop }
 {
@@ -171,7 +171,7 @@ fn audit_status(stop: AuditStop) -> u8
     }
 }
 
-// The status of an answer that did not come, or not whole.
+// Returns the status of an answer that failed.
 fn ask_status(stop: AskStop) -> u8
     ensures { result ≡ ask_status_of stop }
 {
@@ -182,7 +182,7 @@ fn ask_status(stop: AskStop) -> u8
     }
 }
 
-// The status of a source that was not written, or not whole.
+// Returns the status of a source that was not written, or not completely.
 fn source_status(stop: SourceStop) -> u8
     ensures { result ≡ source_status_of stop }
 {
@@ -193,7 +193,7 @@ fn source_status(stop: SourceStop) -> u8
     }
 }
 
-// The status of a directory that was not imported, or not whole.
+// Returns the status of an import that was refused or ended early.
 fn import_status(stop: ImportStop) -> u8
     ensures { result ≡ import_status_of stop }
 {
@@ -204,7 +204,7 @@ fn import_status(stop: ImportStop) -> u8
     }
 }
 
-// The status of an image whose tree was not made in a directory, or not whole.
+// Returns the status of an export that was refused or ended early.
 fn export_status(fault: ExportFault) -> u8
     ensures { result ≡ export_status_of fault }
 {
@@ -217,7 +217,7 @@ fn export_status(fault: ExportFault) -> u8
 }
 
 impl Fault {
-    /// The exit status: 1 for refused input, 3 for memory, and 4 for a failed read or write.
+    /// Returns the exit status: 1 for invalid input, 3 for out of memory, and 4 for a failed read or write.
     pub fn status(&self) -> u8
         ensures { result ≡ status_of self.now }
     {
@@ -233,10 +233,11 @@ impl Fault {
         }
     }
 
-    /// Whether it was told already, on the standard error: that of a source whose lines are at fault, that of a directory of
-    /// which something has no room in an image, and that of an image of which something was not made.
-    pub fn is_told(&self) -> bool
-        ensures { result ≡ is_told self.now }
+    /// Returns whether the error is already reported on the standard error. This is so for a source with lines in
+    /// error, for a directory with an entry that an image can't have, and for an image with an entry that could not be
+    /// exported.
+    pub fn is_reported(&self) -> bool
+        ensures { result ≡ is_reported self.now }
     {
         matches!(
             self,

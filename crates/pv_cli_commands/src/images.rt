@@ -8,7 +8,7 @@ use pv_model::RunFault;
 use pv_streams::{Sink, Source};
 use std::alloc::Global;
 
-// Runs the image that a source gives under the schedule of another.
+// Runs the schedule in one source on the image in another.
 fn run_from<S: Source, W: Sink, O: Sink>(
     alloc: Global,
     image: &mut S,
@@ -23,7 +23,7 @@ fn run_from<S: Source, W: Sink, O: Sink>(
     Ok(())
 }
 
-// Runs the image in a file under the schedule in another, and puts the image that is left into a third.
+// Runs the schedule in a file on the image in another, and writes the image after the run to a third.
 pub(crate) fn run_files<F: Files, W: Sink>(
     alloc: Global,
     files: &F,

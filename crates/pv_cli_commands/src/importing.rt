@@ -1,4 +1,4 @@
-//! Images of directories.
+//! Import of directories as images.
 ghost use Rattle.pv_cli_commands.specs.Importing.{ImportsDirectory, ImportsImage};
 ghost use Rattle.pv_cli_commands.specs.Streams.{disk_of};
 

@@ -1,13 +1,12 @@
-//! The commands of `pvsim` over any files and streams: what each reads and writes, what a fault is called, and its exit
-//! status. How a line of words asks for a command stands above.
+//! The commands of `pvsim`, over any files and streams: their input and output, error messages, and exit status.
 //!
-//! `command` has what may be asked for, and `performing` does it: `running` runs bundles, `making` makes images of manifests,
-//! `sources` writes what sources stand for, `listing` lists images, `images` runs them, `auditing` audits them, `asking` answers questions of runs and trees, `migrating` makes
-//! images of version 2, `importing` those of directories, and `exporting` directories of images. `system` has the files and streams of a command, and `fault` what a person is told, and the exit status.
-//!
-//! A clause sees of a source what it will give, of a sink what it was given and what is buffered in it, of both how often they
-//! failed, and of files the bytes that a name has, and of directories the entries. Of what shows
-//! the progress of a search it sees nothing.
+//! `command` has the type of commands, and `performing` carries them out. The other modules carry out one kind of
+//! command each: `running` (bundles), `images` (schedules on images), `making`, `listing`, `migrating`, `importing`,
+//! `exporting`, `auditing`, `sources`, and `asking` (questions). `system` has the traits of files and streams,
+//! `directories` those of directories, and `fault` the messages and the exit status. Contracts cite the bytes that a
+//! source gives, the bytes that a sink received and has buffered, the number of failures of each, the bytes of named
+//! files, and the entries of named directories. Progress reports are not specified. `pv_cli_line` parses the command
+//! line.
 #![tactic(auto)]
 
 pub mod asking;

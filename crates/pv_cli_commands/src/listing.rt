@@ -9,7 +9,7 @@ use pv_run::list;
 use pv_streams::{Failed, Sink, Source};
 use std::alloc::Global;
 
-// Lists the image that a source gives.
+// Lists the image in a source.
 fn list_from<S: Source, W: Sink>(alloc: Global, image: &mut S, out: &mut W) -> Result<(), Fault>
     ensures { ListsImage S.Source W.Sink image.old image.new out.old out.new result }
 {

@@ -9,7 +9,7 @@ use pv_run::make_image;
 use pv_streams::{Sink, Source};
 use std::alloc::Global;
 
-// Makes the image of the manifest that a source gives.
+// Makes the image of the manifest in a source.
 fn make_from<S: Source, W: Sink>(
     alloc: Global,
     manifest: &mut S,

@@ -1,4 +1,4 @@
-//! Images of version 2 from those of version 1.
+//! Migration of images from version 1 to version 2.
 ghost use Rattle.pv_cli_commands.specs.Migrating.{MigratesFile, MigratesImage, sizes_of};
 ghost use Rattle.pv_cli_commands.specs.Streams.{disk_of};
 
@@ -9,7 +9,7 @@ use pv_run::{MigrateStop, migrate_image};
 use pv_streams::{Sink, Source};
 use std::alloc::Global;
 
-// Makes an image of version 2 of the image that a source gives.
+// Makes an image of version 2 from the image in a source.
 fn migrate_from<S: Source, W: Sink>(
     alloc: Global,
     image: &mut S,
@@ -23,7 +23,7 @@ fn migrate_from<S: Source, W: Sink>(
     Ok(())
 }
 
-// Makes an image of version 2 of the image in a file, in another file.
+// Makes an image of version 2 from the image in a file, in another file.
 pub(crate) fn migrate_file<F: Files>(
     alloc: Global,
     files: &F,

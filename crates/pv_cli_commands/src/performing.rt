@@ -1,4 +1,4 @@
-//! What each command reads and writes.
+//! Execution of commands.
 ghost use Rattle.std.specs.Prelude.{◌≡◌, ◌≢◌, IfErr};
 ghost use Rattle.pv_cli_commands.specs.Commands.{KeepsErrors, Performs, ReadsFiles, WritesFile};
 ghost use Rattle.pv_cli_commands.specs.Status.{Flushes, status_of};
@@ -22,39 +22,40 @@ use pv_questions::Progress;
 use pv_streams::{Sink, Source};
 use std::alloc::Global;
 
-/// Does what a command asks for. Its files are opened before anything is read.
+/// Carries out a command. The files of the command are opened before anything is read.
 ///
-/// - `RunTree` runs the bundle of its file, or that of the standard input for `-`, and writes the trace to the
-///   standard output.
+/// - `RunTree` runs the bundle in a file, or on the standard input for `-`, and writes the trace to the standard
+///   output.
 /// - `MakeImage` makes the image of the manifest in a file, and writes it to another file.
-/// - `ListImage` lists the image in a file, on the standard output.
-/// - `RunImage` runs the image in a file under the schedule in another, writes the trace to the standard output, and
-///   then the image that the run leaves to a third file.
-/// - `MigrateImage` makes an image of version 2 of the image in a file, and writes it to another file.
-/// - `ImportDirectory` makes the image of a directory, and writes it to a file. What an image can't have, and what could not be
-///   added to it, is told on the standard error, in a line for each path; then nothing is written to the file, unless only what
-///   an image can't have was told, and that is to be left out.
-/// - `ExportImage` makes what the tree of the image in a file has in a directory, which is made, or has nothing. The image is
-///   read before. Where something could not be made, its path in the image is told on the standard error, and all that comes
-///   before it in the listing was made.
-/// - `AuditImage` runs the image in a file under the schedule in another, and writes to the standard output what is
-///   found of the file of a path, or of all files.
-/// - `WriteSource` writes the manifest or bundle that the source of its file stands for, or that of the standard input for `-`,
-///   to the standard output. Where lines are at fault, it writes nothing there, and tells them on the standard error, at most
-///   twenty, each in a line that names the file as it was given.
-/// - `Ask` runs the image in a file under the schedule in another, or the bundle of a file, or that of the standard input for
-///   `-`, and writes to the standard output what a question of that run answers.
-/// - `AskTree` writes to the standard output what a question of a tree answers: of the tree of the image in a file, or of the
-///   manifest in one, or of that of the standard input for `-`.
+/// - `ListImage` writes the listing of the image in a file to the standard output.
+/// - `RunImage` runs the schedule in a file on the image in another, writes the trace to the standard output, and then
+///   writes the image after the run to a third file.
+/// - `MigrateImage` makes an image of version 2 from the image in a file, and writes it to another file.
+/// - `ImportDirectory` makes the image of a directory, and writes it to a file. Each entry that an image can't have or
+///   that could not be added is reported on the standard error, in a line with its path. If there is such an entry, the
+///   file is not written, unless entries that an image can't have are to be skipped and all reported entries are of
+///   this kind.
+/// - `ExportImage` makes the tree of the image in a file in a directory, which is created or must be empty. The image
+///   is read first. If an entry cannot be made, its path in the image is reported on the standard error; all entries
+///   before it in the listing are then made.
+/// - `AuditImage` runs the schedule in a file on the image in another, and writes the verdict on the file at a path, or
+///   on all files, to the standard output.
+/// - `WriteSource` writes the manifest or bundle of the source in a file, or on the standard input for `-`, to the
+///   standard output. If lines are in error, it writes nothing there and reports at most twenty of them on the standard
+///   error, each in a line with the name of the file as given.
+/// - `Ask` runs the schedule in a file on the image in another, or the bundle in a file or on the standard input for
+///   `-`, and writes the answer to a question about that run to the standard output.
+/// - `AskTree` writes the answer to a question about a tree to the standard output: the tree of the image in a file, of
+///   the manifest in a file, or of the manifest on the standard input for `-`.
 ///
-/// What was written was flushed, unless a read or a write failed. A search of states shows on `progress` how far it is.
+/// Everything that was written is flushed, unless a read or a write failed. A search of states reports to `progress`.
 ///
 /// # Errors
 ///
-/// `Run`, of `ListImage` `Listing`, of `MigrateImage` `Migrating`, of `ImportDirectory` `Importing`, of `ExportImage`
-/// `Exporting`, of `AuditImage` `Auditing`, of `WriteSource` `Source`, of `Ask` and `AskTree` `Asking`: a file did not open or
-/// could not be read, the input was refused, memory was refused, or the output could not be written. Where the input was
-/// refused, nothing was written.
+/// A file cannot be opened or read, the input is invalid, there is no memory, or the output cannot be written. If the
+/// input is invalid, nothing was written. The variant is `Listing` for `ListImage`, `Migrating` for `MigrateImage`,
+/// `Importing` for `ImportDirectory`, `Exporting` for `ExportImage`, `Auditing` for `AuditImage`, `Source` for
+/// `WriteSource`, `Asking` for `Ask` and `AskTree`, and `Run` for the others.
 #[tactic(auto, using(crate::proofs::Outcomes::failed_with_status))]
 pub fn perform<
     F: Files + Directories + Drop,
@@ -72,10 +73,10 @@ pub fn perform<
     ensures flushed { Flushes O.Sink system.old.output system.new.output result }
     ensures failed { IfErr result (λ fault. status_of fault ≢ 0) }
 
-    // The rest of the system is left as it was.
+    // The rest of the system is unchanged.
     ensures unread { ReadsFiles command.entry → system.new.input ≡ system.old.input }
     ensures silent { WritesFile command.entry → system.new.output ≡ system.old.output }
-    ensures untold { KeepsErrors command.entry → system.new.errors ≡ system.old.errors }
+    ensures unreported { KeepsErrors command.entry → system.new.errors ≡ system.old.errors }
     ensures rest { system.new ≡ record system.old { input = system.new.input; output = system.new.output; errors = system.new.errors } }
 {
     let HostSystem {

@@ -9,7 +9,7 @@ use pv_run::run_tree;
 use pv_streams::{Failed, Sink, Source};
 use std::alloc::Global;
 
-// Runs the bundle that a source gives.
+// Runs the bundle in a source.
 pub(crate) fn run_from<S: Source, W: Sink>(
     alloc: Global,
     bundle: &mut S,

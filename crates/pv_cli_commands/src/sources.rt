@@ -1,4 +1,4 @@
-//! Manifests and bundles that sources stand for.
+//! Manifests and bundles of sources.
 ghost use Rattle.pv_cli_commands.specs.Sources.{WritesSource, WritesSourceFile};
 ghost use Rattle.pv_cli_commands.specs.Streams.{disk_of};
 
@@ -8,32 +8,32 @@ use pv_source::{SourceStop, write_source};
 use pv_streams::{Failed, Sink, Source};
 use std::alloc::Global;
 
-// Writes what a source stands for, or tells its lines at fault under a name.
+// Writes the manifest or bundle of a source, or reports its lines in error under a name.
 pub(crate) fn write_from<S: Source, W: Sink, E: Sink>(
     alloc: Global,
     name: &str,
     source: &mut S,
     out: &mut W,
-    told: &mut E,
+    reported: &mut E,
 ) -> Result<(), Fault>
-    ensures { WritesSource S.Source W.Sink E.Sink name.now source.old source.new out.old out.new told.old told.new result }
+    ensures { WritesSource S.Source W.Sink E.Sink name.now source.old source.new out.old out.new reported.old reported.new result }
 {
-    write_source(alloc, name.as_bytes(), source, out, told)?;
+    write_source(alloc, name.as_bytes(), source, out, reported)?;
     Ok(())
 }
 
-// Writes what the source in a file stands for, or tells its lines at fault.
+// Writes the manifest or bundle of the source in a file, or reports its lines in error.
 pub(crate) fn write_file<F: Files, W: Sink, E: Sink>(
     alloc: Global,
     files: &F,
     name: &str,
     out: &mut W,
-    told: &mut E,
+    reported: &mut E,
 ) -> Result<(), Fault>
-    ensures { WritesSourceFile (disk_of F.Files F.Reader.Source F.Writer.Sink) W.Sink E.Sink files.now name.now out.old out.new told.old told.new result }
+    ensures { WritesSourceFile (disk_of F.Files F.Reader.Source F.Writer.Sink) W.Sink E.Sink files.now name.now out.old out.new reported.old reported.new result }
 {
     match files.open(name) {
-        Ok(mut source) => write_from(alloc, name, &mut source, out, told),
+        Ok(mut source) => write_from(alloc, name, &mut source, out, reported),
         Err(Failed) => Err(Fault::Source(SourceStop::Read)),
     }
 }

@@ -1,56 +1,57 @@
-//! What a command reads and writes: files by their names, and three streams.
+//! The input and output of a command: named files and three streams.
 ghost use Rattle.std.specs.Prelude.{◌≡◌, ℕ, List, Option, None, IfOk, IsOk, IsSome};
 ghost use Rattle.pv_cli_commands.specs.Created.{IsCreated};
 
 use pv_streams::{Failed, Sink, Source};
 use std::alloc::{AllocError, Global};
 
-/// Files by their names.
+/// Access to files by name.
 ///
-/// A clause sees the bytes that the file of a name has, where they are known (those of a system's files
-/// are not).
+/// A contract sees the bytes of the file with a name, if they are known. Those of a file of the operating system are
+/// not known.
 pub trait Files {
-    /// A file that was opened for reading.
+    /// A file opened for reading.
     type Reader: Source + Drop;
 
-    /// A file that is to be written.
+    /// A file opened for writing.
     type Writer: Sink + Drop;
 
-    /// The bytes of the file of a name, where they are known.
+    /// The bytes of the file with a name, if they are known.
     ghost bytes: { Self → List ℕ → Option (List ℕ) };
 
-    /// The name of the file that a writer writes.
+    /// The name of the file to which a writer writes.
     ghost file_of: { Self.Writer → List ℕ };
 
-    /// Opens the file of a name for reading, from its first byte on. A file whose bytes are known opens.
+    /// Opens the file with a name for reading from its first byte. If its bytes are known, this succeeds.
     ///
     /// # Errors
     ///
-    /// `Failed` where there is no such file, or it does not open.
+    /// `Failed`, if the file does not exist or cannot be opened.
     fn open(&self, name: &str) -> Result<Self::Reader, Failed>
         ensures bytes { IfOk result (λ reader. Self.Reader.remaining reader ≡ bytes self.now name.now) }
         ensures opens { IsSome (bytes self.now name.now) → IsOk result };
 
-    /// The file of a name, to be written. It is made, or emptied, at the first write, so where nothing is written
-    /// an old file stays as it is.
+    /// Returns a writer for the file with a name. The file is created or truncated at the first write. If nothing is
+    /// written, an existing file is unchanged.
     ///
     /// # Errors
     ///
-    /// `AllocError` where memory was refused for the name.
+    /// `AllocError`, if there is no memory for the name.
     fn create(&self, alloc: Global, name: &str) -> Result<Self::Writer, AllocError>
         ensures { IfOk result (IsCreated file_of Self.Writer.written name.now) };
 
-    /// Why the file of a name can't be read, in the system's words: nothing where it can, or they are not known. A file whose
-    /// bytes are known can be read.
+    /// Returns the reason why the file with a name cannot be read, in the words of the operating system, or `None` if
+    /// it can or the reason is not known. A file whose bytes are known can be read.
     fn read_reason(&self, alloc: Global, name: &str) -> Option<String>
         ensures { IsSome (bytes self.now name.now) → result ≡ None };
 
-    /// Why the file of a name can't be opened to be written, in the system's words: nothing where it can, or they are not known.
-    /// It may make an empty file, and leaves one that is there as it is.
+    /// Returns the reason why the file with a name cannot be opened for writing, in the words of the operating system,
+    /// or `None` if it can or the reason is not known. It may create an empty file, and leaves an existing file
+    /// unchanged.
     fn write_reason(&self, alloc: Global, name: &str) -> Option<String>;
 }
 
-/// What a command reads from and writes to.
+/// The input and output of a command.
 #[derive(Drop)]
 pub struct HostSystem<F: Drop, I: Drop, O: Drop, E: Drop> {
     /// The files.

@@ -1,7 +1,7 @@
-//! The directories of the system.
+//! Directories of the operating system, for import.
 ghost use Rattle.std.specs.Prelude.{◌≡◌, ◌-◌, None, vec_len, IfOk};
 ghost use Rattle.std.specs.String.{string_bytes};
-ghost use Rattle.pv_host_copy.specs.Telling.{IsNodeBelow};
+ghost use Rattle.pv_host_copy.specs.Reporting.{IsNodeBelow};
 
 use crate::files::HostFiles;
 use crate::targets::MadeDirectory;
@@ -16,11 +16,11 @@ use std::io::{ErrorKind, Read};
 use std::os::unix::fs::MetadataExt;
 use std::{fs, io};
 
-// The bits of a mode that let somebody execute a file.
+// The mode bits that let a user, a group or others execute a file.
 const EXECUTE: u32 = 0o111;
 
-/// How many levels of directories are read below the one that is opened. A deeper one can't be read: each level takes some of the
-/// program's stack.
+/// The number of directory levels that are read below the opened one. A deeper directory can't be read, because each
+/// level needs stack.
 pub const LEVELS: u16 = 256;
 
 impl<'a> Directories for HostFiles<'a> {
@@ -45,10 +45,11 @@ impl<'a> Directories for HostFiles<'a> {
     }
 }
 
-/// A directory of the system, which tells its names in the order of their bytes. What it has is not known.
+/// A directory of the operating system. It gives its names in the order of their bytes. Its contract does not know the
+/// entries.
 ///
-/// Its names were read when it was opened. A symbolic link is told, and not followed. A name or a link's text that is no text
-/// in UTF-8 can't be read, and no level below the last.
+/// The names are read when the directory is opened. A symbolic link is reported and not followed. A name or a link's
+/// text that is not UTF-8 can't be read, nor can a directory below the last level.
 #[derive(Drop)]
 pub struct OpenedDirectory<'a> {
     rt: &'a HostRuntime,
@@ -58,7 +59,7 @@ pub struct OpenedDirectory<'a> {
     levels: u16,
 }
 
-// What the system's refusal is called.
+// Converts an error of the operating system.
 fn fault_of(error: io::Error) -> HostFault {
     if error.kind() == ErrorKind::OutOfMemory {
         HostFault::Memory
@@ -67,7 +68,7 @@ fn fault_of(error: io::Error) -> HostFault {
     }
 }
 
-// The names of a directory, in the order of their bytes.
+// Returns the names of a directory in the order of their bytes.
 fn names_of(rt: &HostRuntime, alloc: Global, path: &str) -> Result<Vec<String>, HostFault> {
     let entries = fs::read_dir(rt, path).map_err(fault_of)?;
     let mut names = Vec::new(alloc);
@@ -79,7 +80,7 @@ fn names_of(rt: &HostRuntime, alloc: Global, path: &str) -> Result<Vec<String>, 
     Ok(names)
 }
 
-// The path of a name in a directory.
+// Returns the path of a name in a directory.
 fn path_of(alloc: Global, directory: &str, name: &str) -> Result<String, AllocError> {
     let mut path = String::from_str(alloc, directory)?;
     path.push('/')?;
@@ -87,7 +88,7 @@ fn path_of(alloc: Global, directory: &str, name: &str) -> Result<String, AllocEr
     Ok(path)
 }
 
-// What tells a file or a link from every other.
+// Returns the identity of a file or link, which distinguishes it from every other.
 fn identity_of(metadata: &Metadata) -> Identity {
     Identity {
         device: metadata.dev(),
@@ -95,20 +96,20 @@ fn identity_of(metadata: &Metadata) -> Identity {
     }
 }
 
-// The text of a symbolic link.
+// Returns the text of a symbolic link.
 fn text_of(rt: &HostRuntime, alloc: Global, path: &str) -> Result<Vec<u8>, HostFault> {
     let text = fs::read_link(rt, path).map_err(fault_of)?;
     Ok(Vec::from_slice(alloc, text.as_str().as_bytes())?)
 }
 
-// A file, opened.
+// Opens a file.
 fn file_of(rt: &HostRuntime, path: &str) -> Result<ReadFile, HostFault> {
     let file = fs::open(rt, path).map_err(fault_of)?;
     Ok(ReadFile { file })
 }
 
 impl<'a> OpenedDirectory<'a> {
-    // The directory of a path, with so many levels below it.
+    // Opens the directory at a path, with the given number of levels below it.
     fn open(
         rt: &'a HostRuntime,
         alloc: Global,
@@ -127,7 +128,7 @@ impl<'a> OpenedDirectory<'a> {
         })
     }
 
-    // What stands under a path.
+    // Returns the node at a path.
     fn node(
         &self,
         alloc: Global,
@@ -185,7 +186,7 @@ impl<'a> HostDirectory for OpenedDirectory<'a> {
     }
 }
 
-/// A file of the system that was opened. What it will give is not known.
+/// An opened file of the operating system. Its contract does not know the bytes that it will give.
 #[derive(Drop)]
 pub struct ReadFile {
     file: File,

@@ -1,4 +1,4 @@
-//! The files of the system.
+//! Files of the operating system.
 ghost use Rattle.std.specs.Prelude.{◌≡◌, ◌≤◌, length, None, IfOk};
 ghost use Rattle.std.specs.String.{string_bytes};
 
@@ -9,21 +9,21 @@ use std::fs;
 use std::fs::File;
 use std::io::{Read, Write};
 
-/// The files of the system. What they have is not known.
+/// The files of the operating system. Their contracts do not know their bytes.
 #[derive(Clone, Copy)]
 pub struct HostFiles<'a> {
     rt: &'a HostRuntime,
 }
 
 impl<'a> HostFiles<'a> {
-    /// The files of the system of a runtime.
+    /// Returns the files of the operating system of a runtime.
     pub fn new(rt: &'a HostRuntime) -> HostFiles<'a>
         ensures { result.rt ≡ rt.entry }
     {
         HostFiles { rt }
     }
 
-    // The runtime.
+    // Returns the runtime.
     pub(crate) fn runtime(&self) -> &'a HostRuntime {
         self.rt
     }
@@ -76,7 +76,8 @@ impl<'a> Files for HostFiles<'a> {
     }
 }
 
-/// A sink over a file that is made, or emptied, at the first write. What it was given is not known.
+/// A sink over a file that is created or truncated at the first write. Its contract does not know the bytes that it
+/// received.
 #[derive(Drop)]
 pub struct WrittenFile<'a> {
     rt: &'a HostRuntime,
@@ -86,7 +87,7 @@ pub struct WrittenFile<'a> {
 }
 
 impl WrittenFile<'_> {
-    // Writes to the file, which is made or emptied where it is not open yet.
+    // Writes to the file, which is first created or truncated if it is not open.
     fn write_bytes(&mut self, buffer: &[u8]) -> Result<usize, Failed>
         ensures bound { IfOk result (λ n. n ≤ length buffer.now) }
         ensures name { self.new.name ≡ self.old.name }
@@ -131,7 +132,7 @@ impl Sink for WrittenFile<'_> {
     }
 }
 
-/// A source over an opened file. What it will give is not known.
+/// A source over an opened file. Its contract does not know the bytes that it will give.
 #[derive(Drop)]
 pub struct OpenedFile {
     file: File,

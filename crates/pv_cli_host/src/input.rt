@@ -1,10 +1,10 @@
-//! Sources over the readers of the system.
+//! Sources over readers of the operating system.
 ghost use Rattle.std.specs.Prelude.{◌≡◌, None};
 
 use pv_streams::{Failed, Source};
 use std::io::Read;
 
-/// A source over a reader. What it will give is not known.
+/// A source over a reader. Its contract does not know the bytes that it will give.
 #[derive(Drop)]
 pub struct Input<R: Drop> {
     reader: R,
@@ -13,7 +13,7 @@ pub struct Input<R: Drop> {
 }
 
 impl<R: Read + Drop> Input<R> {
-    /// A source over a reader that has given nothing and has not failed yet.
+    /// Returns a source over a reader, with no bytes given and no failures.
     pub fn new(reader: R) -> Input<R>
         ensures given { result.given ≡ 0 }
         ensures failures { result.failures ≡ 0 }

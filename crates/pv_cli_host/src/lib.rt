@@ -1,12 +1,10 @@
-//! Files, sources and sinks over what the system reads and writes.
+//! Sources, sinks, files and directories over the operating system.
 //!
-//! `files` has the system's files by their names: one that is opened for reading, and one that is made, or emptied, at its
-//! first write. `directories` has the system's directories by their names, which tell what they have, and `targets` those in which the
-//! tree of an image is made. `input` is the standard input, and `output` an output stream; all count what fails. Of their bytes
-//! no clause says anything: what a file or a stream of the system gives or takes is not known. That they meet the traits is
-//! proved.
-//!
-//! `screen` is the terminal on which a search shows how far it is: of that no clause says anything.
+//! `files` opens files by name: for reading, or for writing, in which case the file is created or truncated at the
+//! first write. `directories` reads directories for import, and `targets` has the directories to which an image is
+//! exported. `input` is the standard input, and `output` an output stream. All count their failures and are proved to
+//! implement their traits. Their contracts do not know the bytes that the operating system gives or takes. `screen` is
+//! the terminal on which a search reports its progress; it has no specification.
 #![tactic(auto)]
 
 pub mod directories;

@@ -1,10 +1,10 @@
-//! Sinks over the writers of the system.
+//! Sinks over writers of the operating system.
 ghost use Rattle.std.specs.Prelude.{◌≡◌, None};
 
 use pv_streams::{Failed, Sink};
 use std::io::Write;
 
-/// A sink over a writer. What it was given is not known.
+/// A sink over a writer. Its contract does not know the bytes that it received.
 #[derive(Drop)]
 pub struct Output<W: Drop> {
     writer: W,
@@ -12,7 +12,7 @@ pub struct Output<W: Drop> {
 }
 
 impl<W: Write + Drop> Output<W> {
-    /// A sink over a writer that has not failed yet.
+    /// Returns a sink over a writer, with no failures.
     pub fn new(writer: W) -> Output<W>
         ensures { result.failures ≡ 0 }
     {

@@ -7,30 +7,30 @@ use std::io::{IsTerminal, Write};
 use std::time::{Duration, Instant};
 use std::{fmt, io};
 
-// After how many milliseconds a search shows something first.
+// The delay in milliseconds before a search first shows its progress.
 const FIRST: u64 = 1_000;
 
-// After how many more it may show the next.
+// The minimum interval in milliseconds between two reports.
 const NEXT: u64 = 200;
 
-// What takes a line away: blanks over the longest.
+// The bytes that erase a line: blanks over the longest line.
 const WIPE: &[u8] = b"\r                                                            \r";
 
-/// The terminal of the standard error, on which a line is rewritten in place. Where the standard error is no terminal, nothing is
-/// shown; where a write to it fails, nothing more is.
+/// The terminal of the standard error, on which one line is rewritten in place. If the standard error is not a
+/// terminal, nothing is shown. After a failed write, nothing more is shown.
 #[derive(Drop)]
 pub struct Screen<'a> {
     rt: &'a HostRuntime,
-    // Whether the standard output is a terminal too.
+    // Whether the standard output is also a terminal.
     is_shared: bool,
     // Whether a line may be shown.
     is_free: Cell<bool>,
-    // Whether a line stands there.
+    // Whether a line is currently shown.
     is_shown: Cell<bool>,
 }
 
 impl<'a> Screen<'a> {
-    /// The screen of a runtime, on which nothing is shown yet.
+    /// Returns the screen of a runtime, on which nothing is shown.
     pub fn new(rt: &'a HostRuntime) -> Screen<'a>
         ensures { result.rt ≡ rt.entry }
     {
@@ -42,17 +42,17 @@ impl<'a> Screen<'a> {
         }
     }
 
-    // Writes to the terminal; where that fails, nothing more is shown.
+    // Writes to the terminal. If that fails, nothing more is shown.
     fn write(&self, bytes: &[u8]) {
         if self.rt.stderr().write_all(bytes).is_err() {
             self.is_free.set(false);
         }
     }
 
-    // Shows how far a search is, in place of what was shown before.
+    // Shows the progress of a search in place of the current line.
     fn show(&self, found: usize, left: usize) {
         let (found, left) = (Grouped(found), Grouped(left));
-        let Ok(text) = format!(in self.rt.alloc(); "pvsim: {found} states found, {left} left")
+        let Ok(text) = format!(in self.rt.alloc(); "pvsim: {found} states visited, {left} queued")
         else {
             return;
         };
@@ -63,7 +63,7 @@ impl<'a> Screen<'a> {
         self.write(line.as_bytes());
     }
 
-    /// Takes away what is shown.
+    /// Erases the current line.
     pub fn wipe(&self) {
         if self.is_shown.replace(false) {
             self.write(WIPE);
@@ -71,7 +71,7 @@ impl<'a> Screen<'a> {
     }
 }
 
-// A number, its digits in groups of three.
+// A number with its digits in groups of three.
 #[derive(Clone, Copy)]
 struct Grouped(usize);
 
@@ -89,16 +89,16 @@ impl fmt::Display for Grouped {
     }
 }
 
-/// The progress of a search on a screen: nothing in the first second, and then how far it is, at most five times a second.
+/// The progress of a search on a screen. It shows nothing in the first second, and then at most five reports a second.
 #[derive(Drop)]
 pub struct Shown<'a> {
     screen: &'a Screen<'a>,
-    // When it may be shown next, once the search has begun.
+    // The time from which the next report may be shown, once the search has begun.
     due: Option<Instant>,
 }
 
 impl<'a> Shown<'a> {
-    /// Of a search that has not begun.
+    /// Returns the progress of a search that has not begun.
     pub fn new(screen: &'a Screen<'a>) -> Shown<'a>
         ensures screen { result.screen ≡ screen.entry }
         ensures due { result.due ≡ None }
@@ -106,7 +106,7 @@ impl<'a> Shown<'a> {
         Shown { screen, due: None }
     }
 
-    // Whether it is time to show how far it is. Where the clock fails it never is.
+    // Returns whether the next report is due. If the clock fails, no report is due.
     fn is_due(&mut self) -> bool {
         let Ok(now) = Instant::now(self.screen.rt) else {
             return false;
@@ -136,8 +136,8 @@ impl Progress for Shown<'_> {
     }
 }
 
-/// A writer to the standard output. Where that is a terminal, it takes the screen for itself when it writes first: what is shown is
-/// taken away, and nothing more is shown.
+/// A writer to the standard output. If that is a terminal, the first write erases the progress line, and nothing more
+/// is shown on the screen.
 #[derive(Drop)]
 pub struct ScreenWriter<'a, W: Drop> {
     screen: &'a Screen<'a>,
@@ -145,7 +145,7 @@ pub struct ScreenWriter<'a, W: Drop> {
 }
 
 impl<'a, W: Write + Drop> ScreenWriter<'a, W> {
-    /// Over a writer to the standard output.
+    /// Returns a writer over a writer to the standard output.
     pub fn new(screen: &'a Screen<'a>, writer: W) -> ScreenWriter<'a, W>
         ensures screen { result.screen ≡ screen.entry }
         ensures writer { result.writer ≡ writer }

@@ -1,4 +1,4 @@
-//! The directories of the system in which the tree of an image is made.
+//! Directories of the operating system, for export.
 ghost use Rattle.std.specs.Prelude.{◌≡◌, None, IfOk};
 ghost use Rattle.std.specs.String.{string_bytes};
 
@@ -9,27 +9,28 @@ use std::io::{ErrorKind, Write};
 use std::os::unix::fs::{OpenOptionsExt, symlink};
 use std::{fs, io};
 
-// The modes of a file that may not be executed, and of one that may; the mask of the process takes bits from them.
+// The modes of a file that is not executable and of one that is, before the umask of the process.
 const PLAIN: u32 = 0o644;
 
 const EXECUTABLE: u32 = 0o755;
 
-/// A directory of the system, in which the tree of an image is made. What was made there is not known.
+/// A directory of the operating system in which the tree of an image is made. Its contract does not know what was made
+/// there.
 ///
-/// Each call of the system makes what was not there, and follows no link at the end of a path: where something is there, even a
-/// dangling link, it fails. What stands before the end of a path is a directory that was made before, under a name that the
-/// tree has once: so no link stands on the way. No name of a tree is `.` or `..`, or has a slash or a byte 0
-/// (`pv_model::is_name`, which a mounted image and a manifest's entries are judged by): so no path leads out of the
-/// directory. A link's text may lead anywhere: it is written, and not followed.
+/// No path can lead out of the directory. Each system call creates a file or directory that does not exist, and follows
+/// no link at the end of its path: if anything exists there, even a dangling link, the call fails. Every other
+/// component of a path is a directory that was made earlier, under a name that is unique in the tree, so no component
+/// is a link. No name of a tree is `.` or `..`, or contains a slash or a zero byte (`pv_model::is_name`, which mounting
+/// and manifests check). The text of a link may lead anywhere; it is written, and not followed.
 ///
-/// A name or a link's text that is no text in UTF-8 can't be made.
+/// A name or a link's text that is not UTF-8 can't be made.
 #[derive(Drop)]
 pub struct MadeDirectory<'a> {
     rt: &'a HostRuntime,
     name: String,
 }
 
-// What the system's refusal is called.
+// Converts an error of the operating system.
 fn fault_of(error: io::Error) -> TargetFault {
     if error.kind() == ErrorKind::OutOfMemory {
         TargetFault::Memory
@@ -38,12 +39,13 @@ fn fault_of(error: io::Error) -> TargetFault {
     }
 }
 
-// A text of an image as one of the system.
+// Converts a text of an image to a string.
 fn text_of(bytes: &[u8]) -> Result<&str, TargetFault> {
     std::str::from_utf8(bytes).map_err(|_| TargetFault::Make)
 }
 
-// A path without the slashes at its end, after which a link would be followed; the root's is a slash.
+// Returns a path without trailing slashes, because a link before them would be followed. The path of the root stays a
+// slash.
 fn without_slashes(path: &str) -> &str {
     match path.trim_end_matches('/') {
         "" => path,
@@ -51,7 +53,7 @@ fn without_slashes(path: &str) -> &str {
     }
 }
 
-// Whether a path has nothing: it has something, or can't be looked at, where the system says neither.
+// Returns whether nothing exists at a path. If the path can't be inspected, something is assumed to exist.
 fn is_absent(rt: &HostRuntime, path: &str) -> bool {
     match fs::symlink_metadata(rt, path) {
         Ok(_) => false,
@@ -59,7 +61,7 @@ fn is_absent(rt: &HostRuntime, path: &str) -> bool {
     }
 }
 
-// Whether a path has a directory, and no link to one, that has nothing.
+// Returns whether an empty directory exists at a path. A symbolic link to a directory does not count.
 fn is_empty(rt: &HostRuntime, path: &str) -> Result<bool, TargetFault> {
     let metadata = fs::symlink_metadata(rt, path).map_err(fault_of)?;
     if !metadata.is_dir() {
@@ -70,11 +72,13 @@ fn is_empty(rt: &HostRuntime, path: &str) -> Result<bool, TargetFault> {
 }
 
 impl<'a> MadeDirectory<'a> {
-    /// The directory of a name: it is made where nothing is there, and else it is one that has nothing, and no link.
+    /// Returns the directory with a name. It is created if it does not exist; otherwise it must be an empty directory,
+    /// not a symbolic link.
     ///
     /// # Errors
     ///
-    /// `Make` where it is not made, is something else, or can't be read; `Memory` where memory was refused.
+    /// - `Make`, if it cannot be created, is something else, or cannot be read.
+    /// - `Memory`, if there is no memory.
     pub(crate) fn create(
         rt: &'a HostRuntime,
         alloc: Global,
@@ -94,7 +98,7 @@ impl<'a> MadeDirectory<'a> {
         })
     }
 
-    // The path of the system.
+    // Returns the path in the operating system.
     fn path_of(&self, alloc: Global, path: &[u8]) -> Result<String, TargetFault> {
         let mut whole = String::from_str(alloc, without_slashes(self.name.as_str()))?;
         whole.push_str(text_of(path)?)?;

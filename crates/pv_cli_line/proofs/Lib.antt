@@ -1,3 +1,3 @@
--- Lemmas of the command line: LineLemmas (what the matches of a line say of its command), Sizes (numbers that words spell).
+-- Lemmas about the command line: LineLemmas (the command in the matches of a line), Sizes (numbers in words).
 pub mod LineLemmas
 pub mod Sizes

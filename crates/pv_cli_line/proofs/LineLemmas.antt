@@ -1,4 +1,4 @@
--- What the matches of a line, and a refusal of its parser, say of the command that it asks for.
+-- The matches of a line, or its refusal by the parser, and the command that it asks for.
 use Rattle.std.proofs.Common.{◌≡◌, ◌⊎◌, ◌∙◌, ap, sym, subst, inl, inr, true, false, arith, if◌then◌else◌, bytes_eq, ℕ, List, [], ◌∷◌, length, map, codes, Option, None, Some, option_map, refl}
 use Rattle.std.proofs.lemmas.Bool.{and_parts, false_from_ne_true}
 use Rattle.std.proofs.lemmas.List.{length-map}
@@ -24,12 +24,12 @@ use Rattle.pv_questions.specs.declared.question.Question.TheVariants.{State, Rea
 use Rattle.pv_questions.specs.declared.question.TreeQuestion.TheVariants.{Listing, File, Turns, Explore, Graph}
 use Rattle.pv_cli_line.specs.declared.command.LineFault.{LineFault}
 use Rattle.pv_cli_line.specs.declared.command.LineFault.TheVariants as line
-use Rattle.pv_cli_line.specs.declared.found.Migration.{Migration}
-use Rattle.pv_cli_line.specs.Line.{HasTexts, IsCommandIn, IsMigrationOf, IsPlain, IsPlainQuestion, IsQuestionIn, IsRefused, IsRunIn, IsTreeIn, IsWholeRunIn, IsWholeTreeIn, IsWithoutNumbers, RefusesLine, RefusesWords, entered_text, is_given, is_verbose_in, is_verbose_line, of_kind, of_parser}
+use Rattle.pv_cli_line.specs.declared.matches.Migration.{Migration}
+use Rattle.pv_cli_line.specs.Line.{HasTexts, IsCommandIn, IsMigrationOf, IsPlain, IsPlainQuestion, IsQuestionIn, IsRefused, IsRunIn, IsTreeIn, IsValidRunIn, IsValidTreeIn, IsWithoutNumbers, RefusesLine, RefusesWords, entered_text, is_given, is_verbose_in, is_verbose_line, of_kind, of_parser}
 use Rattle.pv_cli_line.specs.Parser.{pvsim_app}
 
 module _ {Z : Type 0} where
-  -- a subcommand's name and its rows
+  -- the name of a subcommand, and its rows
   pub entered_is : (o : Option (Box SubCommand Z)) (name : Text) (rows : List Row)
       → option_map (λ b. (out-SubCommand (box_value b)).name.now) o ≡ Some name
       → option_map (λ p. p.1) (subcommand_rows o) ≡ Some rows
@@ -37,7 +37,7 @@ module _ {Z : Type 0} where
   entered_is None name rows n r = cc
   entered_is (Some b) name rows n r = cc
 
-  -- the text of an argument of the command that was entered
+  -- the text of an argument of the entered command
   pub text-entered : (o : Option (Box SubCommand Z)) (name argument : Text) (rows : List Row)
       → option_map (λ b. (out-SubCommand (box_value b)).name.now) o ≡ Some name
       → option_map (λ p. p.1) (subcommand_rows o) ≡ Some rows
@@ -46,7 +46,7 @@ module _ {Z : Type 0} where
       ap (λ entered. entered_text entered name argument) (entered_is o name rows n r)
       ∙ ap (λ b. if b then first_of argument rows else None) ((bytes_eq-Decides name name).1 refl)
 
-  -- and none of another command
+  -- another command has no text
   pub text-other : (o : Option (Box SubCommand Z)) (name argument : Text)
       → (option_map (λ b. (out-SubCommand (box_value b)).name.now) o ≡ Some name → ⊥)
       → entered_text (subcommand_rows o) name argument ≡ None
@@ -56,7 +56,7 @@ module _ {Z : Type 0} where
       ap (λ x. if x then first_of argument (rows_of (found_of (out-SubCommand (box_value b)).matches)) else None)
       (false_from_ne_true (bytes_eq entered name) (λ same. other (ap Some ((bytes_eq-Decides entered name).0 same))))
 
--- the flag of the command that was entered
+-- the flag of the entered command
 pub verbose-entered : (entered : Option (Text × List Row)) (rows : List Row) → option_map (λ p. p.1) entered ≡ Some rows
     → is_verbose_in entered ≡ is_given (first_of (codes "verbose") rows)
 verbose-entered None rows r = cc
@@ -68,7 +68,7 @@ verbose-wordless text [] few = refl
 verbose-wordless text (program ∷ []) few = refl
 verbose-wordless text (program ∷ word ∷ words) few = absurd (omega (arith, few))
 
--- ---- where no command has its texts there is none
+-- ---- if no command has its texts, there is no command
 
 module _ (entered : Option (Text × List Row)) where
   pub no_plain_command :
@@ -91,8 +91,8 @@ module _ (entered : Option (Text × List Row)) where
   no_plain_command tree source made ran exports (AskTree question tree-of) plain is = absurd plain
 
   pub no_plain_question :
-      ((run : RunInput) → IsWholeRunIn entered (codes "state") run → ⊥) → ((run : RunInput) → IsWholeRunIn entered (codes "explain") run → ⊥)
-      → ((run : RunInput) → IsWholeRunIn entered (codes "needs") run → ⊥)
+      ((run : RunInput) → IsValidRunIn entered (codes "state") run → ⊥) → ((run : RunInput) → IsValidRunIn entered (codes "explain") run → ⊥)
+      → ((run : RunInput) → IsValidRunIn entered (codes "needs") run → ⊥)
       → (question : Question) (run : RunInput) → IsPlainQuestion question → IsQuestionIn entered question run → ⊥
   no_plain_question state explain needs State run plain is = state run is
   no_plain_question state explain needs Explain run plain is = explain run is
@@ -101,7 +101,7 @@ module _ (entered : Option (Text × List Row)) where
   no_plain_question state explain needs (Audit path) run plain is = absurd plain
 
   pub no_command :
-      ((command : Command) → IsPlain command → IsCommandIn entered command → ⊥) → ((tree : TreeInput) → IsWholeTreeIn entered (codes "ls") tree → ⊥)
+      ((command : Command) → IsPlain command → IsCommandIn entered command → ⊥) → ((tree : TreeInput) → IsValidTreeIn entered (codes "ls") tree → ⊥)
       → ((path : Text) (tree : TreeInput) → IsTreeIn entered (codes "cat") (codes "PATH") tree (Some path) → ⊥)
       → ((run : RunInput) (further : Option Text) → IsRunIn entered (codes "audit") (codes "PATH") run further → ⊥)
       → ((question : Question) (run : RunInput) → IsPlainQuestion question → IsQuestionIn entered question run → ⊥)
@@ -132,9 +132,9 @@ module _ (entered : Option (Text × List Row)) where
       ((command : Command) → IsWithoutNumbers command → IsCommandIn entered command → ⊥)
       → ((image out blocks inodes : Text) → HasTexts entered image out blocks inodes → ⊥)
       → ((directory image : Text) → entered_text entered (codes "import") (codes "DIR") ≡ Some directory → entered_text entered (codes "import") (codes "IMAGE") ≡ Some image → ⊥)
-      → ((tree : TreeInput) → IsWholeTreeIn entered (codes "turns") tree → ⊥)
-      → ((tree : TreeInput) → IsWholeTreeIn entered (codes "explore") tree → ⊥)
-      → ((tree : TreeInput) → IsWholeTreeIn entered (codes "graph") tree → ⊥)
+      → ((tree : TreeInput) → IsValidTreeIn entered (codes "turns") tree → ⊥)
+      → ((tree : TreeInput) → IsValidTreeIn entered (codes "explore") tree → ⊥)
+      → ((tree : TreeInput) → IsValidTreeIn entered (codes "graph") tree → ⊥)
       → ((pid : Option ℕ) (run : RunInput) → IsQuestionIn entered (Reach pid) run → ⊥)
       → (command : Command) → IsCommandIn entered command → ⊥
   no_command_at_all other migrates imports turns explores graphs reaches (RunTree file) is = other (RunTree file) tt is
@@ -158,7 +158,7 @@ module _ (entered : Option (Text × List Row)) where
   no_command_at_all other migrates imports turns explores graphs reaches (AskTree (Explore states) tree) is = explores tree is.0
   no_command_at_all other migrates imports turns explores graphs reaches (AskTree (Graph states lists_tree) tree) is = graphs tree is.0
 
-  -- one text stands after what is run, and after what has a tree
+  -- the text after an input is determined by the matches
   module _ (command last : Text) where
     pub run_further : (run other : RunInput) (further another : Option Text) → IsRunIn entered command last run further → IsRunIn entered command last other another
         → further ≡ another
@@ -174,27 +174,27 @@ module _ (entered : Option (Text × List Row)) where
     tree_further (Manifest manifest) (Image image) further another is at = let both : None ≡ Some manifest.now = sym at.0 ∙ is.0 in cc both
     tree_further (Manifest manifest) (Manifest manifest') further another is at = sym is.1 ∙ at.1
 
--- the command of a migration's texts is the one that stands there
-pub migration-stands : (entered : Option (Text × List Row)) (texts : Migration) (command : Command)
+-- the command with a migration's texts is the one in the matches
+pub migration-appears : (entered : Option (Text × List Row)) (texts : Migration) (command : Command)
     → HasTexts entered texts.image.now texts.out.now texts.blocks.now texts.inodes.now → IsMigrationOf texts command → IsCommandIn entered command
-migration-stands entered texts (MigrateImage image out blocks inodes) h is = (
+migration-appears entered texts (MigrateImage image out blocks inodes) h is = (
   h.has_image ∙ ap Some (sym is.0),
   h.has_out ∙ ap Some (sym is.1),
   record { word = texts.blocks.now; is_entered = h.has_blocks; is_size = is.2 },
   record { word = texts.inodes.now; is_entered = h.has_inodes; is_size = is.3 },
 )
-migration-stands entered texts (RunTree file) h is = absurd is
-migration-stands entered texts (WriteSource file) h is = absurd is
-migration-stands entered texts (ListImage image) h is = absurd is
-migration-stands entered texts (MakeImage manifest image) h is = absurd is
-migration-stands entered texts (RunImage image schedule out) h is = absurd is
-migration-stands entered texts (ImportDirectory directory image version skips) h is = absurd is
-migration-stands entered texts (ExportImage image directory) h is = absurd is
-migration-stands entered texts (AuditImage image schedule path) h is = absurd is
-migration-stands entered texts (Ask question run) h is = absurd is
-migration-stands entered texts (AskTree question tree) h is = absurd is
+migration-appears entered texts (RunTree file) h is = absurd is
+migration-appears entered texts (WriteSource file) h is = absurd is
+migration-appears entered texts (ListImage image) h is = absurd is
+migration-appears entered texts (MakeImage manifest image) h is = absurd is
+migration-appears entered texts (RunImage image schedule out) h is = absurd is
+migration-appears entered texts (ImportDirectory directory image version skips) h is = absurd is
+migration-appears entered texts (ExportImage image directory) h is = absurd is
+migration-appears entered texts (AuditImage image schedule path) h is = absurd is
+migration-appears entered texts (Ask question run) h is = absurd is
+migration-appears entered texts (AskTree question tree) h is = absurd is
 
--- what the parser refuses, or want of memory
+-- a refusal by the parser, or out of memory
 pub refused_by_kind : (words : List Text) (error : Error) (kind : ErrorKind) → kind_of error ≡ kind
     → (takes pvsim_app words ≡ true → kind_of error ≡ OutOfMemory)
     → HasKind (fault_of pvsim_app words) error
@@ -206,7 +206,7 @@ refused_by_kind words error kind is passes has = record {
     | inl memory ↦ let bad : ⊥ = cc in absurd bad
     | inr among ↦ inl among
   ];
-  none = λ taken command stands. let memory = passes taken in cc;
+  none = λ taken command appears. let memory = passes taken in cc;
 }
 
 pub refused_by_parser : (words : List Text) (error : Error)
@@ -215,20 +215,20 @@ pub refused_by_parser : (words : List Text) (error : Error)
     → RefusesWords words (of_parser error)
 refused_by_parser words error passes has = refused_by_kind words error (kind_of error) refl passes has
 
--- the answer of a line that the parser refuses
+-- the result for a line that the parser refuses
 pub refused_result : {T : Type 0} (r : Result T LineFault) (fault : LineFault) (Q : LineFault → Type 0)
     → IsErrAnd r (λ given. given ≡ fault) → Q fault → IfErr r Q
 refused_result (Ok value) fault Q h q = tt
 refused_result (Err given) fault Q h q = rw h q
 
--- what is refused of more than one word
+-- a refusal of more than one word
 pub refused_line : {S T : Type 0} (text : S → Text) (words : List S) (r : Result T LineFault) → 1 < length words → IfErr r (RefusesWords (map text words)) → IfErr r (RefusesLine (map text words))
 refused_line text words (Ok value) long refuses = tt
 refused_line text words (Err line.Memory) long refuses = tt
 refused_line text words (Err line.Number) long refuses = (subst (λ (n : ℕ). 1 < n) (sym (length-map words text)) long, refuses)
 refused_line text words (Err (line.Parser error)) long refuses = (subst (λ (n : ℕ). 1 < n) (sym (length-map words text)) long, refuses)
 
--- the parser is one of which clap tells the matches and the faults
+-- `clap` specifies the matches and the errors of this parser
 pub pvsim_is_simple : is_simple_and_free pvsim_app ≡ true
 unfolding clap_on_literals
 pvsim_is_simple = refl
@@ -237,17 +237,17 @@ pvsim_is_simple = refl
 pub pvsim_has_matches : is_simple pvsim_app ≡ true
 pvsim_has_matches = (and_parts (is_simple pvsim_app) _ pvsim_is_simple).0
 
--- ---- what is answered where the parser takes the words
+-- ---- the result if the parser accepts the words
 
 pub none_by : {X : Type 0} (o : Option X) → ((x : X) → o ≡ Some x → ⊥) → o ≡ None
 none_by None never = refl
 none_by (Some x) never = absurd (never x refl)
 
--- words in which no command stands
+-- the words have no command
 pub nothing-asked : (words : List Text) (entered : Option (Text × List Row)) → entered ≡ subcommand_of pvsim_app words → (error : Error) → kind_of error ≡ MissingRequiredArgument
     → ((command : Command) → IsCommandIn entered command → ⊥) → IsRefused words error
-nothing-asked words entered stands error is none = record {
+nothing-asked words entered appears error is none = record {
   kind = λ memory. let both = sym is ∙ memory in cc both;
   is_among = inr is;
-  none = λ taken command there. none command (subst (λ (e : Option (Text × List Row)). IsCommandIn e command) (sym stands) there);
+  none = λ taken command there. none command (subst (λ (e : Option (Text × List Row)). IsCommandIn e command) (sym appears) there);
 }

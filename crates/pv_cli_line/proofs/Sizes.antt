@@ -1,11 +1,11 @@
--- Numbers that words spell: a reader holds what is greater at the greatest of 32 bits, which one word alone spells.
+-- Numbers in words: the parser of decimals saturates at the maximum of 32 bits, which only one word denotes.
 use Rattle.std.proofs.Common.{◌≡◌, ◌≢◌, ℕ, min, Option, None, Some, option_map, codes, refl, ap, sym, ◌∙◌, ⊎_elim, arith}
 use Rattle.std.specs.Prelude.{if◌then◌else◌, nat_le}
 use Rattle.std.proofs.lemmas.Bool.{le-leb, leb-true, cases_Bool}
 use Rattle.pv_model.specs.Bytes.{Bytes}
 use Rattle.pv_model.specs.Grammar.Arguments.{in_range}
 use Rattle.pv_model.specs.Grammar.Lines.{decimal_of}
-use Rattle.pv_laws_grammar.proofs.Decimals.{Decimal-decimal_of, Decimal-spelled}
+use Rattle.pv_laws_grammar.proofs.Decimals.{Decimal-decimal_of, Decimal-encoded}
 use Rattle.pv_text.specs.Reading.{held_of, up_to_greatest}
 use Rattle.pv_cli_line.specs.Line.{size_in}
 
@@ -19,10 +19,10 @@ size-greatest = refl
 abbrev held : Option ℕ → Option ℕ
 held o = option_map up_to_greatest o
 
-one-spelling : (word : Bytes) → decimal_of word ≡ Some greatest → word ≡ codes "4294967295"
-one-spelling word is =
-    Decimal-spelled greatest word (Decimal-decimal_of word greatest is) (omega arith)
-    ∙ sym (Decimal-spelled greatest (codes "4294967295") (Decimal-decimal_of (codes "4294967295") greatest refl) (omega arith))
+one-encoding : (word : Bytes) → decimal_of word ≡ Some greatest → word ≡ codes "4294967295"
+one-encoding word is =
+    Decimal-encoded greatest word (Decimal-decimal_of word greatest is) (omega arith)
+    ∙ sym (Decimal-encoded greatest (codes "4294967295") (Decimal-decimal_of (codes "4294967295") greatest refl) (omega arith))
 
 module _ (word : Bytes) where
   pub size-none : held_of word ≡ None → size_in word ≡ None
@@ -33,7 +33,7 @@ module _ (word : Bytes) where
       by None none = refl
       by (Some n) none = cc none
 
-  -- it is in range, or the reader holds it
+  -- a number below the maximum is in range
   pub size-less : (n : ℕ) → held_of word ≡ Some n → n ≢ 4294967295 → size_in word ≡ Some n
   unfolding size_in
   size-less n is other = by (decimal_of word) is
@@ -53,6 +53,6 @@ module _ (word : Bytes) where
       by None at none = cc none
       by (Some m) at found =
           let same : min m greatest ≡ greatest = cc found in
-          let past : m ≢ greatest = λ e. other (one-spelling word (at ∙ ap Some e)) in
+          let past : m ≢ greatest = λ e. other (one-encoding word (at ∙ ap Some e)) in
           ap (λ b. if b then Some m else None)
           (⊎_elim (λ within. let low = leb-true m greatest within in absurd (omega (arith, low, same, past))) (λ over. over) (cases_Bool (nat_le m greatest)))

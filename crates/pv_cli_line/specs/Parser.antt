@@ -1,4 +1,4 @@
--- What the parser is told of the program.
+-- The program as its parser knows it.
 use Rattle.std.specs.Prelude.{◌≡◌, List, [], ◌∷◌, ◌++◌, true, false, codes, fold, map, Some}
 use Rattle.clap.specs.Words.{App, Rule, Text, app_of, new_app, new_rule, with_rule, with_subcommand}
 use Rattle.clap.specs.declared.builder.ArgAction.TheVariants.{Set, SetTrue}
@@ -8,19 +8,19 @@ use Rattle.pv_cli_line.specs.declared.parser.Argument.{Argument}
 use Rattle.pv_cli_line.specs.declared.parser.Argument.TheVariants.{Required, Optional, Named, Flag}
 use Rattle.pv_cli_line.specs.declared.parser.CommandRow.{CommandRow}
 
--- one text
+-- an optional text
 abbrev pub optional_rule : Text → Rule
 optional_rule name = record (new_rule name) { action = Some Set }
 
--- one that must be there
+-- a required text
 abbrev pub text_rule : Text → Rule
 text_rule name = record (optional_rule name) { required = true }
 
--- an option that has one text
+-- an option with one text
 abbrev pub long_rule : Text → Rule
 long_rule name = record (optional_rule name) { long = Some name; value_names = 1 }
 
--- a bundle in place of an image and a schedule
+-- a bundle, in place of an image and a schedule
 abbrev pub bundle_rule : Rule
 bundle_rule = record (long_rule (codes "bundle")) { short = Some 98 }
 
@@ -28,11 +28,11 @@ bundle_rule = record (long_rule (codes "bundle")) { short = Some 98 }
 abbrev pub flag_rule : Text → Rule
 flag_rule name = record (new_rule name) { action = Some SetTrue; long = Some name }
 
--- the flag that asks for more to be told of a fault
+-- the flag that asks for an explanation of errors
 abbrev pub verbose_rule : Rule
 verbose_rule = record (flag_rule (codes "verbose")) { short = Some 118 }
 
--- a command: each takes that flag, and then its own
+-- a command: it takes this flag, and then its own arguments
 abbrev pub command_app : Text → List Rule → App
 command_app name rules = fold with_rule (with_rule (new_app name) verbose_rule) rules
 
@@ -48,9 +48,8 @@ question_rules = tree_rules ++ optional_rule (codes "SCHEDULE") ∷ []
 abbrev pub search_rules : List Rule
 search_rules = tree_rules ++ long_rule (codes "states") ∷ []
 
--- the commands: those on bundles and sources, those that make an image and list one, those that run an image and audit what is left,
--- the questions of the state that a run leaves, those of its steps, those of a tree and of all states, and those that make an image of
--- another and of a directory, and a directory of an image
+-- the commands: on bundles and sources; to make and list an image; to run and audit an image; questions about the state
+-- after a run, about its steps, and about a tree and all states; to migrate an image; to import and export a directory
 abbrev pub command_apps : List App
 command_apps =
     command_app (codes "run-tree") (text_rule (codes "FILE") ∷ [])
@@ -74,40 +73,40 @@ command_apps =
     ∷ command_app (codes "export") (text_rule (codes "IMAGE") ∷ text_rule (codes "DIR") ∷ [])
     ∷ []
 
--- the program's own: it has a version, and wants a command
+-- the program without commands: it has a version and requires a command
 abbrev pub bare_app : App
 bare_app = record (new_app (codes "pvsim")) {
   top = record (new_app (codes "pvsim")).top { has_version = true; subcommand_required = true };
 }
 
--- with a command more
+-- the program with another command
 abbrev pub with_command : App → App → App
 with_command app command = with_subcommand app command.top
 
--- the program, with its commands
+-- the program with its commands
 abbrev pub pvsim_app : App
 pvsim_app = fold with_command bare_app command_apps
 
--- what the parser is told of an argument of the table
+-- the rule of an argument in the table
 abbrev pub rule_of_argument : Argument → Rule
 rule_of_argument (Required name help) = text_rule name.now
 rule_of_argument (Optional name help) = optional_rule name.now
 rule_of_argument (Named name short value help) = record (long_rule name.now) { short = short }
 rule_of_argument (Flag name short help) = record (flag_rule name.now) { short = short }
 
--- with more arguments of it
+-- the command with more arguments of the table
 abbrev pub with_arguments : App → List Argument → App
 with_arguments app arguments = fold with_rule app (map rule_of_argument arguments)
 
--- a command of it
+-- the command of a row of the table
 abbrev pub app_of_row : CommandRow → App
 app_of_row row = command_app row.name.now (map rule_of_argument row.arguments.now)
 
--- with more commands of it
+-- the program with more rows of the table
 abbrev pub with_rows : App → List CommandRow → App
 with_rows app rows = fold with_command app (map app_of_row rows)
 
--- a parser that reads just this
+-- the parser accepts exactly this
 pub record IsParserOf (app : App) (parser : Parser) : Type 0 where
   pub app_is : app_of parser ≡ app
   pub no_globals : (out-Command parser).has_globals ≡ false

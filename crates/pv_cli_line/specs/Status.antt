@@ -1,4 +1,5 @@
--- The exit status: 0 done, 1 refused input, 2 the command line, 3 memory, 4 a failed read or write.
+-- The exit status: 0 for success, 1 for invalid input, 2 for the command line, 3 for out of memory, 4 for a failed read
+-- or write.
 use Rattle.std.specs.Prelude.{◌≡◌, ◌⊎◌, ℕ, Result, Ok, Err}
 use Rattle.clap.specs.Words.{kind_of}
 use Rattle.clap.specs.declared.error.kind.ErrorKind.{ErrorKind}
@@ -9,7 +10,7 @@ use Rattle.pv_cli_line.specs.declared.command.LineFault.TheVariants as line
 use Rattle.pv_cli_line.specs.declared.fault.Fault.{Fault}
 use Rattle.pv_cli_line.specs.declared.fault.Fault.TheVariants.{Command, Line, Words, Write}
 
--- help and the version are what was asked for; else the words are wrong
+-- help and the version were requested; any other result of the parser is an error in the words
 abbrev pub kind_status : ErrorKind → ℕ
 kind_status DisplayHelp = 0
 kind_status DisplayVersion = 0
@@ -26,11 +27,11 @@ status_of (Line fault) = line_status fault
 status_of Words = 2
 status_of Write = 4
 
--- what a run ends with
+-- the exit status of a run
 abbrev pub status_of_result : Result (Unit {0}) Fault → ℕ
 status_of_result (Ok done) = 0
 status_of_result (Err fault) = status_of fault
 
--- that status, or 4 where what was asked for could not be written
+-- this status, or 4 if the requested text could not be written
 abbrev pub IsStatusOf : Result (Unit {0}) Fault → ℕ → Type 0
 IsStatusOf result status = (status ≡ status_of_result result) ⊎ ((status_of_result result ≡ 0) × (status ≡ 4))

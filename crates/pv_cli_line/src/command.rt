@@ -4,7 +4,7 @@ ghost use Rattle.clap.specs.Words.{subcommand_of};
 ghost use Rattle.pv_cli_line.specs.Line.{IsAsked, IsCommandIn, RefusesLine, RefusesWords, is_verbose_in, is_verbose_line};
 ghost use Rattle.pv_cli_line.specs.Parser.{pvsim_app};
 
-use crate::found::{Found, found_in};
+use crate::matches::{Parsed, found_in};
 use crate::parser::parser;
 use crate::texts::is_verbose;
 use clap::Error as ParserError;
@@ -14,16 +14,16 @@ use std::alloc::{AllocError, Global};
 use std::convert::AsStr;
 use thiserror::Error;
 
-/// Why a command line is none.
+/// An error in the command line.
 #[derive(Debug, Drop, Error)]
 pub enum LineFault {
-    /// The parser's refusal; also the text of `--help` and `--version`.
+    /// The error of the parser, or the text of `--help` or `--version`.
     #[error("{0}")]
     Parser(ParserError),
-    /// A number is none, or out of range.
+    /// An argument is not a number, or is out of range.
     #[error("pvsim: number\n")]
     Number,
-    /// Memory was refused.
+    /// There is no memory.
     #[error("pvsim: memory\n")]
     Memory,
 }
@@ -52,16 +52,16 @@ impl From<ParserError> for LineFault {
     }
 }
 
-/// What a command line asks for.
+/// A parsed command line.
 #[derive(Clone, Copy, Debug, PartialEq, Eq)]
 pub struct CommandLine<'a> {
     /// The command.
     pub command: Command<'a>,
-    /// Whether more is to be told of a fault than its line.
+    /// Whether the flag `verbose` is set: an error is explained in more lines.
     pub is_verbose: bool,
 }
 
-// What the words ask of the parser.
+// Parses the words of a command line.
 fn parsed<'a, S: AsStr>(alloc: Global, words: &'a [S]) -> Result<CommandLine<'a>, LineFault>
     ensures asked { IfOk result (λ line. IsCommandIn (subcommand_of pvsim_app (map S.text words.entry.now)) line.command) }
     ensures verbose { IfOk result (λ line. line.is_verbose ≡ is_verbose_in (subcommand_of pvsim_app (map S.text words.entry.now))) }
@@ -70,27 +70,28 @@ fn parsed<'a, S: AsStr>(alloc: Global, words: &'a [S]) -> Result<CommandLine<'a>
     let mut parser = parser(alloc)?;
     let matches = parser.try_get_matches_from_mut(words)?;
     match found_in(&matches) {
-        Some(Found::Command(command)) => Ok(CommandLine {
+        Some(Parsed::Command(command)) => Ok(CommandLine {
             command,
             is_verbose: is_verbose(&matches),
         }),
-        Some(Found::Number) => Err(LineFault::Number),
+        Some(Parsed::Number) => Err(LineFault::Number),
         None => Err(LineFault::Parser(parser.error(
             ErrorKind::MissingRequiredArgument,
-            "give IMAGE and SCHEDULE, or --bundle FILE in their place",
+            "expected IMAGE and its further arguments, or --bundle FILE in place of IMAGE and SCHEDULE",
         )?)),
     }
 }
 
-/// What the words of a command line ask for, of which the first is the program's name. With no further
-/// words that is to run the bundle on the standard input. Else it is the command, with its texts, that
-/// stands in the parser's matches of the words, and whether the flag `verbose` does.
+/// Parses the words of a command line. The first word is the name of the program. Without further words, the command is
+/// to run the bundle on the standard input. Otherwise it is the command in the parser's matches of the words, with its
+/// arguments, and the flag `verbose` if it is set.
 ///
 /// # Errors
 ///
-/// - `Parser`: the parser does not take the words, or they ask for help or the version.
-/// - `Number`: a word that is to be a number is no decimal without leading zeros, or one above 4,294,967,295.
-/// - `Memory`: memory was refused.
+/// - `Parser`: the parser rejects the words, or they ask for help or the version.
+/// - `Number`: a numeric argument is not a decimal number without leading zeros, or is above 4,294,967,295 or another
+///   limit.
+/// - `Memory`: there is no memory.
 pub fn command_line_of<'a, S: AsStr>(
     alloc: Global,
     words: &'a [S],

@@ -1,6 +1,7 @@
-//! What more is told of a fault: the file, the system's reason, the line and what is wanted.
+//! The explanation of an error for `--verbose`: the file, the reason of the operating system, the line, and its
+//! expected form.
 //!
-//! No contract speaks of the words. Each line begins with two blanks.
+//! The explanation is not specified by a contract. Each of its lines begins with two spaces.
 use pv_cli_commands::{Command, Fault, Files, RunInput, TreeInput};
 use pv_host_copy::{ExportFault, ImportStop};
 use pv_model::{ImageFault, ListFault, ManifestFault, MigrateFault, RunFault};
@@ -12,12 +13,12 @@ use pv_text::lines::split_line;
 use std::alloc::{AllocError, Global};
 use std::convert::AsStr;
 
-// What a fault lies in.
+// The location of an error.
 #[derive(Clone, Copy)]
 enum Cause {
     // A file that could not be opened or read.
     Reading,
-    // A directory, or something in it, that could not be read.
+    // A directory, or an entry in it, that could not be read.
     Directory,
     // The directory in which a tree is made.
     Target,
@@ -25,17 +26,17 @@ enum Cause {
     Writing,
     // The standard output.
     Output,
-    // The text of a manifest or a program, of which this line is named.
+    // The text of a manifest or a program, with the number of its line if the error names one.
     Text(Option<u32>),
     // This line of a schedule.
     Schedule(u32),
     // An image, a path or a process.
     Image,
-    // Memory, or lines that were told.
+    // Memory, or lines that are already reported.
     Nothing,
 }
 
-// What the fault of a run lies in.
+// Returns the location of a run's error.
 fn run_cause(fault: RunFault) -> Cause {
     match fault {
         RunFault::Read => Cause::Reading,
@@ -57,7 +58,7 @@ fn run_cause(fault: RunFault) -> Cause {
     }
 }
 
-// What the fault of a command lies in.
+// Returns the location of a command's error.
 fn cause_of(fault: Fault) -> Cause {
     match fault {
         Fault::Run(fault)
@@ -101,19 +102,19 @@ fn cause_of(fault: Fault) -> Cause {
 // The files of a command.
 #[derive(Clone, Copy)]
 struct Names<'a> {
-    // That of the bundle, the manifest, the source or the image.
+    // The file of the bundle, the manifest, the source or the image.
     first: &'a str,
-    // Whether it is a text.
+    // Whether that file is a text.
     is_text: bool,
-    // Whether `-` is the standard input.
+    // Whether `-` means the standard input.
     has_input: bool,
-    // That of the schedule.
+    // The file of the schedule.
     schedule: Option<&'a str>,
-    // That which is written.
+    // The file that is written.
     out: Option<&'a str>,
 }
 
-// The name of a text that may be on the standard input.
+// Returns the files of a command that reads a text, possibly from the standard input.
 fn text_named(first: &str) -> Names<'_> {
     Names {
         first,
@@ -124,7 +125,7 @@ fn text_named(first: &str) -> Names<'_> {
     }
 }
 
-// The names of an image, of a schedule, and of a file that is written.
+// Returns the files of a command that reads an image.
 fn image_named<'a>(first: &'a str, schedule: Option<&'a str>, out: Option<&'a str>) -> Names<'a> {
     Names {
         first,
@@ -135,7 +136,7 @@ fn image_named<'a>(first: &'a str, schedule: Option<&'a str>, out: Option<&'a st
     }
 }
 
-// The files of a command.
+// Returns the files of a command.
 fn names_of(command: Command<'_>) -> Names<'_> {
     match command {
         Command::RunTree(name)
@@ -185,7 +186,7 @@ fn names_of(command: Command<'_>) -> Names<'_> {
 }
 
 impl<'a> Names<'a> {
-    // The first file, where it is one by a name.
+    // Returns the first file, or `None` if it is the standard input.
     fn first_file(self) -> Option<&'a str> {
         if self.has_input && self.first == "-" {
             return None;
@@ -194,14 +195,14 @@ impl<'a> Names<'a> {
     }
 }
 
-// Puts a line after what is there.
+// Appends a line.
 fn push_line(out: &mut Vec<u8>, words: &str) -> Result<(), AllocError> {
     out.extend_from_slice(b"  ")?;
     out.extend_from_slice(words.as_bytes())?;
     out.extend_from_slice(b"\n")
 }
 
-// Puts a line of a text after what is there: a byte that is not from 20 to 7E by its number.
+// Appends a line of a text. A byte that is not from 20 to 7E is shown by its number.
 fn push_shown(alloc: Global, out: &mut Vec<u8>, line: &[u8]) -> Result<(), AllocError> {
     out.extend_from_slice(b"  ")?;
     for byte in line {
@@ -215,7 +216,7 @@ fn push_shown(alloc: Global, out: &mut Vec<u8>, line: &[u8]) -> Result<(), Alloc
     out.extend_from_slice(b"\n")
 }
 
-// Puts the name of a file and the system's reason after what is there.
+// Appends the name of a file and the reason of the operating system.
 fn push_reason(
     alloc: Global,
     out: &mut Vec<u8>,
@@ -228,7 +229,7 @@ fn push_reason(
     }
 }
 
-// The line of a text with this number, counted from 1.
+// Returns the line of a text with this number, counted from 1.
 fn line_at(text: &[u8], number: u32) -> Option<&[u8]> {
     let mut rest = text;
     for _ in 1..number {
@@ -239,24 +240,24 @@ fn line_at(text: &[u8], number: u32) -> Option<&[u8]> {
     Some(line)
 }
 
-// The bytes of a file, where they can be read.
+// Returns the bytes of a file, if it can be read.
 fn bytes_of<F: Files>(alloc: Global, files: &F, name: &str) -> Option<Vec<u8>> {
     let mut reader = files.open(name).ok()?;
     read_whole(alloc, &mut reader).ok()
 }
 
-// What is wanted in place of a line that a source may have: none where the text ends before it.
+// Returns the message for a line that only a source may have, or for a text that ends before the line.
 fn wanted_of(shown: Option<&[u8]>) -> &'static str {
     let Some(line) = shown else {
-        return "want the line schedule, and a schedule below it";
+        return "expected the line 'schedule' and a schedule below it";
     };
     if line == b"schedule".as_slice() {
-        return "want no line schedule: a manifest stands alone";
+        return "unexpected line 'schedule': expected a manifest without a schedule";
     }
-    "want no comment, label or further blank: pvsim source writes a text without them"
+    "expected no comment, label or extra blank; 'pvsim source' removes them"
 }
 
-// Puts the line that a fault names after what is there, with what is wanted.
+// Appends the line that an error names, with its expected form.
 fn push_named(
     alloc: Global,
     out: &mut Vec<u8>,
@@ -273,8 +274,8 @@ fn push_named(
     }
 }
 
-// Puts the lines at fault of a text after what is there, each with what is wanted: first the one that the fault names, where a source
-// may have that.
+// Appends the lines in error of a text, each with its expected form. The line that the error names comes first, if a
+// source may have it.
 fn push_faults(
     alloc: Global,
     out: &mut Vec<u8>,
@@ -289,13 +290,13 @@ fn push_faults(
         return Err(AllocError);
     };
     match named {
-        Some(line) if !faults.told().iter().any(|fault| fault.line == line) => {
+        Some(line) if !faults.reported().iter().any(|fault| fault.line == line) => {
             push_named(alloc, out, name, text, line)?;
         }
         None if faults.is_empty() => push_line(out, name)?,
         _ => {}
     }
-    for fault in faults.told() {
+    for fault in faults.reported() {
         let line = fault.line;
         out.extend_from_slice(format!(in alloc; "  {name}:{line}: ")?.as_bytes())?;
         out.extend_from_slice(fault.what.bytes())?;
@@ -307,7 +308,7 @@ fn push_faults(
     Ok(())
 }
 
-// Puts what is told of a text after what is there.
+// Appends the explanation of an error in a text.
 fn push_text<F: Files>(
     alloc: Global,
     out: &mut Vec<u8>,
@@ -327,7 +328,7 @@ fn push_text<F: Files>(
     }
 }
 
-// Puts what is told of a line of a schedule after what is there.
+// Appends the explanation of an error in a line of a schedule.
 fn push_turn<F: Files>(
     alloc: Global,
     out: &mut Vec<u8>,
@@ -336,7 +337,7 @@ fn push_turn<F: Files>(
     line: u32,
 ) -> Result<(), AllocError> {
     let wanted =
-        "want PID, or PID COUNT: numbers from 1 to 99999, one blank between; at most 65536 lines";
+        "expected PID or PID COUNT, each from 1 to 99999, with one blank between, on at most 65536 lines";
     push_line(out, format!(in alloc; "{name}:{line}: {wanted}")?.as_str())?;
     let Some(bytes) = bytes_of(alloc, files, name) else {
         return Ok(());
@@ -347,7 +348,8 @@ fn push_turn<F: Files>(
     }
 }
 
-// Puts what is told of files that could not be read after what is there: of each its name, with the reason where there is one.
+// Appends the explanation of a failed read: the name of each file that could not be read, with the reason if it is
+// known.
 fn push_readings<F: Files>(
     alloc: Global,
     out: &mut Vec<u8>,
@@ -364,7 +366,7 @@ fn push_readings<F: Files>(
     }
 }
 
-// What more is told.
+// Returns the explanation of an error.
 fn explanation<F: Files>(
     alloc: Global,
     files: &F,
@@ -381,7 +383,7 @@ fn explanation<F: Files>(
         }
         Cause::Target => {
             if let Some(name) = names.out {
-                let wanted = "want a directory that has nothing, or a name that nothing has";
+                let wanted = "expected a directory that is empty or does not exist";
                 push_line(&mut out, format!(in alloc; "{name}: {wanted}")?.as_str())?;
             }
         }
@@ -401,7 +403,7 @@ fn explanation<F: Files>(
     Ok(out)
 }
 
-// Tells more of the fault of a command. Where memory is refused, or a write fails, nothing more is told.
+// Writes the explanation of a command's error. If there is no memory or a write fails, nothing more is written.
 pub(crate) fn explain<F: Files, E: Sink>(
     alloc: Global,
     files: &F,
@@ -416,14 +418,14 @@ pub(crate) fn explain<F: Files, E: Sink>(
     let _written = write_through(errors, &text);
 }
 
-// Tells what is wanted of a word that is to be a number. Where a write fails, nothing more is told.
+// Writes the expected form of a numeric argument. If the write fails, nothing more is written.
 pub(crate) fn explain_number<E: Sink>(errors: &mut E) {
     let text =
-        "  want a decimal number without leading zeros: PID, BLOCKS and INODES from 0 to 4294967295, K and N from 1 to 65536, V 1 or 2\n";
+        "  expected a decimal number without leading zeros: 0 to 4294967295 for PID, BLOCKS and INODES; 1 to 65536 for --slice and --steps; 1 to 4294967295 for --states; 1 or 2 for --version\n";
     let _written = write_through(errors, text.as_bytes());
 }
 
-// Whether more is asked for by a word of its own.
+// Returns whether any word is the flag `verbose`.
 pub(crate) fn asks_for_more<S: AsStr>(words: &[S]) -> bool {
     for word in words {
         let word = word.as_str();

@@ -1,6 +1,6 @@
-//! What is told to a person, and the exit status.
+//! Error messages and the exit status.
 ghost use Rattle.std.specs.Prelude.{◌≡◌};
-ghost use Rattle.pv_cli_line.specs.Program.{is_told};
+ghost use Rattle.pv_cli_line.specs.Program.{is_reported};
 ghost use Rattle.pv_cli_line.specs.Status.{kind_status, status_of};
 
 use crate::command::LineFault;
@@ -9,25 +9,24 @@ use pv_cli_commands::Fault as CommandFault;
 use std::fmt;
 use thiserror::Error;
 
-/// Why the program ends without what it was asked for. Its `Display` is the whole text for a person, with
-/// the LF at its end.
+/// The reason why the program fails. Its `Display` is the whole message for a person, with a newline at its end.
 #[derive(Debug, Drop, Error)]
 pub enum Fault {
-    /// The command that was asked for was refused, or ended early.
+    /// The command was refused or ended early.
     #[error("{0}")]
     Command(CommandFault),
-    /// The words of the command line are no command, or ask for help or the version.
+    /// The words of the command line are not a command, or ask for help or the version.
     #[error("{0}")]
     Line(LineFault),
-    /// The words of the command line are no text.
+    /// The words of the command line are not UTF-8.
     #[error("pvsim: the command line is not UTF-8\n")]
     Words,
-    /// Help or the version was asked for, and could not be written.
+    /// Help or the version was requested and could not be written.
     #[error("pvsim: write\n")]
     Write,
 }
 
-// The status of what the parser answers in place of matches.
+// Returns the status of an error of the parser, or of a request for help or the version.
 fn parser_status(kind: ErrorKind) -> u8
     ensures { result ≡ kind_status kind }
 {
@@ -38,8 +37,8 @@ fn parser_status(kind: ErrorKind) -> u8
 }
 
 impl Fault {
-    /// The exit status: 1 for refused input, 2 for the command line, 3 for memory, 4 for a failed read or
-    /// write, and 0 where help or the version was asked for.
+    /// Returns the exit status: 1 for invalid input, 2 for an error in the command line, 3 for out of memory, 4 for a
+    /// failed read or write, and 0 if help or the version was requested.
     pub fn status(&self) -> u8
         ensures { result ≡ status_of self.now }
     {
@@ -52,12 +51,12 @@ impl Fault {
         }
     }
 
-    /// Whether it was told already, on the standard error, by the command that ended early.
-    pub fn is_told(&self) -> bool
-        ensures { result ≡ is_told self.now }
+    /// Returns whether the command already reported the error on the standard error.
+    pub fn is_reported(&self) -> bool
+        ensures { result ≡ is_reported self.now }
     {
         match self {
-            Fault::Command(fault) => fault.is_told(),
+            Fault::Command(fault) => fault.is_reported(),
             _ => false,
         }
     }

@@ -1,22 +1,23 @@
-//! The command line of `pvsim`, over any files and streams: what its words ask for, what a fault tells a person, and the exit
-//! status. A `main` has only to hand over the words, the files and the streams of its system.
+//! The command line of `pvsim`, over any files and streams: its parser, the error messages, and the exit status.
 //!
-//! `parser` has the table of the commands and their arguments, and makes the parser of it. `found` finds the command that stands
-//! in what it matches, with its texts and numbers, which `texts` reads, and `command` answers it, or why there is none. `fault`
-//! has the text of each fault, and `explaining` what more is told of it. `program` has the whole run: a command that is performed,
-//! or words that are refused and nothing written, and the status of what came.
+//! `parser` builds the parser from the table of the commands. `matches` finds the command in the parser's matches, with
+//! its texts and numbers (`texts`), and `command` returns it or the error in the command line. `fault` has the error
+//! messages, and `explaining` their explanations for `--verbose`. `program` is the whole program: it carries out the
+//! command, reports an error, and returns the exit status. A `main` passes it the words, the files and the streams of
+//! the operating system.
 //!
-//! A clause sees the words and `clap`'s matches of them. Words that no arm reads are refused, and run as no other command.
+//! Contracts cite the words and `clap`'s matches of them. If no command matches, the words are rejected and nothing is
+//! run.
 #![tactic(auto)]
 
 pub mod command;
 mod explaining;
 pub mod fault;
-mod found;
+mod matches;
 mod parser;
 pub mod program;
 mod texts;
 
 pub use command::{CommandLine, LineFault, command_line_of};
 pub use fault::Fault;
-pub use program::{run, tell};
+pub use program::{report, run};

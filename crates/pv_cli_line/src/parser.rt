@@ -1,4 +1,4 @@
-//! The parser of the command line: the table of the commands, and what makes the parser of it.
+//! The parser of the command line, built from the table of the commands.
 ghost use Rattle.std.specs.Prelude.{◌≡◌, false, IfOk, map};
 ghost use Rattle.std.specs.Option.{option_or};
 ghost use Rattle.clap.specs.Words.{app_of, rule_of};
@@ -7,13 +7,13 @@ ghost use Rattle.pv_cli_line.specs.Parser.{IsParserOf, app_of_row, bare_app, com
 use clap::{Arg, ArgAction, Command as Parser};
 use std::alloc::{AllocError, Global};
 
-// An argument of a command: its name, and what its help says.
+// An argument of a command: its name and its help.
 enum Argument {
-    // One text, which must be there.
+    // A required text.
     Required(&'static str, &'static str),
-    // One text, which may be lacking.
+    // An optional text.
     Optional(&'static str, &'static str),
-    // An option that has one text, which its help calls by another name.
+    // An option with one text, whose name in the help may differ.
     Named {
         name: &'static str,
         short: Option<char>,
@@ -30,40 +30,40 @@ enum Argument {
 
 use Argument::{Flag, Named, Optional, Required};
 
-// A command: its name, what its help says of it, and its arguments in order.
+// A command: its name, its help, and its arguments in order.
 struct CommandRow {
     name: &'static str,
     about: &'static str,
     arguments: &'static [Argument],
 }
 
-// The flag that asks for more to be told of a fault. Each command takes it.
+// The flag that asks for an explanation of errors. Every command takes it.
 const VERBOSE: Argument = Flag {
     name: "verbose",
     short: Some('v'),
-    help: "tell more of a fault: the file, the system's reason, the line and what is wanted",
+    help: "explain an error: the file, the system's reason, the line and the expected form",
 };
 
-// The option that names a bundle in place of an image and a schedule.
+// The option that names a bundle, in place of an image and a schedule.
 const BUNDLE: Argument = Named {
     name: "bundle",
     short: Some('b'),
     value: "FILE",
-    help: "a bundle in place of an image and a schedule; `-` is the standard input",
+    help: "a bundle in place of IMAGE and SCHEDULE; '-' is standard input",
 };
 
-// An image, where a bundle may stand in its place.
-const IMAGE: Argument = Optional("IMAGE", "an image");
+// An image, which is omitted if a bundle is given.
+const IMAGE: Argument = Optional("IMAGE", "the image");
 
-// A schedule, where a bundle may stand in its place.
-const SCHEDULE: Argument = Optional("SCHEDULE", "a schedule: which processes take their turns");
+// A schedule, which is omitted if a bundle is given.
+const SCHEDULE: Argument = Optional("SCHEDULE", "the schedule: the turns of the processes");
 
-// The number of states that a search finds.
+// The maximum number of states that a search visits.
 const STATES: Argument = Named {
     name: "states",
     short: None,
     value: "N",
-    help: "how many states are found at most, from 1 to 4294967295; 1000000 where it is not given",
+    help: "the maximum number of states: 1 to 4294967295 (default 1000000)",
 };
 
 // The commands, in the order in which the help lists them.
@@ -73,26 +73,26 @@ const COMMANDS: &[CommandRow] = &[
         about: "Run a bundle and write its trace",
         arguments: &[Required(
             "FILE",
-            "a bundle: a manifest, the line `schedule`, and a schedule; `-` is the standard input",
+            "a bundle: a manifest, the line 'schedule' and a schedule; '-' is standard input",
         )],
     },
     CommandRow {
         name: "source",
-        about: "Write the manifest or bundle that a source stands for, or tell its lines at fault",
+        about: "Convert a source to a manifest or bundle, or report its errors",
         arguments: &[Required(
             "FILE",
-            "a source: a manifest or bundle with comments, blanks and labels; `-` is the standard input",
+            "a source: a manifest or bundle with comments, labels and extra blanks; '-' is standard input",
         )],
     },
     CommandRow {
         name: "mkimg",
-        about: "Make the image of a manifest",
+        about: "Make an image from a manifest",
         arguments: &[
             Required(
                 "MANIFEST",
-                "a manifest: the image's sizes, and what is in it",
+                "the manifest: the sizes and the contents of the image",
             ),
-            Required("IMAGE", "the file that gets the image"),
+            Required("IMAGE", "the image file to write"),
         ],
     },
     CommandRow {
@@ -102,60 +102,60 @@ const COMMANDS: &[CommandRow] = &[
     },
     CommandRow {
         name: "run",
-        about: "Run an image under a schedule, write the trace, and then the image that is left",
+        about: "Run an image under a schedule, and write the trace and the final image",
         arguments: &[
-            Required("IMAGE", "an image"),
-            Required("SCHEDULE", "a schedule: which processes take their turns"),
-            Required("OUT", "the file that gets the image that the run leaves"),
+            Required("IMAGE", "the image"),
+            Required("SCHEDULE", "the schedule: the turns of the processes"),
+            Required("OUT", "the image file to write"),
         ],
     },
     CommandRow {
         name: "audit",
-        about: "Run a schedule on an image, and tell which files are sealed",
+        about: "Run an image under a schedule, and report which files are sealed",
         arguments: &[
             BUNDLE,
             IMAGE,
             SCHEDULE,
-            Optional("PATH", "a file of the image; without it, all files"),
+            Optional("PATH", "a file in the image (default: all files)"),
         ],
     },
     CommandRow {
         name: "state",
-        about: "Run a schedule on an image, and tell what each process is and has",
+        about: "Run an image under a schedule, and print the state of each process",
         arguments: &[BUNDLE, IMAGE, SCHEDULE],
     },
     CommandRow {
         name: "reach",
-        about: "Run a schedule on an image, and tell what the next call of each process may do at each place",
+        about: "Run an image under a schedule, and print the operations that each process may perform at each place",
         arguments: &[
             BUNDLE,
             IMAGE,
             SCHEDULE,
-            Optional("PID", "the number of a process; without it, all processes"),
+            Optional("PID", "a process number (default: all processes)"),
         ],
     },
     CommandRow {
         name: "explain",
-        about: "Run a schedule on an image, and write its trace with what a reader asks beside it",
+        about: "Run an image under a schedule, and write the trace with the reason for each result",
         arguments: &[BUNDLE, IMAGE, SCHEDULE],
     },
     CommandRow {
         name: "needs",
-        about: "Run a schedule on an image, and tell what each program asked of its sandbox",
+        about: "Run an image under a schedule, and print the promises and paths that each program used",
         arguments: &[BUNDLE, IMAGE, SCHEDULE],
     },
     CommandRow {
         name: "cat",
-        about: "Write the bytes of a file of an image",
+        about: "Write the contents of a file in an image",
         arguments: &[
             BUNDLE,
             IMAGE,
-            Optional("PATH", "the file's path in the image"),
+            Optional("PATH", "the path of the file in the image"),
         ],
     },
     CommandRow {
         name: "turns",
-        about: "Write a schedule in which the processes of an image take turns",
+        about: "Write a schedule that runs the processes of an image in turn",
         arguments: &[
             BUNDLE,
             IMAGE,
@@ -163,24 +163,24 @@ const COMMANDS: &[CommandRow] = &[
                 name: "slice",
                 short: None,
                 value: "K",
-                help: "how many steps a turn has at most, from 1 to 65536; 1 where it is not given",
+                help: "the maximum number of steps in a turn: 1 to 65536 (default 1)",
             },
             Named {
                 name: "steps",
                 short: None,
                 value: "N",
-                help: "how many steps all turns have at most, from 1 to 65536; 1000 where it is not given",
+                help: "the maximum number of steps in the schedule: 1 to 65536 (default 1000)",
             },
         ],
     },
     CommandRow {
         name: "explore",
-        about: "Tell what can happen on an image under any schedule, and the shortest way to it",
+        about: "Print everything that can happen under any schedule of an image, each with a shortest schedule",
         arguments: &[BUNDLE, IMAGE, STATES],
     },
     CommandRow {
         name: "graph",
-        about: "Write the states of an image under any schedule, and the steps between them",
+        about: "Write the states that an image can reach under any schedule, and the steps between them",
         arguments: &[
             BUNDLE,
             IMAGE,
@@ -188,56 +188,59 @@ const COMMANDS: &[CommandRow] = &[
             Flag {
                 name: "tree",
                 short: None,
-                help: "write of each state its tree and what may be reached, too",
+                help: "also write the tree of each state and the operations that each process may perform",
             },
         ],
     },
     CommandRow {
         name: "migrate",
-        about: "Make an image of version 2 of one of version 1: each node keeps its number; with five times the data blocks, each run that meets no limit keeps its trace",
+        about: "Convert an image from version 1 to version 2, and keep the inode numbers",
         arguments: &[
             Required("IMAGE", "an image of version 1"),
-            Required("OUT", "the file that gets the new image"),
-            Required("BLOCKS", "the new image's blocks, at most 65535"),
+            Required("OUT", "the image file to write"),
+            Required(
+                "BLOCKS",
+                "the number of blocks of the new image: at most 65535",
+            ),
             Required(
                 "INODES",
-                "its inodes, at most 4096, and no fewer than before",
+                "the number of inodes of the new image: at most 4096, and not fewer than before",
             ),
         ],
     },
     CommandRow {
         name: "import",
-        about: "Make the image of a directory: its directories, files and symbolic links; hard links are names of one file",
+        about: "Make an image from a host directory: directories, files, symbolic links and hard links",
         arguments: &[
-            Required("DIR", "a directory of the system"),
-            Required("IMAGE", "the file that gets the image"),
+            Required("DIR", "the host directory"),
+            Required("IMAGE", "the image file to write"),
             Named {
                 name: "version",
                 short: None,
                 value: "V",
-                help: "the image's version, 1 or 2; 1 where it is not given",
+                help: "the version of the image: 1 or 2 (default 1)",
             },
             Flag {
                 name: "skip",
                 short: None,
-                help: "leave out what an image can't have; it is told with or without",
+                help: "skip entries that an image cannot hold; they are reported with or without this option",
             },
         ],
     },
     CommandRow {
         name: "export",
-        about: "Make a directory of the tree of an image: its directories, files and symbolic links; further names are hard links",
+        about: "Make a host directory from an image: directories, files, symbolic links and hard links",
         arguments: &[
-            Required("IMAGE", "an image"),
+            Required("IMAGE", "the image"),
             Required(
                 "DIR",
-                "the directory that gets the tree: it is made, or has nothing",
+                "the directory to create; it must be empty or not exist",
             ),
         ],
     },
 ];
 
-// The same argument, with a short form where one is given.
+// Adds a short form to an argument, if one is given.
 fn with_short<'a>(argument: Arg<'a>, short: Option<char>) -> Arg<'a>
     ensures { result ≡ record argument.entry { short = option_or short argument.entry.short } }
 {
@@ -247,7 +250,7 @@ fn with_short<'a>(argument: Arg<'a>, short: Option<char>) -> Arg<'a>
     }
 }
 
-// What the parser is told of an argument.
+// Converts an argument of the table to an argument of the parser.
 fn argument_of<'a>(alloc: Global, argument: &Argument) -> Arg<'a>
     ensures rule { rule_of result ≡ rule_of_argument argument.now }
     ensures local { result.global ≡ false }
@@ -281,7 +284,7 @@ fn argument_of<'a>(alloc: Global, argument: &Argument) -> Arg<'a>
     }
 }
 
-// The parser of a command.
+// Returns the parser of a command.
 fn command_parser<'a>(alloc: Global, row: &CommandRow) -> Result<Parser<'a>, AllocError>
     ensures { IfOk result (IsParserOf (app_of_row row.now)) }
 {
@@ -294,7 +297,7 @@ fn command_parser<'a>(alloc: Global, row: &CommandRow) -> Result<Parser<'a>, All
     Ok(parser)
 }
 
-// The parser with these commands more.
+// Adds commands to the parser.
 fn with_commands<'a>(
     alloc: Global,
     mut parser: Parser<'a>,
@@ -308,26 +311,26 @@ fn with_commands<'a>(
     Ok(parser)
 }
 
-// The parser of the program, with no command yet.
+// Returns the parser of the program without commands.
 fn bare_parser<'a>(alloc: Global) -> Parser<'a>
     ensures { app_of result ≡ bare_app }
 {
     Parser::new(alloc, "pvsim")
         .version("0.1.0")
         .about(
-            "A teaching kernel with OpenBSD's pledge and unveil. With no words it runs the bundle on its standard input.",
+            "A teaching kernel with OpenBSD's pledge and unveil. Without arguments, pvsim runs the bundle on standard input.",
         )
         .subcommand_required(true)
 }
 
-// The table of the commands.
+// Returns the table of the commands.
 fn commands() -> &'static [CommandRow]
     ensures { map app_of_row result.now ≡ command_apps }
 {
     COMMANDS
 }
 
-// The parser of the command line.
+// Returns the parser of the command line.
 pub(crate) fn parser<'a>(alloc: Global) -> Result<Parser<'a>, AllocError>
     ensures { IfOk result (λ parser. app_of parser ≡ pvsim_app) }
 {

@@ -1,10 +1,10 @@
-//! A whole run of the program.
+//! The whole program.
 ghost use Rattle.std.specs.Prelude.{◌≡◌, ◌≢◌, true, map, Err, OnOk, Result};
-ghost use Rattle.pv_cli_commands.specs.Status.{is_told as is_told_by_command, status_of as command_status_of};
+ghost use Rattle.pv_cli_commands.specs.Status.{is_reported as is_reported_by_command, status_of as command_status_of};
 ghost use Rattle.pv_cli_commands.specs.Streams.{disk_of, host_of};
 ghost use Rattle.pv_cli_line.specs.declared.fault.Fault.{Fault as Written};
 ghost use Rattle.pv_cli_line.specs.declared.fault.Fault.TheVariants.{Line as LineVariant};
-ghost use Rattle.pv_cli_line.specs.Program.{ComesTo, TellsErrorsAlone, TellsWhatWasAsked, is_told};
+ghost use Rattle.pv_cli_line.specs.Program.{ComesTo, WritesErrorsAlone, WritesOutputOrErrors, is_reported};
 ghost use Rattle.pv_cli_line.specs.Status.{IsStatusOf, line_status, status_of};
 
 use crate::command::{CommandLine, LineFault, command_line_of};
@@ -17,7 +17,7 @@ use std::convert::AsStr;
 use std::fmt;
 use std::fmt::Write;
 
-// A sink as a writer of text.
+// A writer of text over a sink.
 #[derive(Drop)]
 struct Text<'a, W: Sink> {
     sink: &'a mut W,
@@ -29,7 +29,7 @@ impl<W: Sink> Write for Text<'_, W> {
     }
 }
 
-// Writes the text of a fault, and flushes it.
+// Writes the message of an error, and flushes it.
 fn show<W: Sink>(fault: &Fault, sink: &mut W) -> fmt::Result
     ensures { OnOk result (W.buffered sink.new ≡ 0) }
 {
@@ -37,21 +37,21 @@ fn show<W: Sink>(fault: &Fault, sink: &mut W) -> fmt::Result
     sink.flush().map_err(|_| fmt::Error)
 }
 
-/// Tells a fault and answers the exit status: on the standard error, but help and the version, which were
-/// asked for, on the standard output. Where these cannot be written or flushed the status is 4, and the
-/// standard error says so. A fault that was told already is not told again.
-pub fn tell<F: Drop, I: Drop, O: Sink + Drop, E: Sink + Drop>(
+/// Reports an error and returns the exit status. The message is written to the standard error; help and the version are
+/// written to the standard output. If they cannot be written or flushed, the status is 4, and the standard error says
+/// so. An error that is already reported is not reported again.
+pub fn report<F: Drop, I: Drop, O: Sink + Drop, E: Sink + Drop>(
     fault: &Fault,
     system: &mut HostSystem<F, I, O, E>,
 ) -> u8
     ensures status { IsStatusOf (Err fault.now) result }
-    ensures errors { status_of fault.now ≢ 0 → TellsErrorsAlone system.old system.new }
-    ensures told { is_told fault.now ≡ true → system.new ≡ system.old }
-    ensures output { status_of fault.now ≡ 0 → TellsWhatWasAsked result system.old system.new }
+    ensures errors { status_of fault.now ≢ 0 → WritesErrorsAlone system.old system.new }
+    ensures reported { is_reported fault.now ≡ true → system.new ≡ system.old }
+    ensures output { status_of fault.now ≡ 0 → WritesOutputOrErrors result system.old system.new }
     ensures flushed { O.buffered system.old.output ≡ 0 → result ≢ 4 → O.buffered system.new.output ≡ 0 }
 {
     let status = fault.status();
-    if fault.is_told() {
+    if fault.is_reported() {
         return status;
     }
     if status != 0 {
@@ -67,8 +67,8 @@ pub fn tell<F: Drop, I: Drop, O: Sink + Drop, E: Sink + Drop>(
     }
 }
 
-// Tells the fault of a command that ended early, and more of it where that is asked for, and answers the exit status.
-fn tell_all<F: Files + Drop, I: Drop, O: Sink + Drop, E: Sink + Drop>(
+// Reports the error of a command, with its explanation if that is requested, and returns the exit status.
+fn report_all<F: Files + Drop, I: Drop, O: Sink + Drop, E: Sink + Drop>(
     alloc: Global,
     line: CommandLine<'_>,
     fault: CommandFault,
@@ -76,11 +76,11 @@ fn tell_all<F: Files + Drop, I: Drop, O: Sink + Drop, E: Sink + Drop>(
 ) -> u8
     requires { command_status_of fault ≢ 0 }
     ensures status { result ≡ command_status_of fault }
-    ensures errors { TellsErrorsAlone system.old system.new }
-    ensures told { is_told_by_command fault ≡ true → system.new ≡ system.old }
+    ensures errors { WritesErrorsAlone system.old system.new }
+    ensures reported { is_reported_by_command fault ≡ true → system.new ≡ system.old }
 {
-    let status = tell(&Fault::Command(fault), system);
-    if line.is_verbose && !fault.is_told() {
+    let status = report(&Fault::Command(fault), system);
+    if line.is_verbose && !fault.is_reported() {
         explain(
             alloc,
             &system.files,
@@ -92,32 +92,33 @@ fn tell_all<F: Files + Drop, I: Drop, O: Sink + Drop, E: Sink + Drop>(
     status
 }
 
-// Tells why words are no command line, and what is wanted of a number where more is asked for, and answers the exit status.
-fn tell_words<S: AsStr, F: Drop, I: Drop, O: Sink + Drop, E: Sink + Drop>(
+// Reports an error in the command line, with the expected form of a number if an explanation is requested, and returns
+// the exit status.
+fn report_words<S: AsStr, F: Drop, I: Drop, O: Sink + Drop, E: Sink + Drop>(
     words: &[S],
     fault: LineFault,
     system: &mut HostSystem<F, I, O, E>,
 ) -> u8
     ensures status { IsStatusOf (Err (LineVariant fault)) result }
-    ensures errors { line_status fault ≢ 0 → TellsErrorsAlone system.old system.new }
-    ensures output { line_status fault ≡ 0 → TellsWhatWasAsked result system.old system.new }
+    ensures errors { line_status fault ≢ 0 → WritesErrorsAlone system.old system.new }
+    ensures output { line_status fault ≡ 0 → WritesOutputOrErrors result system.old system.new }
     ensures flushed { O.buffered system.old.output ≡ 0 → result ≢ 4 → O.buffered system.new.output ≡ 0 }
 {
     let is_number = matches!(fault, LineFault::Number);
-    let status = tell(&Fault::Line(fault), system);
+    let status = report(&Fault::Line(fault), system);
     if is_number && asks_for_more(words) {
         explain_number(&mut system.errors);
     }
     status
 }
 
-/// A whole run of the program: does what its words ask for, of which the first is the program's name, tells
-/// a person what went wrong, and answers the exit status.
+/// Runs the program: carries out the command in the words, whose first is the name of the program, reports an error to
+/// a person, and returns the exit status.
 ///
-/// The status is 0 where it is done, also where help or the version was asked for; 1 where the input is
-/// refused, 2 where the words are no command line, 3 where memory was refused, and 4 where a read or a
-/// write failed. Where the words have the flag `verbose`, more is told of a fault, in lines that begin with two blanks. With any
-/// status but 4, nothing is buffered in the standard output that was not before. A search of states shows on `progress` how far it is.
+/// The status is 0 on success and after help or the version, 1 if the input is invalid, 2 for an error in the command
+/// line, 3 if there is no memory, and 4 if a read or a write fails. If the words have the flag `verbose`, an error is
+/// explained in lines that begin with two spaces. If the standard output had nothing buffered and the status is not 4,
+/// it has nothing buffered afterwards. A search of states reports to `progress`.
 pub fn run<
     S: AsStr,
     F: Files + Directories + Drop,
@@ -132,10 +133,10 @@ pub fn run<
 {
     let line = match command_line_of(alloc, words) {
         Ok(line) => line,
-        Err(fault) => return tell_words(words, fault, system),
+        Err(fault) => return report_words(words, fault, system),
     };
     match perform(alloc, line.command, system, progress) {
         Ok(()) => 0,
-        Err(fault) => tell_all(alloc, line, fault, system),
+        Err(fault) => report_all(alloc, line, fault, system),
     }
 }

@@ -1,14 +1,14 @@
-//! The texts and numbers of a command in what the parser matches.
+//! The texts and numbers of a command in the parser's matches.
 ghost use Rattle.std.specs.Prelude.{◌≡◌, ℕ, List, Option, None, IfSome, option_map};
 ghost use Rattle.clap.specs.Words.{subcommand_rows_of};
-ghost use Rattle.pv_cli_line.specs.Line.{IsRunIn, IsTreeIn, IsWholeRunIn, IsWholeTreeIn, count_in, entered_text, is_given, is_verbose_in, size_in, states_in, version_in};
+ghost use Rattle.pv_cli_line.specs.Line.{IsRunIn, IsTreeIn, IsValidRunIn, IsValidTreeIn, count_in, entered_text, is_given, is_verbose_in, size_in, states_in, version_in};
 
 use clap::ArgMatches;
 use pv_cli_commands::{RunInput, TreeInput};
 use pv_model::Version;
 use pv_text::words::decimal;
 
-// The text of an argument of a command, where the matches are those of that command.
+// Returns the text of an argument, if the matches are of the given command.
 pub(crate) fn text_of<'a>(
     matches: &ArgMatches<'a>,
     command: &str,
@@ -20,7 +20,7 @@ pub(crate) fn text_of<'a>(
     inner.get_str(argument)
 }
 
-// Whether more is to be told of a fault of the command of these matches.
+// Returns whether the flag `verbose` of the command in the matches is set.
 pub(crate) fn is_verbose(matches: &ArgMatches<'_>) -> bool
     ensures { result ≡ is_verbose_in (subcommand_rows_of matches.now) }
 {
@@ -33,7 +33,7 @@ pub(crate) fn is_verbose(matches: &ArgMatches<'_>) -> bool
     }
 }
 
-// The number that a word spells, where it is one of 32 bits.
+// Parses a number of 32 bits.
 pub(crate) fn size_of(word: &str) -> Option<u32>
     ensures { result ≡ size_in word.now }
 {
@@ -41,14 +41,14 @@ pub(crate) fn size_of(word: &str) -> Option<u32>
         return Some(u32::MAX);
     }
     let size = decimal(word.as_bytes())?;
-    // What is greater is read as the greatest.
+    // Larger numbers are parsed as the maximum.
     if size == u32::MAX {
         return None;
     }
     Some(size)
 }
 
-// The number of steps that a word spells, from 1 to 65,536; where there is no word this number.
+// Parses a number of steps, from 1 to 65,536. Without a word, returns the default.
 pub(crate) fn count_of(word: Option<&str>, default: u32) -> Option<u32>
     ensures { result ≡ count_in default (option_map (λ text. text.now) word.entry) }
 {
@@ -62,7 +62,7 @@ pub(crate) fn count_of(word: Option<&str>, default: u32) -> Option<u32>
     Some(count)
 }
 
-// The number of states that a word spells, at least 1; 1,000,000 where there is no word.
+// Parses a number of states, at least 1. Without a word, returns 1,000,000.
 pub(crate) fn states_of(word: Option<&str>) -> Option<u32>
     ensures { result ≡ states_in (option_map (λ text. text.now) word.entry) }
 {
@@ -76,7 +76,7 @@ pub(crate) fn states_of(word: Option<&str>) -> Option<u32>
     Some(states)
 }
 
-// The version that a word spells; where there is no word version 1.
+// Parses a version. Without a word, returns version 1.
 pub(crate) fn version_of(word: Option<&str>) -> Option<Version>
     ensures { result ≡ version_in (option_map (λ text. text.now) word.entry) }
 {
@@ -92,7 +92,7 @@ pub(crate) fn version_of(word: Option<&str>) -> Option<Version>
     None
 }
 
-// Whether a flag of a command was given, where the matches are those of that command.
+// Returns whether a flag is set, if the matches are of the given command.
 pub(crate) fn is_flag_given(matches: &ArgMatches<'_>, command: &str, flag: &str) -> bool
     ensures { result ≡ is_given (entered_text (subcommand_rows_of matches.now) command.now flag.now) }
 {
@@ -102,15 +102,15 @@ pub(crate) fn is_flag_given(matches: &ArgMatches<'_>, command: &str, flag: &str)
     }
 }
 
-// What a command runs, and the text after it.
+// The input of a run, and the argument after it.
 #[derive(Clone, Copy)]
 pub(crate) struct RunTexts<'a> {
     pub(crate) run: RunInput<'a>,
     pub(crate) further: Option<&'a str>,
 }
 
-// What a command runs and the text after it, where the matches are those of that command: `last` is the argument that stands
-// after an image and a schedule.
+// Returns the input of a run and the argument after it, if the matches are of the given command. `last` is the name of
+// the argument that follows an image and a schedule.
 pub(crate) fn run_texts_in<'a>(
     matches: &ArgMatches<'a>,
     command: &str,
@@ -136,11 +136,11 @@ pub(crate) fn run_texts_in<'a>(
     })
 }
 
-// What a command runs that has no text after it, where the matches are those of that command.
+// Returns the input of a run of a command without a further argument, if the matches are of that command.
 #[tactic(auto, using(crate::proofs::LineLemmas::run_further))]
 pub(crate) fn run_in<'a>(matches: &ArgMatches<'a>, command: &str) -> Option<RunInput<'a>>
-    ensures found { IfSome result (λ run. IsWholeRunIn (subcommand_rows_of matches.now) command.now run) }
-    ensures none { result ≡ None → (run : RunInput) → IsWholeRunIn (subcommand_rows_of matches.now) command.now run → ⊥ }
+    ensures found { IfSome result (λ run. IsValidRunIn (subcommand_rows_of matches.now) command.now run) }
+    ensures none { result ≡ None → (run : RunInput) → IsValidRunIn (subcommand_rows_of matches.now) command.now run → ⊥ }
 {
     let texts = run_texts_in(matches, command, "PID")?;
     if texts.further.is_some() {
@@ -149,15 +149,15 @@ pub(crate) fn run_in<'a>(matches: &ArgMatches<'a>, command: &str) -> Option<RunI
     Some(texts.run)
 }
 
-// What has a tree, and the text after it.
+// The input that has a tree, and the argument after it.
 #[derive(Clone, Copy)]
 pub(crate) struct TreeTexts<'a> {
     pub(crate) tree: TreeInput<'a>,
     pub(crate) further: Option<&'a str>,
 }
 
-// What has a tree and the text after it, where the matches are those of that command: `last` is the argument that stands after
-// an image.
+// Returns the input that has a tree and the argument after it, if the matches are of the given command. `last` is the
+// name of the argument that follows an image.
 pub(crate) fn tree_texts_in<'a>(
     matches: &ArgMatches<'a>,
     command: &str,
@@ -183,11 +183,11 @@ pub(crate) fn tree_texts_in<'a>(
     })
 }
 
-// What has a tree, where the matches are those of a command that has no text after it.
+// Returns the input that has a tree, if the matches are of the given command, which has no further argument.
 #[tactic(auto, using(crate::proofs::LineLemmas::tree_further))]
 pub(crate) fn tree_in<'a>(matches: &ArgMatches<'a>, command: &str) -> Option<TreeInput<'a>>
-    ensures found { IfSome result (λ tree. IsWholeTreeIn (subcommand_rows_of matches.now) command.now tree) }
-    ensures none { result ≡ None → (tree : TreeInput) → IsWholeTreeIn (subcommand_rows_of matches.now) command.now tree → ⊥ }
+    ensures found { IfSome result (λ tree. IsValidTreeIn (subcommand_rows_of matches.now) command.now tree) }
+    ensures none { result ≡ None → (tree : TreeInput) → IsValidTreeIn (subcommand_rows_of matches.now) command.now tree → ⊥ }
 {
     let texts = tree_texts_in(matches, command, "PATH")?;
     if texts.further.is_some() {

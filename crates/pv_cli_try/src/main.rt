@@ -1,7 +1,7 @@
-//! Runs the bundle on the standard input as `pvsim` runs one, without the parser of its command line.
+//! Runs the bundle on the standard input as `pvsim` does, without the parser of the command line.
 //!
-//! The parser's library is large: without it a program is built sooner, before any proof, for a first try of a bundle or of a
-//! change.
+//! The library of the parser is large. Without it, a program for a first try of a bundle or a change is built sooner,
+//! before any proof.
 #![tactic(auto)]
 
 use pv_cli_commands::{Command, HostSystem, Unshown, perform};

@@ -1,4 +1,4 @@
--- An entry added to a directory.
+-- Adding an entry to a directory.
 use Rattle.std.proofs.Common.{◌≡◌, ℕ, suc, ◌*◌, ◌+◌, IsTrue, true, [], ◌∷◌, ◌++◌, length, get_or, None, refl, sym, ap, ◌∙◌, arith}
 use Rattle.std.specs.FinMap.Entries.{find, put}
 use Rattle.pv_model.specs.declared.kind.Kind.TheVariants.{Directory}
@@ -20,7 +20,7 @@ pub node_from-directory : (v : Version) (bytes : Bytes) → node_from v Director
 unfolding node_from
 node_from-directory v bytes = refl
 
--- to write a slot after the last is to append it
+-- writing a slot after the last appends it
 pub written_end : (f : Files) (d : ℕ) (slot : Bytes) → length slot ≡ entry_length f.version → written f d (length (bytes_at f d)) slot ≡ with_bytes f d (bytes_at f d ++ slot)
 written_end f d slot long = written-some f d (length (bytes_at f d)) slot (omega (arith, slot_some f.version)) ∙ ap (with_bytes f d) (overwrite-end (bytes_at f d) slot)
 

@@ -27,7 +27,7 @@ module _ (v : Version) (bytes : Bytes) where
     before = λ k below. absurd (omega arith);
   }
 
-  -- a name after the last of them
+  -- a name that follows the last of them
   pub ascend_to : (count : ℕ) (name : Bytes) → 1 ≤ count → Ascend v bytes count → by_name (name_of (count - 1)) name ≡ Less → AscendTo v bytes count name
   ascend_to count name some up last = record {
     ascend = up;
@@ -37,7 +37,7 @@ module _ (v : Version) (bytes : Bytes) where
     ];
   }
 
-  -- one slot more
+  -- one more slot
   pub ascend_more : (count : ℕ) → AscendTo v bytes count (name_of count) → Ascend v bytes (count + 1)
   ascend_more count to j k less below = elim (cases_eq k count) [
     | inl same ↦ ap (λ i. by_name (name_of j) (name_of i)) same ∙ to.before j (omega arith)
@@ -54,14 +54,14 @@ name_past v bytes k past = ap (λ b. cond b (Some (slot_name (slot_at v bytes k)
 
 -- ---- the next name
 
--- a listed name stands somewhere
+-- a listed name has an index
 listed_at : (es : Entries) (q : Bytes) → IsListed es q → (j : ℕ) × (j < length es) × ((d : Bytes × ℕ) → (get_or es j d).0 ≡ q)
 listed_at [] q listed = cc
 listed_at (e ∷ es) q listed =
     listed_cases e es q ((j : ℕ) × (j < length (e ∷ es)) × ((d : Bytes × ℕ) → (get_or (e ∷ es) j d).0 ≡ q)) (λ same. (0, omega arith, λ d. sym same))
     (λ there. let at = listed_at es q there in (suc at.0, omega arith, λ d. at.2 d)) listed
 
--- a name that is listed stands in a slot
+-- a name that is listed is in a slot
 pub listed_in : (v : Version) (bytes : Bytes) (other : Bytes) → IsListed (in_order (slot_entries v bytes)) other → (j : ℕ) × (j < slot_count v bytes) × (slot_name (slot_at v bytes j) ≡ other)
 listed_in v bytes other listed =
     let at = listed_at (slot_entries v bytes) other (ap is_some (sym (find-in_order other (slot_entries v bytes))) ∙ listed) in
@@ -76,7 +76,7 @@ neither_less a b not_back not_forth = elim (by_name a b) as (λ o. by_name a b �
   | Greater ↦ λ is. absurd (not_back (total.antisymm b a ∙ ap ordering_reverse is))
 ] refl
 
--- there is one next name
+-- the next name is unique
 next_once : (last : Option Bytes) (es : Entries) (a b : Option Bytes) → IsNextName last es a → IsNextName last es b → a ≡ b
 next_once last es None None is also = refl
 next_once last es None (Some b) is also = absurd (is b also.listed also.following)
@@ -84,14 +84,14 @@ next_once last es (Some a) None is also = absurd (also a is.listed is.following)
 next_once last es (Some a) (Some b) is also = ap Some (neither_less a b (is.least b also.listed also.following) (also.least a is.listed is.following))
 
 module _ (v : Version) (bytes : Bytes) (up : Ascend v bytes (slot_count v bytes)) where
-  -- a name is not less than one in a slot before it
+  -- a name is not less than one in a previous slot
   not_less : (j k : ℕ) → j ≤ k → k < slot_count v bytes → by_name (slot_name (slot_at v bytes k)) (slot_name (slot_at v bytes j)) ≢ Less
   not_less j k before below less = elim (cases_eq j k) [
     | inl same ↦ let equal = ap (λ i. by_name (slot_name (slot_at v bytes k)) (slot_name (slot_at v bytes i))) same ∙ same_Equal (slot_name (slot_at v bytes k)) in cc
     | inr other ↦ let greater = greater_from (slot_name (slot_at v bytes j)) (slot_name (slot_at v bytes k)) (up j k (omega arith) below) in cc
   ]
 
-  -- the slots from the one after the last name on have the names after it
+  -- the slots after that of the last name have the names that follow it
   after_from : (last : Option Bytes) (k : ℕ) → IsSlotAfter last v bytes k → (j : ℕ) → k ≤ j → j < slot_count v bytes → is_past last (slot_name (slot_at v bytes j)) ≡ true
   after_from None k is j from below = refl
   after_from (Some last) k is j from below =
@@ -121,7 +121,7 @@ module _ (v : Version) (bytes : Bytes) (up : Ascend v bytes (slot_count v bytes)
         let at = listed_in v bytes other listed in
         not_after last k within is at.0 (omega (arith, at.1)) (ap (is_past last) at.2 ∙ following)
 
-    -- the next name stands in the slot after that of the last one
+    -- the next name is in the slot after that of the last one
     pub next_name-ascending : name_at v bytes k ≡ next_name last (in_order (slot_entries v bytes))
     next_name-ascending =
         let next = next_name_in_order last (slot_entries v bytes) in
@@ -133,20 +133,20 @@ module _ (v : Version) (bytes : Bytes) (up : Ascend v bytes (slot_count v bytes)
 -- ---- binary search
 
 module _ (v : Version) (bytes : Bytes) (up : Ascend v bytes (slot_count v bytes)) (name : Bytes) where
-  -- a name after that in a slot comes after those before it
+  -- a name that follows the name in a slot follows those in all previous slots
   pub before_until : (m : ℕ) → m < slot_count v bytes → by_name (slot_name (slot_at v bytes m)) name ≡ Less → (k : ℕ) → k < m + 1 → by_name (slot_name (slot_at v bytes k)) name ≡ Less
   before_until m within less k below = elim (cases_eq k m) [
     | inl same ↦ ap (λ i. by_name (slot_name (slot_at v bytes i)) name) same ∙ less
     | inr other ↦ total.trans (slot_name (slot_at v bytes k)) (slot_name (slot_at v bytes m)) name (up k m (omega arith) within) less
   ]
 
-  -- a name that does not come after that in a slot does not come after those from there on
+  -- a name that does not follow the name in a slot does not follow those in later slots
   pub not_before_from : (m : ℕ) → m < slot_count v bytes → is_lt (by_name (slot_name (slot_at v bytes m)) name) ≡ false → (k : ℕ) → m ≤ k → k < slot_count v bytes → by_name (slot_name (slot_at v bytes k)) name ≢ Less
   not_before_from m within not k from below less =
       let back = before_until k below less m (omega arith) in
       let no = sym not ∙ ap is_lt back in cc
 
-  -- a name that is not in the first slot whose name does not come before it is in none
+  -- if a name is not in the first slot whose name does not precede it, it is in no slot
   pub absent_ascending : (k : ℕ) → ((j : ℕ) → j < k → by_name (slot_name (slot_at v bytes j)) name ≡ Less) → ((j : ℕ) → k ≤ j → j < slot_count v bytes → by_name (slot_name (slot_at v bytes j)) name ≢ Less)
       → (k < slot_count v bytes → slot_name (slot_at v bytes k) ≢ name) → find by_name name (slot_entries v bytes) ≡ None
   absent_ascending k before following not =

@@ -1,4 +1,4 @@
--- What the names between two names share with them.
+-- The bytes that two names and the names between them have in common.
 use Rattle.std.proofs.Common.{◌≡◌, ℕ, zero, suc, ◌<◌, length, take, drop, get_or, [], ◌∷◌, Bool, true, false, ◌&&◌, cond, Option, Some, refl, ap, sym, ◌∙◌, arith}
 use Rattle.std.proofs.lemmas.List.{length-take, get_or-take}
 use Rattle.std.specs.FinMap.{nat_cmp-IsAntisymmetric}
@@ -11,7 +11,7 @@ use Rattle.pv_dirs.specs.Listing.{is_before, better_of, IsShared}
 use Rattle.pv_dirs.specs.Slots.{slot_name}
 use Rattle.pv_dirs.proofs.Entries.{by_name}
 
--- what lies between two names that begin with the same bytes begins with them too: here the last of these
+-- a name between two names with a common prefix has the same prefix; this states it for the last byte
 pub between : (l x b : Bytes) (p : ℕ) → p < length l → p < length b → take (suc p) l ≡ take (suc p) b → by_name l x ≡ Less → by_name x b ≡ Less
     → (p < length x) × (get_or x p 0 ≡ get_or b p 0)
 between [] x b p in_l in_b same above below = omega arith
@@ -22,13 +22,13 @@ between (a ∷ l) (y ∷ x) (c ∷ b) p in_l in_b same above below =
     elim (nat_cmp a y) as (λ o. nat_cmp a y ≡ o → ordering_then o (by_name l x) ≡ Less → (p < length (y ∷ x)) × (get_or (y ∷ x) p 0 ≡ get_or (c ∷ b) p 0)) [
       | Less ↦ λ is _.
           let turned : nat_cmp y c ≡ Greater = ap (nat_cmp y) (sym first) ∙ nat_cmp_total.antisymm y a ∙ ap ordering_reverse is in
-          let wrong : Greater ≡ Less = ap (λ o. ordering_then o (by_name x b)) (sym turned) ∙ below in cc
+          let invalid : Greater ≡ Less = ap (λ o. ordering_then o (by_name x b)) (sym turned) ∙ below in cc
       | Equal ↦ λ is rest.
           let same_first : a ≡ y = nat_cmp-IsAntisymmetric a y is in
           let turned : nat_cmp y c ≡ Equal = ap (nat_cmp y) (sym first) ∙ nat_cmp_total.antisymm y a ∙ ap ordering_reverse is in
           let rest_below : by_name x b ≡ Less = ap (λ o. ordering_then o (by_name x b)) (sym turned) ∙ below in
           later p in_l in_b same (sym same_first ∙ first) (λ q at_l at_b alike. between l x b q at_l at_b alike rest rest_below)
-      | Greater ↦ λ is wrong. cc
+      | Greater ↦ λ is invalid. cc
     ] refl above
   where
     later : (p : ℕ) → p < length (a ∷ l) → p < length (c ∷ b) → take (suc p) (a ∷ l) ≡ take (suc p) (c ∷ b) → y ≡ c
@@ -39,7 +39,7 @@ between (a ∷ l) (y ∷ x) (c ∷ b) p in_l in_b same above below =
         let rest = more q (omega arith) (omega arith) (ap (λ (q : Bytes). drop 1 q) same) in
         (omega (arith, rest.0), rest.1)
 
--- a slot whose bytes after its head have not what those names share has no name among them
+-- a slot whose name lacks the common byte has no name between them
 pub unmarked : (last best : Option Bytes) (slot : Bytes) (at byte : ℕ) → IsShared last best at byte → ((at < length (drop 4 slot)) × (get_or (drop 4 slot) at 0 ≡ byte) → ⊥) → best ≡ better_of last (slot_name slot) best
 unfolding slot_name
 unmarked last best slot at byte shared other = go (is_before (slot_name slot) best) (is_past last (slot_name slot)) refl refl

@@ -1,4 +1,4 @@
--- Entries after one of them was replaced by the last.
+-- Entries after one of them is replaced by the last.
 use Rattle.std.proofs.Common.{◌≡◌, ℕ, zero, suc, ◌<◌, ◌≤◌, Bool, true, false, cond, not, [], ◌∷◌, ◌++◌, length, take, get_or, set, bytes_eq, Option, None, Some, refl, ap, sym, ◌∙◌, arith, inl, inr}
 use Rattle.std.specs.FinMap.Entries.{find, where_key, find-where_key, find-append, is_sorted-where_key}
 use Rattle.std.proofs.lemmas.List.{get_or_append_left, get_or_at, set-append_left, take_at, take-set, length-set}
@@ -32,7 +32,7 @@ distinct-set (e ∷ es) (suc k) l d none =
     let apart = missed l.0 e es none in
     (absent-set e.0 es k l (turned l.0 e.0 apart.0) d.0, distinct-set es k l d.1 apart.1)
 
--- a name that is found among no entries is not that of the one at a place
+-- a name that is not found among entries is not that of any of them
 pub absent-at : (q : Bytes) (es : Entries) (k : ℕ) (e : Bytes × ℕ) → find by_name q es ≡ None → k < length es → get_or es k e ≡ e → tied q e.0 ≡ false
 absent-at q [] k e none within at = absurd (omega arith)
 absent-at q (f ∷ es) zero e none within at = ap (λ (x : Bytes × ℕ). tied q x.0) (sym at) ∙ (missed q f es none).0
@@ -49,7 +49,7 @@ passed false b c x y o apart other = refl
 along : (q : Bytes) (p : Bytes) (r : Bytes) → tied q p ≡ true → tied p r ≡ false → tied q r ≡ false
 along q p r is other = ap (λ (x : Bytes). tied x r) (tied-same q p is) ∙ other
 
--- what is found where one entry was replaced by a new one
+-- lookups after one entry is replaced by a new one
 pub find-set : (q : Bytes) (es : Entries) (k : ℕ) (l e : Bytes × ℕ) → IsDistinct es → find by_name l.0 es ≡ None → k < length es → get_or es k e ≡ e
     → find by_name q (set es k l) ≡ cond (tied q l.0) (Some l.1) (cond (tied q e.0) None (find by_name q es))
 unfolding IsDistinct
@@ -114,7 +114,7 @@ find-closed q es l e k d within at =
           ∙ ap (λ (o : Option ℕ). cond (not (tied q l.0)) o None) (sym (find-append by_name total es l.0 l.1 q before.1)))
     ])
 
--- the entry in the hole is gone
+-- the entry in the hole is removed
 pub in_order-closed : (es : Entries) (l e : Bytes × ℕ) (k : ℕ) → IsDistinct (es ++ l ∷ []) → k ≤ length es → get_or (es ++ l ∷ []) k e ≡ e
     → in_order (closed es l k) ≡ where_key by_name (λ other. not (bytes_eq other e.0)) (in_order (es ++ l ∷ []))
 in_order-closed es l e k d within at =

@@ -1,4 +1,4 @@
--- The bytes of files and links in the tree of files.
+-- The contents of files and symbolic links in the tree of files.
 use Rattle.std.proofs.Common.{◌≡◌, ◌≢◌, ℕ, ◌<◌, true, false, [], ◌∷◌, length, Option, None, Some, is_some, refl, sym, ap, ◌∙◌, arith}
 use Rattle.std.specs.Prelude.{option_map, IsSome}
 use Rattle.pv_model.specs.declared.kind.Kind.{Kind}
@@ -16,12 +16,11 @@ use Rattle.pv_dirs.proofs.Strides.{no_entries, none_counted, none_left}
 use Rattle.pv_dirs.proofs.SlotBytes.{length-slot_entries}
 use Rattle.pv_dirs.proofs.TreeOf.{node_at-tree_of, used_in, blocks-tree_of, total_need-tree_of, tree_of-with_bytes, tree_of-with_number, holding-with_bytes, holding-with_number}
 
--- what stands there, where something does
 pub held_by : {X : Type 0} (o : Option X) → is_some o ≡ true → (x : X) × (o ≡ Some x)
 held_by None used = cc
 held_by (Some x) used = (x, refl)
 
--- ---- sorts and sizes
+-- ---- kinds and sizes
 
 sort_of-node_from : (v : Version) (sort : Kind) (bytes : Bytes) → sort_of (node_from v sort bytes) ≡ sort
 unfolding node_from
@@ -112,7 +111,7 @@ with_bytes_other v File xs ys other = refl
 with_bytes_other v Executable xs ys other = refl
 with_bytes_other v Symlink xs ys other = refl
 
--- a file or a link
+-- a file or a symbolic link
 pub record IsContent (f : Files) (n : ℕ) (c : Contained) : Type 0 where
   pub there : held f n ≡ Some c
   pub other : c.sort ≢ Directory

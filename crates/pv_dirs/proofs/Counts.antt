@@ -11,7 +11,7 @@ use Rattle.pv_dirs.specs.Counts.{count_in}
 use Rattle.pv_dirs.specs.Slots.{in_order, IsDistinct}
 use Rattle.pv_dirs.proofs.Entries.{by_name, find-in_order}
 
--- one, for a node itself
+-- 1 for the node itself, 0 for others
 abbrev pub one_if : ℕ → ℕ → ℕ
 one_if m n = cond (m == n) 1 0
 
@@ -32,7 +32,7 @@ pub count-most : (n : ℕ) (es : Entries) → count_in n es ≤ length es
 count-most n [] = omega arith
 count-most n (e ∷ es) = elim (e.1 == n) as (λ b. length (cond b (e ∷ filter (λ e. e.1 == n) es) (filter (λ e. e.1 == n) es)) ≤ suc (length es)) [ true ↦ omega (arith, count-most n es) | false ↦ omega (arith, count-most n es) ]
 
--- the order makes no difference
+-- the order does not matter
 pub count-in_order : (n : ℕ) (es : Entries) → IsDistinct es → count_in n (in_order es) ≡ count_in n es
 unfolding in_order IsDistinct
 count-in_order n [] apart = refl
@@ -47,7 +47,7 @@ count-append n (f ∷ es) e = omega (arith, count-cons n f (es ++ e ∷ []), cou
 
 -- ---- a pass
 
--- of the entries of a directory the first so many are counted
+-- the first k entries of a directory are counted
 pub record IsCountedUpTo (es : Entries) (directory k : ℕ) (counts parents old_counts old_parents : List ℕ) : Type 0 where
   pub counted : (n : ℕ) → get_or counts n 0 ≡ get_or old_counts n 0 + count_in n (take k es)
   pub above : (n : ℕ) → get_or parents n 0 ≡ cond (ltb 0 (count_in n (take k es))) directory (get_or old_parents n 0)

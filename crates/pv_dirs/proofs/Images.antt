@@ -1,4 +1,4 @@
--- The tree that the bytes of an image hold.
+-- The tree in the bytes of an image.
 use Rattle.std.proofs.Common.{◌≡◌, ◌≢◌, ℕ, zero, suc, ◌+◌, ◌*◌, ◌-◌, ◌/◌, ◌<◌, ◌≤◌, true, false, cond, ◌==◌, List, [], ◌∷◌, ◌++◌, map, length, get_or, Option, None, Some, refl, ap, sym, subst, ◌∙◌, arith}
 use Rattle.std.specs.Prelude.{option_map}
 use Rattle.std.specs.FinMap.Entries.{is_sorted}
@@ -27,9 +27,9 @@ use Rattle.pv_dirs.specs.Trees.{node_from, node_of, tree_of, IsHolding}
 use Rattle.pv_dirs.proofs.Entries.{by_name}
 use Rattle.pv_dirs.proofs.Permuted.{distinct_permuted, in_order-permuted}
 use Rattle.pv_dirs.proofs.SlotBytes.{length-slot_entries, get_or-slot_entries}
-use Rattle.pv_dirs.proofs.Stored.{spelled_are, measured_are}
+use Rattle.pv_dirs.proofs.Stored.{encoded_are, measured_are}
 
--- ---- which version, and how many inodes
+-- ---- the version, and the number of inodes
 
 magic_at : Version → ℕ
 magic_at v = get_or (magic v) 7 0
@@ -41,12 +41,12 @@ magic_once V1 V2 same = absurd (omega arith)
 magic_once V2 V1 same = absurd (omega arith)
 magic_once V2 V2 same = refl
 
--- two trees of one image have one version
+-- two trees of one image have the same version
 pub one_version : (bytes : Bytes) (t u : Tree) → IsImageOf bytes t → IsImageOf bytes u → t.version ≡ u.version
 unfolding magic_at
 one_version bytes t u is also = magic_once t.version u.version (ap (λ (xs : Bytes). get_or xs 7 0) (sym is.has_magic ∙ also.has_magic))
 
--- ---- what inodes hold
+-- ---- the contents of inodes
 
 some_once : {X : Type 0} {a b : X} → Some a ≡ Some b → a ≡ b
 some_once {X} {a} {b} same = ap (or_first a) same
@@ -77,15 +77,15 @@ module _ (v : Version) (bytes : Bytes) (n : ℕ) where
   used_by_as : ℕ → List ℕ
   used_by_as k = cond (k == 0) [] (used_content v bytes n ++ used_index v bytes n)
 
--- what spells the entries of a directory
-pub record Spells (v : Version) (bytes : Bytes) (es : Entries) : Type 0 where
+-- the encoding of the entries of a directory
+pub record Encodes (v : Version) (bytes : Bytes) (es : Entries) : Type 0 where
   pub in_order_is : in_order (slot_entries v bytes) ≡ es
   pub slotted : IsSlotted v bytes
 
-spells : (v : Version) (bytes : Bytes) (es : Entries) → (listed : Entries) × AreSlots v bytes listed × IsPermutation listed es → is_node v (directory_node es) ≡ true → Spells v bytes es
-spells v bytes es has is =
+encodes : (v : Version) (bytes : Bytes) (es : Entries) → (listed : Entries) × AreSlots v bytes listed × IsPermutation listed es → is_node v (directory_node es) ≡ true → Encodes v bytes es
+encodes v bytes es has is =
     let listed = has.0 in
-    let read = spelled_are v bytes listed has.1 in
+    let read = encoded_are v bytes listed has.1 in
     let parts = and_parts (is_sorted by_name es) (list_all (λ e. is_name v e.0) es) is in
     let slots = length-slot_entries v bytes in
     record {
@@ -108,12 +108,12 @@ spells v bytes es has is =
         sym (ap (λ (x : Bytes × ℕ). is_name v x.0) at) ∙ (and_parts (is_name v f.0) (list_all (λ g. is_name v g.0) fs) all).0
     named_at (f ∷ fs) (suc j) e all within at = named_at fs j e (and_parts (is_name v f.0) (list_all (λ g. is_name v g.0) fs) all).1 (omega arith) at
 
--- an inode holds what the node is
+-- an inode has the contents of the node
 node_held : (v : Version) (bytes : Bytes) (t : Tree) (n : ℕ) (node : Node) → t.version ≡ v → kind v bytes n ≡ sort_number node → HasContent v bytes n node → is_node v node ≡ true
     → option_map (node_of v) (contained v bytes n) ≡ Some node
 unfolding node_from
 node_held v bytes t n (directory_node es) version is has valid =
-    ap (option_map (node_of v)) (contained_node v bytes n (directory_node es) is) ∙ ap (λ (fs : Entries). Some (directory_node fs)) (spells v (content v bytes n) es has valid).in_order_is
+    ap (option_map (node_of v)) (contained_node v bytes n (directory_node es) is) ∙ ap (λ (fs : Entries). Some (directory_node fs)) (encodes v (content v bytes n) es has valid).in_order_is
 node_held v bytes t n (file_node false xs) version is has valid =
     ap (option_map (node_of v)) (contained_node v bytes n (file_node false xs) is) ∙ ap (λ (ys : Bytes). Some (file_node false ys)) has
 node_held v bytes t n (file_node true xs) version is has valid =
@@ -124,7 +124,7 @@ node_held v bytes t n (link_node text) version is has valid =
 -- ---- the blocks that they use
 
 module _ {X : Type 0} (f g : ℕ → List ℕ) where
-  -- at each number that is used both are the same, and elsewhere the second is nothing
+  -- at each number in use both are equal, and elsewhere the second has no value
   abbrev Agree : ℕ → Numbered X → Type 0
   Agree a xs = (k : ℕ) → k < length xs → ((at_number xs k ≡ None) → g (a + k) ≡ []) × ((x : X) → at_number xs k ≡ Some x → g (a + k) ≡ f (a + k))
 
@@ -228,12 +228,12 @@ module _ (bytes : Bytes) (t : Tree) (is : IsImageOf bytes t) where
   pub tree_is : tree_of (files_in v bytes t.inodes) ≡ t
   unfolding tree_of files_in
   tree_is =
-      let told = length-map-range_with_len (contained v bytes) 1 t.inodes in
+      let reported = length-map-range_with_len (contained v bytes) 1 t.inodes in
       let all : Numbered Node = map (option_map (node_of v)) (None ∷ map (contained v bytes) (range_with_len 1 t.inodes)) in
-      let long : length all ≡ suc t.inodes = omega (arith, told, length-map (map (contained v bytes) (range_with_len 1 t.inodes)) (option_map (node_of v))) in
+      let long : length all ≡ suc t.inodes = omega (arith, reported, length-map (map (contained v bytes) (range_with_len 1 t.inodes)) (option_map (node_of v))) in
       let nodes : all ≡ t.nodes = same_lists all t.nodes (long ∙ sym is.well_formed.numbers) each in
       let sizes_are : length bytes / 512 - (inode_blocks v t.inodes + 1) ≡ t.blocks = omega (arith, count_is, is.data_blocks) in
-      let inodes_are : suc (length (map (contained v bytes) (range_with_len 1 t.inodes))) - 1 ≡ t.inodes = omega (arith, told) in
+      let inodes_are : suc (length (map (contained v bytes) (range_with_len 1 t.inodes))) - 1 ≡ t.inodes = omega (arith, reported) in
       λ i. record { nodes = nodes i; blocks = sizes_are i; inodes = inodes_are i; version = v }
     where
       each : (k : ℕ) (d : Option Node) → k < length (map (option_map (node_of v)) (None ∷ map (contained v bytes) (range_with_len 1 t.inodes)))
@@ -242,30 +242,30 @@ module _ (bytes : Bytes) (t : Tree) (is : IsImageOf bytes t) where
           let some : 0 < length t.nodes = omega (arith, is.well_formed.numbers) in
           sym is.well_formed.no_zero ∙ at_number-get_or t.nodes 0 ∙ get_or_default t.nodes 0 None d some
       each (suc k) d within =
-          let told = length-map-range_with_len (contained v bytes) 1 t.inodes in
-          let below : k < t.inodes = omega (arith, within, told, length-map (map (contained v bytes) (range_with_len 1 t.inodes)) (option_map (node_of v))) in
+          let reported = length-map-range_with_len (contained v bytes) 1 t.inodes in
+          let below : k < t.inodes = omega (arith, within, reported, length-map (map (contained v bytes) (range_with_len 1 t.inodes)) (option_map (node_of v))) in
           let some : suc k < length t.nodes = omega (arith, is.well_formed.numbers) in
-          get_or-map (option_map (node_of v)) (map (contained v bytes) (range_with_len 1 t.inodes)) k None d (omega (arith, told))
+          get_or-map (option_map (node_of v)) (map (contained v bytes) (range_with_len 1 t.inodes)) k None d (omega (arith, reported))
           ∙ ap (option_map (node_of v)) (get_or-map-range_with_len (contained v bytes) 1 t.inodes k (suc k) None below (omega arith))
           ∙ node_is (suc k) (omega arith) (omega arith)
           ∙ at_number-get_or t.nodes (suc k) ∙ get_or_default t.nodes (suc k) None d some
 
-  -- ---- what directories keep
+  -- ---- the invariant of directories
 
   held_in : (n : ℕ) (c : Contained) → held (files_in v bytes t.inodes) n ≡ Some c → (1 ≤ n) × (n ≤ t.inodes) × (contained v bytes n ≡ Some c)
   unfolding files_in
   held_in zero c there = cc
   held_in (suc k) c there =
-      let told = length-map-range_with_len (contained v bytes) 1 t.inodes in
+      let reported = length-map-range_with_len (contained v bytes) 1 t.inodes in
       let within = at_number-within (map (contained v bytes) (range_with_len 1 t.inodes)) k c there in
-      let below : k < t.inodes = omega (arith, within, told) in (
+      let below : k < t.inodes = omega (arith, within, reported) in (
         omega arith,
         omega arith,
         sym (at_number-get_or (map (contained v bytes) (range_with_len 1 t.inodes)) k ∙ get_or-map-range_with_len (contained v bytes) 1 t.inodes k (suc k) None below (omega arith)) ∙ there,
       )
 
   slotted_as : (n : ℕ) (node : Node) (c : Contained) → HasContent v bytes n node → is_node v node ≡ true → record { sort = sort_of (sort_number node); bytes = content v bytes n } ≡ c → c.sort ≡ Directory → IsSlotted v c.bytes
-  slotted_as n (directory_node es) c has good same sort = subst (IsSlotted v) (ap (λ (x : Contained). x.bytes) same) (spells v (content v bytes n) es has good).slotted
+  slotted_as n (directory_node es) c has good same sort = subst (IsSlotted v) (ap (λ (x : Contained). x.bytes) same) (encodes v (content v bytes n) es has good).slotted
   slotted_as n (file_node false xs) c has good same sort = let file : File ≡ Directory = ap (λ (x : Contained). x.sort) same ∙ sort in cc
   slotted_as n (file_node true xs) c has good same sort = let file : Executable ≡ Directory = ap (λ (x : Contained). x.sort) same ∙ sort in cc
   slotted_as n (link_node text) c has good same sort = let file : Symlink ≡ Directory = ap (λ (x : Contained). x.sort) same ∙ sort in cc
@@ -280,12 +280,12 @@ module _ (bytes : Bytes) (t : Tree) (is : IsImageOf bytes t) where
           cc
       by (Some node) at =
           let h = held_in n c there in
-          let told = holds n node h.0 h.1 at in
-          let both : Some (record { sort = sort_of (sort_number node); bytes = content v bytes n }) ≡ Some c = sym (contained_node v bytes n node told.kind) ∙ h.2 in
-          slotted_as n node c told.has_content (valid n node at) (some_once both) sort
+          let reported = holds n node h.0 h.1 at in
+          let both : Some (record { sort = sort_of (sort_number node); bytes = content v bytes n }) ≡ Some c = sym (contained_node v bytes n node reported.kind) ∙ h.2 in
+          slotted_as n node c reported.has_content (valid n node at) (some_once both) sort
 
   numbers : t.inodes ≡ suc (length (map (contained v bytes) (range_with_len 1 t.inodes))) - 1
-  numbers = let told = length-map-range_with_len (contained v bytes) 1 t.inodes in omega (arith, told)
+  numbers = let reported = length-map-range_with_len (contained v bytes) 1 t.inodes in omega (arith, reported)
 
   pub holding : (block_count : ℕ) → block_count ≡ t.blocks → IsHolding (files_in v bytes t.inodes) block_count
   unfolding files_in
@@ -296,7 +296,7 @@ module _ (bytes : Bytes) (t : Tree) (is : IsImageOf bytes t) where
         subst (λ n. inode_blocks v n + 1 + block_count ≤ greatest_blocks v) numbers (omega (arith, counted, is.data_blocks, is.blocks_allowed.1));
   }
 
--- ---- the same of an image of this version
+-- ---- the same for an image of this version
 
 module _ (v : Version) (inodes : ℕ) (bytes : Bytes) (image : IsImage v inodes bytes) where
   pub image-files : files_in image.tree.version bytes image.tree.inodes ≡ files_in v bytes inodes
@@ -333,7 +333,7 @@ module _ (v : Version) (inodes : ℕ) (bytes : Bytes) (image : IsImage v inodes 
   pub image-holding : (block_count : ℕ) → block_count ≡ image.tree.blocks → IsHolding (files_in v bytes inodes) block_count
   image-holding block_count counted = subst (λ (f : Files). IsHolding f block_count) image-files (holding bytes image.tree image.is_image block_count counted)
 
-  -- the tree is the one that the bytes hold
+  -- the tree is that of the bytes
   pub image-tree : (t : Tree) → IsImageOf bytes t → tree_of (files_in v bytes inodes) ≡ t
   image-tree t is =
       let version : t.version ≡ v = one_version bytes t image.tree is image.is_image ∙ image.of_version in

@@ -26,15 +26,15 @@ use Rattle.pv_dirs.proofs.SlotBytes.{length-slot_entries, get_or-slot_entries, c
 use Rattle.pv_dirs.proofs.Strides.{none_counted}
 use Rattle.pv_dirs.proofs.TreeOf.{directory_held, directory_slotted}
 
--- an index leads to what is held
+-- an index leads to the entries of an inode
 IsLed : Index → Version → ℕ → Contained → Type 0
 IsLed ix v n c = c.sort ≡ Directory → AreLed ix v n c.bytes
 
--- a directory that is held has its entries led to
+-- an index leads to the entries of a directory
 pub directory_led : (f : Files) (d : ℕ) (ix : Index) → IsIndexed f ix → is_directory_at (tree_of f) d ≡ true → AreLed ix f.version d (bytes_at f d)
 directory_led f d ix indexed is = indexed d (record { sort = Directory; bytes = bytes_at f d }) (directory_held f d is) refl
 
--- a name that an index leads to in no slot is not found
+-- a name to which an index leads in no slot is not found
 pub absent_unled : (v : Version) (bytes : Bytes) (d : ℕ) (name : Bytes) (ix : Index) → AreLed ix v d bytes → ((k : ℕ) → k < slot_count v bytes → slot_name (slot_at v bytes k) ≡ name → Leads ix d name k → ⊥) → find by_name name (slot_entries v bytes) ≡ None
 absent_unled v bytes d name ix led none =
     let all = length-slot_entries v bytes in
@@ -43,7 +43,7 @@ absent_unled v bytes d name ix led none =
     let named : slot_name (slot_at v bytes k) ≡ name = ap (λ (x : Bytes × ℕ). x.0) (sym (get_or-slot_entries v bytes k e below)) ∙ same in
     none k below named (subst (λ (q : Bytes). Leads ix d q k) named (led.slots k below)))
 
--- an index that leads to what a first one leads to, and knows no more, but of directory n
+-- an index that leads to the same entries as another, and records no more, except for directory n
 pub record IsLikeBeside (n : ℕ) (ix new : Index) : Type 0 where
   pub leads : (m k : ℕ) (name : Bytes) → m ≢ n → Leads ix m name k → Leads new m name k
   pub known_before : (m : ℕ) → m ≢ n → known new m ≡ true → known ix m ≡ true
@@ -51,7 +51,7 @@ pub record IsLikeBeside (n : ℕ) (ix new : Index) : Type 0 where
 like_itself : (n : ℕ) (ix : Index) → IsLikeBeside n ix ix
 like_itself n ix = record { leads = λ m k name other leads. leads; known_before = λ m other is. is }
 
--- what one is led to, the other leads to
+-- it leads to the entries to which the other leads
 pub led_like : (n m : ℕ) (ix new : Index) (v : Version) (bytes : Bytes) → IsLikeBeside n ix new → m ≢ n → AreLed ix v m bytes → AreLed new v m bytes
 led_like n m ix new v bytes like other led = record {
   slots = λ k below. like.leads m k (slot_name (slot_at v bytes k)) other (led.slots k below);
@@ -85,7 +85,7 @@ indexed-with_new f n sort ix within indexed = indexed-with_number f n (record { 
 pub indexed-empty : (f : Files) (k : ℕ) (ix : Index) → f.nodes ≡ None ∷ replicate k None → IsIndexed f ix
 indexed-empty f k ix none = λ n c there. let nothing = ap (λ (xs : Numbered Contained). at_number xs n) none ∙ at_number-none (suc k) n in absurd (cc)
 
--- ---- files and links
+-- ---- files and symbolic links
 
 module _ (f : Files) (n : ℕ) (c : Contained) (is : IsContent f n c) (ix : Index) (indexed : IsIndexed f ix) where
   pub indexed-content : (xs : Bytes) → IsIndexed (with_bytes f n xs) ix
@@ -101,11 +101,11 @@ module _ (f : Files) (b d : ℕ) (h : IsHolding f b) (is : is_directory_at (tree
   led : AreLed ix f.version d (bytes_at f d)
   led = directory_led f d ix indexed is
 
-  -- one entry more
+  -- one more entry
   module _ (slot name : Bytes) (count : ℕ) (new : Index) (ascends : Bool) (long : length slot ≡ entry_length f.version) (named : slot_name slot ≡ name) (counted : count ≡ slot_count f.version (bytes_at f d))
       (this : Leads new d name count) (others : (e k : ℕ) (other : Bytes) → Leads ix e other k → Leads new e other k)
       (allowed : ascends ≡ true → AscendTo f.version (bytes_at f d) count name)
-      (said : known new d ≡ true → ascends ≡ true) (kept : (e : ℕ) → e ≢ d → known new e ≡ known ix e) where
+      (said : known new d ≡ true → ascends ≡ true) (preserved : (e : ℕ) → e ≢ d → known new e ≡ known ix e) where
     added_led : AreLed new f.version d (bytes_at f d ++ slot)
     added_led =
         let s = directory_slotted f b d h is in
@@ -134,15 +134,15 @@ module _ (f : Files) (b d : ℕ) (h : IsHolding f b) (is : is_directory_at (tree
     indexed-added =
         rw (written_end f d slot long) (indexed-with_bytes f d (record { sort = Directory; bytes = bytes_at f d }) (bytes_at f d ++ slot) ix new (directory_held f d is) indexed (record {
           leads = λ m k other apart. others m k other;
-          known_before = λ m apart is. sym (kept m apart) ∙ is;
+          known_before = λ m apart is. sym (preserved m apart) ∙ is;
         }) (λ e. added_led))
 
-  -- a hole closed by the last entry
+  -- a hole that is filled with the last entry
   module _ (hole last : ℕ) (long : length (bytes_at f d) ≡ entry_length f.version * suc last) (within : hole ≤ last) (less new : Index)
       (removed : (e k : ℕ) (other : Bytes) → (e ≡ d → k ≢ hole) → Leads ix e other k → Leads less e other k) (left : (e : ℕ) → known less e ≡ known ix e)
       (moved : Leads less d (slot_name (slot_at f.version (bytes_at f d) last)) last → Leads new d (slot_name (slot_at f.version (bytes_at f d) last)) hole)
       (changed : (e k : ℕ) (other : Bytes) → (e ≡ d → k ≢ last) → Leads less e other k → Leads new e other k)
-      (stays : known new d ≡ true → last ≡ hole) (kept : (e : ℕ) → known new e ≡ true → known less e ≡ true) where
+      (stays : known new d ≡ true → last ≡ hole) (preserved : (e : ℕ) → known new e ≡ true → known less e ≡ true) where
     closed_led : AreLed new f.version d (closed_bytes f.version (bytes_at f d) hole last)
     closed_led =
         let bytes = bytes_at f d in
@@ -168,7 +168,7 @@ module _ (f : Files) (b d : ℕ) (h : IsHolding f b) (is : is_directory_at (tree
               let apart_j : j ≢ hole = λ e. omega arith in
               let apart_k : k ≢ hole = λ e. omega arith in
               rw (slot_at-closed_other v bytes hole last long within j first apart_j, slot_at-closed_other v bytes hole last long within k in_front apart_k)
-              (led.ordered (sym (left d) ∙ kept d is) j k below_k (omega arith));
+              (led.ordered (sym (left d) ∙ preserved d is) j k below_k (omega arith));
         }
 
     pub indexed-removed : IsIndexed (shortened f d hole (slot_at f.version (bytes_at f d) last) last) new
@@ -176,5 +176,5 @@ module _ (f : Files) (b d : ℕ) (h : IsHolding f b) (is : is_directory_at (tree
         rw (shortened_is f b d h is hole last long within)
         (indexed-with_bytes f d (record { sort = Directory; bytes = bytes_at f d }) (closed_bytes f.version (bytes_at f d) hole last) ix new (directory_held f d is) indexed (record {
           leads = λ m k other apart leads. changed m k other (λ same. absurd (apart same)) (removed m k other (λ same. absurd (apart same)) leads);
-          known_before = λ m apart is. sym (left m) ∙ kept m is;
+          known_before = λ m apart is. sym (left m) ∙ preserved m is;
         }) (λ e. closed_led))

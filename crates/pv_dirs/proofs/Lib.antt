@@ -1,11 +1,13 @@
 -- Lemmas of directories on slots.
--- - entries: Entries, Closing (a hole that the last slot closes), Next (the next name), Permuted (entries in another order), Ascending
---   (names that ascend from slot to slot), Between (what the names between two share with them)
--- - bytes: Strides (parts of one length), SlotBytes, Runs (bytes from a slot on), Stored (slots as the format spells them)
+--
+-- - entries: Entries, Closing (filling a hole with the last slot), Next (the next name), Permuted (entries in another
+--   order), Ascending (names that ascend from slot to slot), Between (what the names between two names have in common
+--   with them)
+-- - bytes: Strides (parts of equal length), SlotBytes, Runs (bytes from a slot on), Stored (slots in the image format)
 -- - passes over slots: Passes (for the next name), Named (for one that names a node), Counts (of entries)
--- - trees: TreeOf, Viewed (what a clause about the tree says of files), Mapped, Adding, Removing, Exchanging, Contents, Emptiness,
---   Outcomes, Images (the tree of an image)
--- - the index: Leading (to which entries it leads), Indexed (that it still does after a change)
+-- - trees: TreeOf, Viewed (statements about the tree as statements about files), Mapped, Adding, Removing, Exchanging,
+--   Contents, Emptiness, Outcomes, Images (the tree of an image)
+-- - the index: Leading (the entries to which it leads), Indexed (the index after a change)
 pub mod Adding
 pub mod Ascending
 pub mod Between

@@ -1,4 +1,4 @@
--- Maps from numbers, each value through a function.
+-- Maps from numbers, with a function applied to each value.
 use Rattle.std.proofs.Common.{◌≡◌, ◌≢◌, ℕ, zero, suc, ◌<◌, [], ◌∷◌, length, map, replicate, None, Some, refl, ap, arith}
 use Rattle.std.specs.List.{sum_by}
 use Rattle.std.specs.Prelude.{option_map}
@@ -26,7 +26,7 @@ module _ {X Y : Type 0} (g : X → Y) where
   least_free-map (None ∷ xs) = refl
   least_free-map (Some x ∷ xs) = ap suc (least_free-map xs)
 
-  -- a sum over the values, where each counts the same
+  -- a sum over the values, if each contributes the same
   pub sum_by-present-map : (h : Y → ℕ) (k : X → ℕ) (xs : Numbered X) → ((n : ℕ) (x : X) → at_number xs n ≡ Some x → h (g x) ≡ k x)
       → sum_by h (present (map (option_map g) xs)) ≡ sum_by k (present xs)
   sum_by-present-map h k [] same = refl
@@ -45,7 +45,7 @@ module _ {X : Type 0} where
   length-without_number (x ∷ xs) zero = refl
   length-without_number (x ∷ xs) (suc n) = ap suc (length-without_number xs n)
 
-  -- what holds of each other value, and of a new one
+  -- a property of each other value, and of a new one
   pub each-with_number : (P : ℕ → X → Type 0) (xs : Numbered X) (n : ℕ) (v : X) → n < length xs → ((m : ℕ) (y : X) → m ≢ n → at_number xs m ≡ Some y → P m y) → ((y : X) → Some v ≡ Some y → P n y)
       → (m : ℕ) (y : X) → at_number (with_number xs n v) m ≡ Some y → P m y
   each-with_number P [] n v within each new m y there = absurd (omega arith)
@@ -61,7 +61,7 @@ module _ {X : Type 0} where
   each-without_number P (x ∷ xs) (suc n) each zero y there = each 0 y there
   each-without_number P (x ∷ xs) (suc n) each (suc m) y there = each-without_number (λ k. P (suc k)) xs n (λ k z at. each (suc k) z at) m y there
 
--- ---- nothing under any number
+-- ---- maps without values
 
 pub at_number-none : {X : Type 0} (k n : ℕ) → at_number {X = X} (replicate k None) n ≡ None
 at_number-none zero n = refl

@@ -1,4 +1,4 @@
--- The next of the names in the slots of a directory that have the number of a node.
+-- The next of the names in the slots of a directory that have an inode number.
 use Rattle.std.proofs.Common.{◌≡◌, ◌≢◌, ℕ, ◌+◌, ◌<◌, Bool, true, false, cond, Option, None, Some, is_some, refl, sym, ap, subst, ◌∙◌, ◌⊎◌, inl, inr, arith}
 use Rattle.std.proofs.lemmas.Bool.{cases_eq}
 use Rattle.std.specs.Ordering.{is_lt}
@@ -18,10 +18,10 @@ use Rattle.pv_dirs.proofs.SlotBytes.{find-slot_entries}
 use Rattle.pv_dirs.proofs.TreeOf.{directory_slotted}
 use Rattle.pv_dirs.proofs.Viewed.{viewed_directory, viewed_find}
 
--- ---- of some names
+-- ---- names with a property
 
 module _ (P Q : Bytes → Type 0) (last : Option Bytes) where
-  -- of the same names it is the same
+  -- equivalent properties have the same next name
   pub next-same : (next : Option Bytes) → ((name : Bytes) → P name → Q name) → ((name : Bytes) → Q name → P name) → IsNextOf P last next → IsNextOf Q last next
   next-same None forth back none = λ other is. none other (back other is)
   next-same (Some name) forth back next = record {
@@ -30,7 +30,7 @@ module _ (P Q : Bytes → Type 0) (last : Option Bytes) where
     least = λ other is after. next.least other (back other is) after;
   }
 
-  -- with one name more
+  -- with one more name
   module _ (name : Bytes) (old : (other : Bytes) → P other → Q other) (new : Q name) (split : (other : Bytes) → Q other → P other ⊎ (other ≡ name)) where
     itself : (other : Bytes) → other ≡ name → is_past (Some other) name ≡ false
     itself other same = ap (λ (x : Bytes). is_lt (by_name x name)) same ∙ ap is_lt (same_Equal name)
@@ -89,7 +89,7 @@ module _ (v : Version) (bytes : Bytes) (n : ℕ) (last : Option Bytes) where
     earlier : (name : Bytes) → IsInSlots v bytes k n name → IsInSlots v bytes (k + 1) n name
     earlier name is = (is.0, omega (arith, is.1), is.2, is.3)
 
-    -- one slot more, of another number
+    -- one more slot with another number
     pub next-skipped : slot_number (slot_at v bytes k) ≢ n → IsNextOf (IsInSlots v bytes (k + 1) n) last best
     next-skipped other = next-same (IsInSlots v bytes k n) (IsInSlots v bytes (k + 1) n) last best earlier
         (λ name is. elim (cases_eq is.0 k) [
@@ -97,7 +97,7 @@ module _ (v : Version) (bytes : Bytes) (n : ℕ) (last : Option Bytes) where
           | inr there ↦ (is.0, omega (arith, is.1), is.2, is.3)
         ]) so
 
-    -- one slot more, of this number
+    -- one more slot with this number
     pub next-taken : slot_number (slot_at v bytes k) ≡ n → IsNextOf (IsInSlots v bytes (k + 1) n) last (better_of last (slot_name (slot_at v bytes k)) best)
     next-taken same = next-more (IsInSlots v bytes k n) (IsInSlots v bytes (k + 1) n) last (slot_name (slot_at v bytes k)) earlier (k, omega arith, same, refl)
         (λ name is. elim (cases_eq is.0 k) [
@@ -117,7 +117,7 @@ module _ (f : Files) (b : ℕ) (t : Tree) (d n : ℕ) (view : tree_of f ≡ t) (
   entry_of_slot : (name : Bytes) → IsInSlots f.version (bytes_at f d) (slot_count f.version (bytes_at f d)) n name → find_entry t d name ≡ Some n
   entry_of_slot name at = found_in_slot at.0 name at.1 at.3 ∙ ap Some at.2
 
-  -- a name that leads to a node stands in a slot with the node's number
+  -- a name that leads to a node is in a slot with the node's number
   slot_of_entry : (name : Bytes) → find_entry t d name ≡ Some n → IsInSlots f.version (bytes_at f d) (slot_count f.version (bytes_at f d)) n name
   slot_of_entry name there =
       let at = listed_in f.version (bytes_at f d) name (ap is_some (find-in_order name (slot_entries f.version (bytes_at f d)) ∙ sym (viewed_find f t d view name is) ∙ there)) in

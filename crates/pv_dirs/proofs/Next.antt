@@ -1,4 +1,4 @@
--- The next name of entries in order, after the last one.
+-- The next name of sorted entries after the last one.
 use Rattle.std.proofs.Common.{◌≡◌, ◌≢◌, ℕ, ◌+◌, ◌<◌, ◌++◌, length, take, get_or, Bool, true, false, cond, ◌&&◌, [], ◌∷◌, Option, None, Some, is_some, T, refl, ap, sym, subst, ◌∙◌}
 use Rattle.std.proofs.lemmas.List.{take_more}
 use Rattle.std.specs.Ordering.{is_lt, is_some_and, nat_cmp, ordering_reverse}
@@ -22,7 +22,7 @@ less_from Greater is = cc
 pub greater_from : (a b : Bytes) → by_name a b ≡ Less → by_name b a ≡ Greater
 greater_from a b is = total.antisymm b a ∙ ap ordering_reverse is
 
--- what is after a name after the last one is after the last one
+-- a name that follows one after the last name also follows the last name
 after_more : (last : Option Bytes) (a b : Bytes) → is_past last a ≡ true → by_name a b ≡ Less → is_past last b ≡ true
 after_more None a b is less = refl
 after_more (Some l) a b is less = ap is_lt (total.trans l a b (less_from (by_name l a) is) less)
@@ -56,7 +56,7 @@ put_same last k e es same =
       | false ↦ λ is. ap (λ b. better b k (next_name last es)) (sym (ap (is_past last) (same_name k e.0 same) ∙ is))
     ] refl
 
--- one entry more
+-- one more entry
 pub next_name-put : (last : Option Bytes) (k : Bytes) (v : ℕ) (es : Entries) → next_name last (put by_name k v es) ≡ better (is_past last k) k (next_name last es)
 next_name-put last k v [] = elim (is_past last k) as (λ b. cond b (Some k) None ≡ better b k None) [ true ↦ refl | false ↦ refl ]
 next_name-put last k v (e ∷ es) =
@@ -80,7 +80,7 @@ both_parts : (a b : Bool) → (a && b) ≡ true → (a ≡ true) × (b ≡ true)
 both_parts true b is = (refl, is)
 both_parts false b is = cc
 
--- what is listed after a name that is below all is not less
+-- a name that is listed after one below all entries is not less
 listed_above : (x other : Bytes) (es : Entries) → below_all by_name x es ≡ true → IsListed es other → by_name x other ≡ Less
 listed_above x other [] below listed = cc
 listed_above x other (e ∷ es) below listed =
@@ -137,7 +137,7 @@ next_name_is last (e ∷ es) sorted =
       | false ↦ λ is. next_later last e es (next_name last es) is (next_name_is last es parts.1)
     ] refl
 
--- ---- one entry more of a list that is gone through
+-- ---- one more entry of a list
 
 pub next_name-more : (last : Option Bytes) (es : Entries) (k : ℕ) (e : Bytes × ℕ) → IsDistinct es → k < length es → get_or es k e ≡ e
     → next_name last (in_order (take (k + 1) es)) ≡ better (is_past last e.0) e.0 (next_name last (in_order (take k es)))
@@ -151,13 +151,13 @@ next_name-more last es k e d within at =
 pub next_name_in_order : (last : Option Bytes) (es : Entries) → IsNextName last (in_order es) (next_name last (in_order es))
 next_name_in_order last es = next_name_is last (in_order es) (from_T (is_sorted by_name (in_order es)) (sorted-in_order es))
 
--- an entry has the next name
+-- some entry has the next name
 pub next_found : (last : Option Bytes) (es : Entries) (name : Bytes) → Some name ≡ next_name last (in_order es) → find by_name name es ≢ None
 next_found last es name is none =
     let least : IsLeastPast last (in_order es) name = subst (IsNextName last (in_order es)) (sym is) (next_name_in_order last es) in
     let no = sym (ap is_some (find-in_order name es ∙ none)) ∙ least.listed in cc
 
--- ---- going over slots
+-- ---- iterating over slots
 
 pub bytes_less : (xs ys : Bytes) → is_some_and is_lt (slice_partial_cmp (λ x y. Some (nat_cmp x y)) xs ys) ≡ is_lt (slice_cmp nat_cmp xs ys)
 bytes_less xs ys = ap (λ (o : Option Ordering). is_some_and is_lt o) (lists_agrees (λ x y. refl) xs ys)

@@ -1,9 +1,9 @@
--- What follows from what a call left, by its outcome.
+-- The consequences of a call's result.
 use Rattle.std.proofs.Common.{◌≡◌, ℕ, Option, None, Some, Result, Ok, Err, true, sym, subst}
 use Rattle.std.specs.Prelude.{OnOk, OnErr, IfNone, IfSome}
 use Rattle.std.specs.Result.{is_ok}
 
--- what holds of what either outcome leaves
+-- a property of the result of either outcome
 pub either_way : {E X : Type 0} (P : X → Type 0) (r : Result (Unit {0}) E) (old after new : X) → OnOk r (new ≡ after) → OnErr r (new ≡ old) → P after → P old → P new
 either_way P (Ok u) old after new ok err p q = subst P (sym ok) p
 either_way P (Err e) old after new ok err p q = subst P (sym err) q
@@ -12,7 +12,7 @@ pub on_ok : {E P Q : Type 0} (r : Result (Unit {0}) E) → OnOk r P → (P → Q
 on_ok (Ok u) p f = f p
 on_ok (Err e) p f = p
 
--- what holds where a call was done
+-- a property that holds on success
 pub ok_is : {E P : Type 0} (r : Result (Unit {0}) E) → is_ok r ≡ true → OnOk r P → P
 ok_is (Ok u) is p = p
 ok_is (Err e) is p = cc

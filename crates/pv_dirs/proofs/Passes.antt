@@ -1,4 +1,4 @@
--- A pass over the slots of a directory that begins with one of its names.
+-- A scan of the slots of a directory that starts with one of its names.
 use Rattle.std.proofs.Common.{◌≡◌, ◌≢◌, ℕ, ◌+◌, ◌<◌, take, Bool, true, false, cond, Option, None, Some, is_some, refl, ap, sym, ◌∙◌, arith}
 use Rattle.std.specs.Ordering.{is_lt, ordering_reverse}
 use Rattle.std.specs.declared.cmp.Ordering.{Ordering}
@@ -13,7 +13,7 @@ use Rattle.pv_dirs.proofs.SlotBytes.{length-slot_entries, get_or-slot_entries}
 use Rattle.pv_dirs.proofs.Entries.{by_name, total, same_name, find_at, find-in_order}
 use Rattle.pv_dirs.proofs.Next.{less_from, better, better-is, better_least, next_name-more, next_name_in_order}
 
--- the lesser of two names, of which the first may be missing, as may the second
+-- the lesser of two optional names
 abbrev pub lesser : Option Bytes → Option Bytes → Option Bytes
 lesser None best = best
 lesser (Some name) best = better true name best
@@ -30,7 +30,7 @@ not_less Less other = absurd (other refl)
 not_less Equal other = refl
 not_less Greater other = refl
 
--- of two names the lesser is one, whichever comes first
+-- the lesser of two names does not depend on their order
 lesser_of_two : (a b : Bytes) → better true a (Some b) ≡ better true b (Some a)
 lesser_of_two a b = elim (by_name a b) as (λ o. by_name a b ≡ o → better true a (Some b) ≡ better true b (Some a)) [
   | Less ↦ λ is. rw (is, turned a b Less is) refl
@@ -38,7 +38,7 @@ lesser_of_two a b = elim (by_name a b) as (λ o. by_name a b ≡ o → better tr
   | Greater ↦ λ is. rw (is, turned a b Greater is) refl
 ] refl
 
--- what is not less than a name is not less than one below that
+-- a name that is not less than another is not less than a smaller one
 pub stays : (a c x : Bytes) → is_lt (by_name c x) ≡ true → is_lt (by_name a x) ≡ false → is_lt (by_name a c) ≡ false
 stays a c x below not_below = elim (is_lt (by_name a c)) as (λ b. is_lt (by_name a c) ≡ b → b ≡ false) [
   | true ↦ λ is. let less = total.trans a c x (less_from (by_name a c) is) (less_from (by_name c x) below) in let no = sym (ap is_lt less) ∙ not_below in cc
@@ -52,7 +52,7 @@ both a c x true false is_c is_a = rw (is_c, stays a c x is_c is_a) refl
 both a c x false true is_c is_a = rw (is_a, stays c a x is_a is_c) refl
 both a c x false false is_c is_a = rw (is_c, is_a) refl
 
--- two names improve the best in either order
+-- two names improve the best one in either order
 either_order : (b : Bool) (a c : Bytes) (best : Option Bytes) → better true a (better b c best) ≡ better b c (better true a best)
 either_order false a c best = refl
 either_order true a c None = lesser_of_two a c
@@ -63,7 +63,7 @@ lesser-better None b name best = refl
 lesser-better (Some a) b name best = either_order b a name best
 
 module _ (v : Version) (last : Option Bytes) (bytes : Bytes) (k : ℕ) (start best : Option Bytes) (d : IsDistinct (slot_entries v bytes)) (within : k < slot_count v bytes) (best_is : best ≡ lesser start (next_name last (in_order (take k (slot_entries v bytes))))) where
-  -- the next name of one slot more
+  -- the next name with one more slot
   pub next_name-slot : better_of last (slot_name (slot_at v bytes k)) best ≡ lesser start (next_name last (in_order (take (k + 1) (slot_entries v bytes))))
   next_name-slot =
       let name = slot_name (slot_at v bytes k) in
@@ -73,7 +73,7 @@ module _ (v : Version) (last : Option Bytes) (bytes : Bytes) (k : ℕ) (start be
       ∙ sym (lesser-better start (is_past last name) name (next_name last (in_order (take k (slot_entries v bytes)))))
       ∙ ap (lesser start) (sym more)
 
--- a name of the list is no better than the best of all
+-- a name of the list does not improve the best of all
 no_better : (b : Bool) (last : Option Bytes) (es : Entries) (name : Bytes) (next : Option Bytes) → is_past last name ≡ b → IsListed es name → IsNextName last es next → lesser (better b name None) next ≡ next
 no_better false last es name next is listed best = refl
 no_better true last es name None is listed best = absurd (best name listed is)
@@ -87,7 +87,7 @@ slot_listed v bytes k d within =
     ∙ find_at (slot_entries v bytes) k entry d (omega (arith, length-slot_entries v bytes)) (get_or-slot_entries v bytes k entry within))
 
 module _ (v : Version) (last : Option Bytes) (bytes : Bytes) (k : ℕ) (start : Option Bytes) (d : IsDistinct (slot_entries v bytes)) (within : k < slot_count v bytes) (start_is : start ≡ better_of last (slot_name (slot_at v bytes k)) None) where
-  -- a pass that begins with a name of the directory ends with the next name all the same
+  -- a scan that starts with any name of the directory ends with the next name
   pub next_name-start : lesser start (next_name last (in_order (slot_entries v bytes))) ≡ next_name last (in_order (slot_entries v bytes))
   next_name-start =
       let name = slot_name (slot_at v bytes k) in

@@ -1,4 +1,4 @@
--- An entry taken away from a directory.
+-- Removing an entry from a directory.
 use Rattle.std.proofs.Common.{◌≡◌, ℕ, suc, ◌+◌, ◌*◌, ◌≤◌, true, not, bytes_eq, length, sym, ap, ◌∙◌}
 use Rattle.std.specs.FinMap.Entries.{where_key}
 use Rattle.pv_model.specs.declared.kind.Kind.TheVariants.{Directory}
@@ -16,12 +16,12 @@ use Rattle.pv_dirs.proofs.Entries.{by_name}
 use Rattle.pv_dirs.proofs.SlotBytes.{closed_bytes, slotted-closed, in_order-closed_bytes}
 use Rattle.pv_dirs.proofs.TreeOf.{directory_held, directory_used, directory_slotted, entries_at-tree_of, tree_of-with_bytes, holding-with_bytes}
 
--- the same, where the hole begins at a place
+-- the same, if the hole starts at an offset
 abbrev pub shortened_from : Files → ℕ → ℕ → Bytes → ℕ → Files
 shortened_from f d at moved last =
     with_bytes (with_bytes f d (overwrite (bytes_at f d) at moved)) d (resize (bytes_at (with_bytes f d (overwrite (bytes_at f d) at moved)) d) (entry_length f.version * last))
 
--- the files after the hole was filled with the last slot, and the end was cut
+-- the files after the hole is filled with the last slot, and the end is truncated
 abbrev pub filled : Files → ℕ → ℕ → Bytes → Files
 filled f d hole moved = with_bytes f d (overwrite (bytes_at f d) (entry_length f.version * hole) moved)
 
@@ -51,6 +51,6 @@ module _ (f : Files) (b d : ℕ) (h : IsHolding f b) (is : is_directory_at (tree
       ∙ ap directory_node (in_order-closed_bytes f.version (bytes_at f d) hole last long within s.distinct name named
       ∙ ap (where_key by_name (λ other. not (bytes_eq other name))) (sym (entries_at-tree_of f d is))))
 
--- what was filled is as long as before
+-- filling the hole does not change the length
 pub length-filled : (f : Files) (d hole : ℕ) (moved : Bytes) → is_directory_at (tree_of f) d ≡ true → entry_length f.version * hole + length moved ≤ length (bytes_at f d) → length (bytes_at (filled f d hole moved) d) ≡ length (bytes_at f d)
 length-filled f d hole moved is fits = ap length (bytes_at-with_bytes f d (overwrite (bytes_at f d) (entry_length f.version * hole) moved) (directory_used f d is)) ∙ length-overwrite (bytes_at f d) (entry_length f.version * hole) moved fits

@@ -9,7 +9,7 @@ use Rattle.pv_dirs.specs.Slots.{slot_at, slot_name, slot_number, IsRun}
 use Rattle.pv_dirs.proofs.SlotBytes.{front_number}
 use Rattle.pv_dirs.proofs.Strides.{slot_least}
 
--- some of the bytes, as far as they go
+-- contiguous bytes of the directory
 pub run_taken : (v : Version) (bytes run : Bytes) (k n at : ℕ) → at ≡ entry_length v * k → run ≡ take n (drop at bytes) → IsRun v bytes k run
 run_taken v bytes run k n at begins is =
     let rest : Bytes = drop (entry_length v * k) bytes in
@@ -17,12 +17,12 @@ run_taken v bytes run k n at begins is =
     let long : length run ≡ min n (length rest) = ap length taken ∙ length-take n rest in
     taken ∙ sym (ap (λ m. take m rest) long ∙ take_min n rest)
 
--- the first slot of a run that has all of it
+-- the first slot of a run that contains all of it
 pub run_slot : (v : Version) (bytes run : Bytes) (k : ℕ) → IsRun v bytes k run → entry_length v ≤ length run → take (entry_length v) run ≡ slot_at v bytes k
 unfolding slot_at
 run_slot v bytes run k is whole = ap (take (entry_length v)) is ∙ take-take (entry_length v) (length run) (drop (entry_length v * k) bytes) whole
 
--- what is left after it begins with the next slot
+-- the rest after it starts with the next slot
 pub run_after : (v : Version) (bytes run : Bytes) (k l : ℕ) → l ≡ entry_length v → IsRun v bytes k run → IsRun v bytes (k + 1) (drop l run)
 run_after v bytes run k l long is =
     let rest : Bytes = drop (entry_length v * k) bytes in
@@ -42,7 +42,7 @@ run_after v bytes run k l long is =
 pub run_name : (v : Version) (bytes run : Bytes) (k l : ℕ) → l ≡ entry_length v → IsRun v bytes k run → l ≤ length run → slot_name (take l run) ≡ slot_name (slot_at v bytes k)
 run_name v bytes run k l long is whole = ap (λ n. slot_name (take n run)) long ∙ ap slot_name (run_slot v bytes run k is (omega (arith, long, whole)))
 
--- the number in it
+-- the inode number in it
 pub run_number : (v : Version) (bytes run : Bytes) (k : ℕ) → IsRun v bytes k run → 2 ≤ length run → slot_number run ≡ slot_number (slot_at v bytes k)
 unfolding slot_at
 run_number v bytes run k is long =

@@ -1,4 +1,4 @@
--- The slots of bytes: one added after them, and a hole closed by the last.
+-- The slots of bytes: appending one, and filling a hole with the last.
 use Rattle.std.proofs.Common.{min, ◌≡◌, ◌≢◌, ℕ, zero, suc, ◌+◌, ◌-◌, ◌*◌, ◌/◌, ◌%◌, ◌<◌, ◌≤◌, IsTrue, [], ◌∷◌, ◌++◌, length, take, drop, get_or, set, None, Some, not, bytes_eq, refl, ap, ap₂, sym, subst, ◌∙◌, arith, inl, inr, zero-add, mul-le-mul_left}
 use Rattle.std.specs.FinMap.Entries.{find, where_key}
 use Rattle.std.proofs.lemmas.Bool.{cases_lt, cases_eq}
@@ -16,7 +16,7 @@ use Rattle.pv_dirs.proofs.Strides.{slot_some, component_before, component_within
 use Rattle.pv_dirs.proofs.Entries.{by_name, distinct-append, find_at}
 use Rattle.pv_dirs.proofs.Closing.{closed, distinct-closed, in_order-closed}
 
--- to write after the end is to append
+-- writing after the end appends
 pub overwrite-end : (old : Bytes) (new : Bytes) → overwrite old (length old) new ≡ old ++ new
 overwrite-end old new =
     overwrite-over old (length old) new (omega arith)
@@ -24,7 +24,7 @@ overwrite-end old new =
     ∙ ap (λ (xs : Bytes). old ++ (new ++ xs)) (drop_all (length old + length new) old (omega arith))
     ∙ ap (λ (xs : Bytes). old ++ xs) (append-nil new)
 
--- ---- a slot in front of other bytes
+-- ---- a slot before other bytes
 
 front_part : (n l : ℕ) (xs : Bytes) → 4 + n ≤ l → take n (drop 4 (take l xs)) ≡ take n (drop 4 xs)
 front_part n l xs fits =
@@ -68,7 +68,7 @@ module _ (v : Version) where
       let all : n ≡ L = omega arith in
       rw all (ap (λ (xs : Bytes). take L (drop (L * k) bytes) ++ xs) (drop_all L old (omega arith)) ∙ append-nil (take L (drop (L * k) bytes)))
 
-  -- the same, from where it begins
+  -- the same, by its offset
   pub slot_taken : (bytes old new : Bytes) (k n at : ℕ) → at ≡ L * k → k < slot_count v bytes → n ≡ min (length old) (length bytes - at) → new ≡ take n (drop at bytes) ++ drop n old → length old ≡ L
       → new ≡ slot_at v bytes k
   slot_taken bytes old new k n at begins within count is long =
@@ -99,7 +99,7 @@ module _ (v : Version) where
       ap (λ (q : Bytes). find by_name q (slot_entries v bytes)) (sym named)
       ∙ find_at (slot_entries v bytes) k (slot_entry v bytes k) distinct (omega (arith, length-slot_entries bytes)) (get_or-slot_entries bytes k (slot_entry v bytes k) within)
 
-  -- ---- one slot more
+  -- ---- one more slot
 
   module _ (bytes : Bytes) (slot : Bytes) (whole : length bytes % L ≡ 0) (long : length slot ≡ L) where
     length_more : length (bytes ++ slot) ≡ length bytes + L
@@ -156,7 +156,7 @@ module _ (v : Version) where
         distinct = rw (slot_entries-append bytes slot whole long) (distinct-append (slot_entries v bytes) (slot_name slot) (slot_number slot) s.distinct absent);
       }
 
-  -- ---- a hole closed by the last slot
+  -- ---- a hole that is filled with the last slot
 
   abbrev pub closed_bytes : Bytes → ℕ → ℕ → Bytes
   closed_bytes bytes k last = resize (overwrite bytes (L * k) (slot_at v bytes last)) (L * last)
@@ -168,15 +168,15 @@ module _ (v : Version) where
     moved : length (slot_at v bytes last) ≡ L
     moved = length-slot_at bytes last (omega arith)
 
-    length_kept : length (overwrite bytes (L * k) (slot_at v bytes last)) ≡ length bytes
-    length_kept = length-overwrite bytes (L * k) (slot_at v bytes last) (omega (arith, moved, front))
+    length_preserved : length (overwrite bytes (L * k) (slot_at v bytes last)) ≡ length bytes
+    length_preserved = length-overwrite bytes (L * k) (slot_at v bytes last) (omega (arith, moved, front))
 
     pub length-closed_bytes : length (closed_bytes bytes k last) ≡ L * last
-    length-closed_bytes = length-resize_shorter (overwrite bytes (L * k) (slot_at v bytes last)) (L * last) (omega (arith, length_kept))
+    length-closed_bytes = length-resize_shorter (overwrite bytes (L * k) (slot_at v bytes last)) (L * last) (omega (arith, length_preserved))
 
     get_or-closed : (x : ℕ) → x < L * last → get_or (closed_bytes bytes k last) x 0 ≡ get_or (over bytes (L * k) (slot_at v bytes last)) x 0
     get_or-closed x below =
-        get_or-resize_shorter (overwrite bytes (L * k) (slot_at v bytes last)) (L * last) (omega (arith, length_kept)) x below
+        get_or-resize_shorter (overwrite bytes (L * k) (slot_at v bytes last)) (L * last) (omega (arith, length_preserved)) x below
         ∙ ap (λ (xs : Bytes). get_or xs x 0) (overwrite-over bytes (L * k) (slot_at v bytes last) (omega (arith, front)))
 
     fits : L * k + length (slot_at v bytes last) ≤ length bytes
@@ -231,7 +231,7 @@ module _ (v : Version) where
         ]
         ∙ sym (get_or-take last (set (slot_entries v bytes) k (slot_entry v bytes last)) i d less))
 
-    -- the entries are those of before the last, and the last
+    -- the entries are those before the last, and the last
     pub slot_entries-last : slot_entries v bytes ≡ take last (slot_entries v bytes) ++ slot_entry v bytes last ∷ []
     slot_entries-last =
         let all = length-slot_entries bytes in
@@ -269,7 +269,7 @@ module _ (v : Version) where
           distinct = rw slot_entries-closed_front (distinct-closed (take last (slot_entries v bytes)) (slot_entry v bytes last) k (subst IsDistinct slot_entries-last s.distinct) in_front);
         }
 
-    -- the entry in the hole is gone
+    -- the entry in the hole is removed
     pub in_order-closed_bytes : IsDistinct (slot_entries v bytes) → (name : Bytes) → slot_name (slot_at v bytes k) ≡ name
         → in_order (slot_entries v (closed_bytes bytes k last)) ≡ where_key by_name (λ other. not (bytes_eq other name)) (in_order (slot_entries v bytes))
     in_order-closed_bytes distinct name is =

@@ -1,4 +1,4 @@
--- Slots as an image's format spells them.
+-- Slots in the image format.
 use Rattle.std.proofs.Common.{◌≡◌, ℕ, zero, suc, ◌+◌, ◌*◌, ◌/◌, ◌%◌, ◌<◌, [], ◌∷◌, ◌++◌, length, take, drop, get_or, refl, ap, sym, subst, ◌∙◌, arith}
 use Rattle.std.specs.Prelude.{slice_index}
 use Rattle.std.proofs.lemmas.List.{same_lists, length-append, length-drop, length-take-le, get_or_append_left, get_or-append_right, take_at, take-append-drop}
@@ -47,7 +47,7 @@ module _ (v : Version) (slot rest : Bytes) (long : length slot ≡ entry_length 
           get_or-slot_entries v (slot ++ rest) (suc k) d (omega (arith, count_front)) ∙ ap (λ (s : Bytes). (slot_name s, slot_number s)) (later k less)
           ∙ sym (get_or-slot_entries v rest k d less)
 
--- ---- what is spelled
+-- ---- the encoded entries
 
 parts : (number name left : Bytes) (unread : ℕ) → length number ≡ 2
     → (slot_name (number ++ length name ∷ unread ∷ name ++ left) ≡ name) × (slot_number (number ++ length name ∷ unread ∷ name ++ left) ≡ number_of number)
@@ -57,42 +57,42 @@ parts (a ∷ []) name left unread two = absurd (omega arith)
 parts (a ∷ b ∷ []) name left unread two = (take_at name left (length name) refl, refl)
 parts (a ∷ b ∷ c ∷ more) name left unread two = absurd (omega arith)
 
-slot_spelled : (v : Version) (slot name : Bytes) (n : ℕ) → IsSlot v slot name n → (slot_name slot ≡ name) × (slot_number slot ≡ n)
-slot_spelled v slot name n s =
+slot_encoded : (v : Version) (slot name : Bytes) (n : ℕ) → IsSlot v slot name n → (slot_name slot ≡ name) × (slot_number slot ≡ n)
+slot_encoded v slot name n s =
     let both = parts s.number name s.left s.unread s.two_bytes in
-    (ap slot_name s.is_spelled ∙ both.0, ap slot_number s.is_spelled ∙ both.1 ∙ s.is_number)
+    (ap slot_name s.is_encoded ∙ both.0, ap slot_number s.is_encoded ∙ both.1 ∙ s.is_number)
 
-pub spelled_are : (v : Version) (bytes : Bytes) (es : Entries) → AreSlots v bytes es → (slot_entries v bytes ≡ es) × (length bytes % entry_length v ≡ 0)
-spelled_are v _ _ no_slot = (no_entries v, none_left v)
-spelled_are v _ _ (one_more slot rest name n others is following) =
-    let both = slot_spelled v slot name n is in
-    let before = spelled_are v rest others following in (
+pub encoded_are : (v : Version) (bytes : Bytes) (es : Entries) → AreSlots v bytes es → (slot_entries v bytes ≡ es) × (length bytes % entry_length v ≡ 0)
+encoded_are v _ _ no_slot = (no_entries v, none_left v)
+encoded_are v _ _ (one_more slot rest name n others is following) =
+    let both = slot_encoded v slot name n is in
+    let before = encoded_are v rest others following in (
       entries_front v slot rest is.is_whole ∙ (λ i. (both.0 i, both.1 i) ∷ before.0 i),
       ap (λ k. k % entry_length v) (length_front v slot rest is.is_whole) ∙ whole_more (entry_length v) (slot_some v) (length rest) before.1,
     )
 
--- ---- what slots spell
+-- ---- the entries in slots
 
-spells : (v : Version) (slot : Bytes) → length slot ≡ entry_length v → slice_index slot 2 ≡ length (slot_name slot) → IsSlot v slot (slot_name slot) (slot_number slot)
+encodes : (v : Version) (slot : Bytes) → length slot ≡ entry_length v → slice_index slot 2 ≡ length (slot_name slot) → IsSlot v slot (slot_name slot) (slot_number slot)
 unfolding slot_name slot_number
-spells v [] long measured = absurd (omega (arith, slot_least v))
-spells v (a ∷ []) long measured = absurd (omega (arith, slot_least v))
-spells v (a ∷ b ∷ []) long measured = absurd (omega (arith, slot_least v))
-spells v (a ∷ b ∷ c ∷ []) long measured = absurd (omega (arith, slot_least v))
-spells v (a ∷ b ∷ c ∷ d ∷ more) long measured = record {
+encodes v [] long measured = absurd (omega (arith, slot_least v))
+encodes v (a ∷ []) long measured = absurd (omega (arith, slot_least v))
+encodes v (a ∷ b ∷ []) long measured = absurd (omega (arith, slot_least v))
+encodes v (a ∷ b ∷ c ∷ []) long measured = absurd (omega (arith, slot_least v))
+encodes v (a ∷ b ∷ c ∷ d ∷ more) long measured = record {
   number = a ∷ b ∷ [];
   unread = d;
   left = drop c more;
-  is_spelled = λ i. a ∷ b ∷ measured i ∷ d ∷ sym (take-append-drop c more) i;
+  is_encoded = λ i. a ∷ b ∷ measured i ∷ d ∷ sym (take-append-drop c more) i;
   two_bytes = refl;
   is_number = refl;
   is_whole = long;
 }
 
-pub slots_spell : (v : Version) (m : ℕ) (bytes : Bytes) → length bytes ≡ entry_length v * m → ((k : ℕ) → k < m → slice_index (slot_at v bytes k) 2 ≡ length (slot_name (slot_at v bytes k))) → AreSlots v bytes (slot_entries v bytes)
-slots_spell v zero [] long measured = subst (AreSlots v []) (sym (no_entries v)) no_slot
-slots_spell v zero (b ∷ bytes) long measured = absurd (omega arith)
-slots_spell v (suc m) bytes long measured =
+pub slots_encode : (v : Version) (m : ℕ) (bytes : Bytes) → length bytes ≡ entry_length v * m → ((k : ℕ) → k < m → slice_index (slot_at v bytes k) 2 ≡ length (slot_name (slot_at v bytes k))) → AreSlots v bytes (slot_entries v bytes)
+slots_encode v zero [] long measured = subst (AreSlots v []) (sym (no_entries v)) no_slot
+slots_encode v zero (b ∷ bytes) long measured = absurd (omega arith)
+slots_encode v (suc m) bytes long measured =
     let l = entry_length v in
     let slot = take l bytes in
     let rest = drop l bytes in
@@ -103,24 +103,24 @@ slots_spell v (suc m) bytes long measured =
     let here : slice_index slot 2 ≡ length (slot_name slot) =
     ap (λ (s : Bytes). slice_index s 2) (sym (first v slot rest whole) ∙ ap (λ (xs : Bytes). slot_at v xs 0) split) ∙ measured 0 (omega arith)
     ∙ ap (λ (s : Bytes). length (slot_name s)) (sym (ap (λ (xs : Bytes). slot_at v xs 0) split) ∙ first v slot rest whole) in
-    let others = slots_spell v m rest following (λ k less.
+    let others = slots_encode v m rest following (λ k less.
     let same : slot_at v bytes (suc k) ≡ slot_at v rest k = sym (ap (λ (xs : Bytes). slot_at v xs (suc k)) split) ∙ later v slot rest whole k (omega arith) in
     ap (λ (s : Bytes). slice_index s 2) (sym same) ∙ measured (suc k) (omega arith) ∙ ap (λ (s : Bytes). length (slot_name s)) same) in
     subst (λ (xs : Bytes). AreSlots v xs (slot_entries v xs)) split
-    (subst (AreSlots v (slot ++ rest)) (sym (entries_front v slot rest whole)) (one_more slot rest (slot_name slot) (slot_number slot) (slot_entries v rest) (spells v slot whole here) others))
+    (subst (AreSlots v (slot ++ rest)) (sym (entries_front v slot rest whole)) (one_more slot rest (slot_name slot) (slot_number slot) (slot_entries v rest) (encodes v slot whole here) others))
 
-pub entries_spelled : (v : Version) (bytes : Bytes) → IsSlotted v bytes → AreSlots v bytes (slot_entries v bytes)
-entries_spelled v bytes s = slots_spell v (slot_count v bytes) bytes (whole_is (entry_length v) (slot_some v) (length bytes) s.whole) s.measured
+pub entries_encoded : (v : Version) (bytes : Bytes) → IsSlotted v bytes → AreSlots v bytes (slot_entries v bytes)
+entries_encoded v bytes s = slots_encode v (slot_count v bytes) bytes (whole_is (entry_length v) (slot_some v) (length bytes) s.whole) s.measured
 
--- each name that is spelled has the length that stands before it
+-- each encoded name has the length in the byte before it
 measured_slot : (v : Version) (slot name : Bytes) (n : ℕ) → IsSlot v slot name n → slice_index slot 2 ≡ length (slot_name slot)
-measured_slot v slot name n s = told s.number s.two_bytes s.is_spelled ∙ ap length (sym (slot_spelled v slot name n s).0)
+measured_slot v slot name n s = reported s.number s.two_bytes s.is_encoded ∙ ap length (sym (slot_encoded v slot name n s).0)
   where
-    told : (number : Bytes) → length number ≡ 2 → slot ≡ number ++ length name ∷ s.unread ∷ name ++ s.left → slice_index slot 2 ≡ length name
-    told [] two is = absurd (omega arith)
-    told (a ∷ []) two is = absurd (omega arith)
-    told (a ∷ b ∷ []) two is = ap (λ (xs : Bytes). slice_index xs 2) is
-    told (a ∷ b ∷ c ∷ more) two is = absurd (omega arith)
+    reported : (number : Bytes) → length number ≡ 2 → slot ≡ number ++ length name ∷ s.unread ∷ name ++ s.left → slice_index slot 2 ≡ length name
+    reported [] two is = absurd (omega arith)
+    reported (a ∷ []) two is = absurd (omega arith)
+    reported (a ∷ b ∷ []) two is = ap (λ (xs : Bytes). slice_index xs 2) is
+    reported (a ∷ b ∷ c ∷ more) two is = absurd (omega arith)
 
 pub measured_are : (v : Version) (bytes : Bytes) (es : Entries) → AreSlots v bytes es → (k : ℕ) → k < slot_count v bytes → slice_index (slot_at v bytes k) 2 ≡ length (slot_name (slot_at v bytes k))
 measured_are v _ _ no_slot k within = absurd (omega (arith, none_counted v))

@@ -1,4 +1,4 @@
--- Where components of one length begin and end.
+-- The start and end of parts of equal length.
 use Rattle.std.proofs.Common.{◌≡◌, ℕ, suc, ◌+◌, ◌*◌, ◌/◌, ◌%◌, ◌<◌, ◌≤◌, true, not, ◌&&◌, [], nat_le, length, bytes_eq, mul-le-mul_left, refl, ◌∙◌, arith}
 use Rattle.std.specs.List.{list_all}
 use Rattle.std.specs.Prelude.{codes}
@@ -21,7 +21,7 @@ pub slot_least : (v : Version) → 4 ≤ entry_length v
 slot_least V1 = omega arith
 slot_least V2 = omega arith
 
--- the front of a slot stands in one block
+-- the first bytes of a slot are in one block
 pub slot_front : (v : Version) (k : ℕ) → entry_length v * k % 512 + 4 ≤ 512
 slot_front V1 k = omega (arith, mod-lt (64 * k) {m = 512} (omega arith), div-add-mod (64 * k) 512)
 slot_front V2 k = omega (arith, mod-lt (260 * k) {m = 512} (omega arith), div-add-mod (260 * k) 512)
@@ -39,7 +39,7 @@ pub name_short : (v : Version) → greatest_name v ≤ 255
 name_short V1 = omega arith
 name_short V2 = omega arith
 
--- a name is not longer than its version's names may be
+-- a name does not exceed the maximum length of its version
 pub name_length : (v : Version) (name : Bytes) → is_name v name ≡ true → length name ≤ greatest_name v
 name_length v name good =
     leb-true (length name) (greatest_name v)
@@ -47,7 +47,7 @@ name_length v name good =
     (and_parts (not (is_empty name) && nat_le (length name) (greatest_name v)) (list_all is_name_byte name)
     (and_parts _ (not (bytes_eq name (codes "."))) (and_parts _ (not (bytes_eq name (codes ".."))) good).0).0).0).1
 
--- no more slots than fit
+-- the number of slots is limited
 pub entries_few : (v : Version) → greatest_entries v ≤ 2540
 entries_few V1 = omega arith
 entries_few V2 = omega arith
@@ -56,12 +56,12 @@ pub entries_within : (v : Version) (n : ℕ) → n ≤ greatest_length v → n /
 entries_within V1 n few = omega arith
 entries_within V2 n few = omega arith
 
--- a count of entries is a length that a content may have
+-- a number of entries is within the maximum length of contents
 pub few_allowed : (v : Version) → 2540 ≤ greatest_length v
 few_allowed V1 = omega arith
 few_allowed V2 = omega arith
 
--- where a slot begins is a number of 32 bits
+-- the offset of a slot fits in 32 bits
 pub start_fits : (v : Version) (k : ℕ) → k ≤ 2540 → entry_length v * k ≤ 660400
 start_fits V1 k few = omega arith
 start_fits V2 k few = omega arith
@@ -81,10 +81,10 @@ pub none_left : (v : Version) → 0 % entry_length v ≡ 0
 none_left V1 = refl
 none_left V2 = refl
 
--- ---- components
+-- ---- parts
 
 module _ (l : ℕ) (some : 0 < l) where
-  -- component k ends where the next begins, and no component before n components ends after them
+  -- part k ends where the next starts, and each of the first n parts ends by the end of the n parts
   pub component_before : (k n : ℕ) → k < n → l * k + l ≤ l * n
   component_before k n less = let whole : l * suc k ≤ l * n = mul-le-mul_left l less in omega arith
 

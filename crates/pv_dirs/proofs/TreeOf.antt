@@ -81,11 +81,11 @@ tree_of-without f n =
 pub tree_of-with_bytes : (f : Files) (n : ℕ) (c : Contained) (xs : Bytes) → held f n ≡ Some c → tree_of (with_bytes f n xs) ≡ with_node (tree_of f) n (node_from f.version c.sort xs)
 tree_of-with_bytes f n c xs there = ap tree_of (with_bytes-is f n c xs there) ∙ tree_of-with_number f n (record c { bytes = xs }) (at_number-within f.nodes n c there)
 
--- as many inodes take as many blocks
+-- the same number of inodes takes the same number of blocks
 allowed-alike : (f : Files) (b : ℕ) (xs : Numbered Contained) → length xs ≡ length f.nodes → IsHolding f b → inode_blocks f.version (length xs - 1) + 1 + b ≤ greatest_blocks f.version
 allowed-alike f b xs long h = subst (λ k. inode_blocks f.version (k - 1) + 1 + b ≤ greatest_blocks f.version) (sym long) h.allowed
 
--- what is held keeps what directories keep
+-- an inode satisfies the invariant of directories
 HoldsWell : Version → Contained → Type 0
 HoldsWell v c = c.sort ≡ Directory → IsSlotted v c.bytes
 
@@ -139,7 +139,7 @@ from_held f d (Some c) there is =
     let bytes : c.bytes ≡ bytes_at f d = ap bytes_of (sym there) in
     there ∙ (λ i. Some (record { sort = sort i; bytes = bytes i }))
 
--- a directory is held, with its bytes
+-- a directory is an inode in use, with its contents
 pub directory_held : (f : Files) (d : ℕ) → is_directory_at (tree_of f) d ≡ true → held f d ≡ Some (record { sort = Directory; bytes = bytes_at f d })
 directory_held f d is = from_held f d (held f d) refl (ap is_directory (sym (node_at-tree_of f d)) ∙ is)
 

@@ -1,4 +1,4 @@
--- What a clause about the tree says of the files that it is made of.
+-- Statements about the tree as statements about its files.
 use Rattle.std.proofs.Common.{◌≡◌, ℕ, true, false, length, refl, sym, ap, subst, ◌∙◌, [], ◌∷◌, arith}
 use Rattle.std.specs.Prelude.{IsSome}
 use Rattle.std.specs.FinMap.Entries.{find}
@@ -15,7 +15,7 @@ nothing_in : (es : Entries) → length es ≡ 0 → es ≡ []
 nothing_in [] none = refl
 nothing_in (e ∷ es) none = absurd (omega arith)
 
--- the tree's version is the files' own
+-- the version of the tree is that of the files
 pub viewed_version : (f : Files) (t : Tree) → tree_of f ≡ t → t.version ≡ f.version
 viewed_version f t view = ap (λ (u : Tree). u.version) (sym view) ∙ version-tree_of f
 

@@ -1,7 +1,7 @@
--- How often the entries of a directory are for a node.
+-- Counting the entries for a node.
 use Rattle.std.specs.Prelude.{ℕ, ◌==◌, filter, length}
 use Rattle.pv_model.specs.Tree.{Entries}
 
--- how many entries are for node n
+-- the number of entries for node n
 abbrev pub count_in : ℕ → Entries → ℕ
 count_in n es = length (filter (λ e. e.1 == n) es)

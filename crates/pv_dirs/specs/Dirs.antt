@@ -1,4 +1,4 @@
--- A directory by its slots.
+-- A directory as slots.
 use Rattle.std.specs.Prelude.{ℕ, Option}
 use Rattle.pv_model.specs.Bytes.{Bytes}
 use Rattle.pv_model.specs.Tree.{Entries}
@@ -8,23 +8,20 @@ use Rattle.pv_dirs.specs.declared.index.Index.{Index}
 use Rattle.pv_dirs.specs.Index.{Ascend, AscendTo, AreLed, AreLedUpTo, IsSlotAfter}
 use Rattle.pv_dirs.specs.Slots.{IsRun, IsInSlots, slot_at, slot_count, name_at, slot_name, slot_number, slot_entries}
 
--- its bytes
+-- the contents of the directory
 abbrev pub bytes_in : Dir → Bytes
 bytes_in d = bytes_at d.inodes.now d.directory
 
--- how many slots it has
+-- the number of its slots
 abbrev pub slots_in : Dir → ℕ
 slots_in d = slot_count d.inodes.now.version (bytes_in d)
 
--- slot k
 abbrev pub slot_in : Dir → ℕ → Bytes
 slot_in d k = slot_at d.inodes.now.version (bytes_in d) k
 
--- the name in slot k
 abbrev pub name_in : Dir → ℕ → Bytes
 name_in d k = slot_name (slot_in d k)
 
--- the number in slot k
 abbrev pub number_in : Dir → ℕ → ℕ
 number_in d k = slot_number (slot_in d k)
 
@@ -36,30 +33,30 @@ any_name_in d k = name_at d.inodes.now.version (bytes_in d) k
 abbrev pub entries_in : Dir → Entries
 entries_in d = slot_entries d.inodes.now.version (bytes_in d)
 
--- some slot has the number of a node and the name
+-- some slot has this node and this name
 abbrev pub IsNamedIn : Dir → ℕ → Bytes → Type 0
 IsNamedIn d n name = IsInSlots d.inodes.now.version (bytes_in d) (slots_in d) n name
 
--- the bytes are some of those from slot k on
+-- the bytes are contiguous bytes of the directory that start with slot k
 abbrev pub IsRunIn : Dir → ℕ → Bytes → Type 0
 IsRunIn d k run = IsRun d.inodes.now.version (bytes_in d) k run
 
--- the names of the first slots ascend in byte order
+-- the names in the first `count` slots ascend in byte order
 abbrev pub AscendIn : Dir → ℕ → Type 0
 AscendIn d count = Ascend d.inodes.now.version (bytes_in d) count
 
--- they do, and this name comes after them
+-- these names ascend, and `name` follows them
 abbrev pub AscendInTo : Dir → ℕ → Bytes → Type 0
 AscendInTo d count name = AscendTo d.inodes.now.version (bytes_in d) count name
 
--- slot k is the one after that of the last name, or the first one without a last name
+-- slot k is the one after that of the last name, or slot 0 if there is no last name
 abbrev pub IsPast : Dir → Option Bytes → ℕ → Type 0
 IsPast d last k = IsSlotAfter last d.inodes.now.version (bytes_in d) k
 
--- an index leads to each entry in the first slots, and where it knows that the names ascend, they do
+-- an index leads to each entry in the first `count` slots; if it records that the names ascend, they do
 abbrev pub IsLedUpTo : Dir → Index → ℕ → Type 0
 IsLedUpTo d ix count = AreLedUpTo ix d.inodes.now.version d.directory (bytes_in d) count
 
--- the same of each entry
+-- an index leads to each entry of the directory; if it records that the names ascend, they do
 abbrev pub IsLedBy : Dir → Index → Type 0
 IsLedBy d ix = AreLed ix d.inodes.now.version d.directory (bytes_in d)

@@ -5,7 +5,7 @@ use Rattle.pv_model.specs.Bytes.{Bytes}
 use Rattle.pv_model.specs.Image.{IsImageOf}
 use Rattle.pv_model.specs.Tree.{Tree}
 
--- the bytes are an image of this version, with so many inodes
+-- the bytes are an image of this version with this number of inodes
 pub record IsImage (v : Version) (inodes : ℕ) (bytes : Bytes) : Type 0 where
   pub tree : Tree
   pub is_image : IsImageOf bytes tree

@@ -1,4 +1,4 @@
--- What an index says of the entries of directories.
+-- The index of the entries of directories.
 use Rattle.std.specs.Prelude.{◌≡◌, ◌⊎◌, ℕ, ◌+◌, ◌-◌, ◌*◌, ◌%◌, ◌<◌, ◌≤◌, [], ◌∷◌, slice_index_or, Bool, true, false, Option, None, Some}
 use Rattle.std.specs.Cmp.Lexicographic.{slice_cmp}
 use Rattle.std.specs.Ordering.{nat_cmp}
@@ -14,46 +14,46 @@ use Rattle.pv_dirs.specs.declared.index.Bucket.TheVariants.{Empty, Slot, Shared}
 use Rattle.pv_dirs.specs.Slots.{slot_at, slot_count, slot_name}
 use Rattle.pv_dirs.specs.Trees.{IsHolding}
 
--- a number and the bytes after it, each of which counts so many times as much as the one after it
+-- a hash extended by bytes: each byte has FACTOR times the weight of the next
 unfoldable pub sum_after : ℕ → Bytes → ℕ
 sum_after sum [] = sum
 sum_after sum (byte ∷ bytes) = sum_after ((sum * FACTOR + byte) % 65536) bytes
 
--- the place on which a name of a directory falls
+-- the bucket to which a name of a directory hashes
 unfoldable pub place_of : ℕ → Bytes → ℕ
 place_of d name = sum_after d name % PLACES
 
--- what an index says of the entries whose names fall where this one does
+-- the bucket of a name
 unfoldable pub said : Index → ℕ → Bytes → Bucket
 said ix d name = slice_index_or ix.places (place_of d name) Empty
 
--- an index leads to the entry in slot k of directory d, if it has this name: it says so, or that there may be several
+-- an index leads to the entry in slot k of directory d: the bucket of its name is this slot, or is shared
 abbrev pub Leads : Index → ℕ → Bytes → ℕ → Type 0
 Leads ix d name k = (said ix d name ≡ Slot d k) ⊎ (said ix d name ≡ Shared)
 
--- whether an index knows that the names of directory d ascend
+-- whether an index records that the names of directory d ascend
 unfoldable pub known : Index → ℕ → Bool
 known ix d = slice_index_or ix.ascending d false
 
--- the names of the first slots ascend in byte order
+-- the names in the first `count` slots ascend in byte order
 abbrev pub Ascend : Version → Bytes → ℕ → Type 0
 Ascend v bytes count = (j k : ℕ) → j < k → k < count → slice_cmp nat_cmp (slot_name (slot_at v bytes j)) (slot_name (slot_at v bytes k)) ≡ Less
 
--- they do, and this name comes after them
+-- these names ascend, and `name` follows them
 pub record AscendTo (v : Version) (bytes : Bytes) (count : ℕ) (name : Bytes) : Type 0 where
   pub ascend : Ascend v bytes count
   pub before : (k : ℕ) → k < count → slice_cmp nat_cmp (slot_name (slot_at v bytes k)) name ≡ Less
 
--- an index leads to each entry in the first slots of directory d, and where it knows that the names ascend, they do
+-- an index leads to each entry in the first `count` slots of directory d; if it records that the names ascend, they do
 pub record AreLedUpTo (ix : Index) (v : Version) (d : ℕ) (bytes : Bytes) (count : ℕ) : Type 0 where
   pub slots : (k : ℕ) → k < count → Leads ix d (slot_name (slot_at v bytes k)) k
   pub ordered : known ix d ≡ true → Ascend v bytes count
 
--- the same of each entry of a directory with these bytes
+-- the same for all slots of a directory with these bytes
 abbrev pub AreLed : Index → Version → ℕ → Bytes → Type 0
 AreLed ix v d bytes = AreLedUpTo ix v d bytes (slot_count v bytes)
 
--- slot k is the one after that of the last name, or the first one without a last name
+-- slot k is the one after that of the last name, or slot 0 if there is no last name
 abbrev pub IsSlotAfter : Option Bytes → Version → Bytes → ℕ → Type 0
 IsSlotAfter None v bytes k = k ≡ 0
 IsSlotAfter (Some last) v bytes k = (1 ≤ k) × (slot_name (slot_at v bytes (k - 1)) ≡ last)
@@ -62,7 +62,7 @@ IsSlotAfter (Some last) v bytes k = (1 ≤ k) × (slot_name (slot_at v bytes (k 
 abbrev pub IsIndexed : Files → Index → Type 0
 IsIndexed f ix = (n : ℕ) (c : Contained) → held f n ≡ Some c → c.sort ≡ Directory → AreLed ix f.version n c.bytes
 
--- what directories keep
-pub record IsKept (f : Files) (blocks : ℕ) (ix : Index) : Type 0 where
+-- the invariant of directories
+pub record IsConsistent (f : Files) (blocks : ℕ) (ix : Index) : Type 0 where
   pub holding : IsHolding f blocks
   pub indexed : IsIndexed f ix

@@ -1,4 +1,4 @@
--- Slots: where the bytes of a directory have its entries.
+-- Slots: the encoding of a directory's entries.
 use Rattle.std.specs.Prelude.{◌≡◌, ℕ, ◌*◌, ◌/◌, ◌%◌, ◌<◌, IsTrue, map, length, take, drop, slice_index, [], ◌∷◌, if◌then◌else◌, nat_lt, Option, None, Some}
 use Rattle.std.specs.Cmp.Lexicographic.{slice_cmp}
 use Rattle.std.specs.FinMap.Entries.{find, put}
@@ -14,19 +14,19 @@ use Rattle.pv_model.specs.Tree.{Entries, is_name}
 unfoldable pub slot_at : Version → Bytes → ℕ → Bytes
 slot_at v bytes k = take (entry_length v) (drop (entry_length v * k) bytes)
 
--- the bytes are some of those from slot k on
+-- the bytes are contiguous bytes that start with slot k
 abbrev pub IsRun : Version → Bytes → ℕ → Bytes → Type 0
 IsRun v bytes k run = run ≡ take (length run) (drop (entry_length v * k) bytes)
 
--- how many slots there are
+-- the number of slots
 abbrev pub slot_count : Version → Bytes → ℕ
 slot_count v bytes = length bytes / entry_length v
 
--- the number in a slot
+-- the inode number in a slot
 unfoldable pub slot_number : Bytes → ℕ
 slot_number slot = little_number 2 slot
 
--- the name in a slot, whose length stands before it
+-- the name in a slot; its length is in byte 2
 unfoldable pub slot_name : Bytes → Bytes
 slot_name slot = take (slice_index slot 2) (drop 4 slot)
 
@@ -38,7 +38,7 @@ name_at v bytes k = if nat_lt k (slot_count v bytes) then Some (slot_name (slot_
 abbrev pub slot_entry : Version → Bytes → ℕ → Bytes × ℕ
 slot_entry v bytes k = (slot_name (slot_at v bytes k), slot_number (slot_at v bytes k))
 
--- one of so many slots has the number and the name
+-- one of the first `count` slots has the inode number and the name
 abbrev pub IsInSlots : Version → Bytes → ℕ → ℕ → Bytes → Type 0
 IsInSlots v bytes count n name = (k : ℕ) × (k < count) × (slot_number (slot_at v bytes k) ≡ n) × (slot_name (slot_at v bytes k) ≡ name)
 
@@ -46,17 +46,17 @@ IsInSlots v bytes count n name = (k : ℕ) × (k < count) × (slot_number (slot_
 unfoldable pub slot_entries : Version → Bytes → Entries
 slot_entries v bytes = map (slot_entry v bytes) (range_with_len 0 (slot_count v bytes))
 
--- entries, put one by one into the order of their names
+-- entries sorted by name
 unfoldable pub in_order : Entries → Entries
 in_order [] = []
 in_order (e ∷ es) = put (slice_cmp nat_cmp) e.0 e.1 (in_order es)
 
--- no name stands twice
+-- no two entries have the same name
 unfoldable pub IsDistinct : Entries → Type 0
 IsDistinct [] = Unit {0}
 IsDistinct (e ∷ es) = (find (slice_cmp nat_cmp) e.0 es ≡ None) × IsDistinct es
 
--- the bytes are those of a directory: whole slots, each with a name, no name twice
+-- the bytes are those of a directory: whole slots, each with a valid name, and no name twice
 pub record IsSlotted (v : Version) (bytes : Bytes) : Type 0 where
   pub whole : length bytes % entry_length v ≡ 0
   pub named : (k : ℕ) → k < slot_count v bytes → IsTrue (is_name v (slot_name (slot_at v bytes k)))

@@ -1,4 +1,4 @@
--- The slots of a directory's bytes, as the format of an image spells them.
+-- The slots of a directory and the image format's definition of its entries.
 use Rattle.std.specs.Prelude.{◌≡◌, ◌%◌, length}
 use Rattle.pv_model.specs.declared.version.Version.{Version}
 use Rattle.pv_model.specs.Bytes.{Bytes}
@@ -7,10 +7,10 @@ use Rattle.pv_model.specs.Room.{entry_length}
 use Rattle.pv_model.specs.Tree.{Entries}
 use Rattle.pv_dirs.specs.Slots.{slot_entries, IsSlotted}
 
--- the entries of a directory's slots are those that its bytes spell
-abbrev pub EntriesAreSpelled : Type 0
-EntriesAreSpelled = (v : Version) (bytes : Bytes) → IsSlotted v bytes → AreSlots v bytes (slot_entries v bytes)
+-- the entries in the slots of a directory are those that its bytes encode
+abbrev pub EntriesAreEncoded : Type 0
+EntriesAreEncoded = (v : Version) (bytes : Bytes) → IsSlotted v bytes → AreSlots v bytes (slot_entries v bytes)
 
--- and no others: bytes that spell entries are whole slots of these
-abbrev pub SpelledAreEntries : Type 0
-SpelledAreEntries = (v : Version) (bytes : Bytes) (es : Entries) → AreSlots v bytes es → (slot_entries v bytes ≡ es) × (length bytes % entry_length v ≡ 0)
+-- conversely, bytes that encode entries consist of exactly their slots
+abbrev pub EncodedAreEntries : Type 0
+EncodedAreEntries = (v : Version) (bytes : Bytes) (es : Entries) → AreSlots v bytes es → (slot_entries v bytes ≡ es) × (length bytes % entry_length v ≡ 0)

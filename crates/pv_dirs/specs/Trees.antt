@@ -1,4 +1,4 @@
--- The tree that files hold, and how it changes.
+-- The tree in files, and its changes.
 use Rattle.std.specs.Prelude.{◌≡◌, ℕ, ◌+◌, ◌*◌, ◌-◌, ◌<◌, ◌≤◌, suc, true, false, map, length, sum_by, [], ◌∷◌, Option, None, Some, option_map}
 use Rattle.pv_model.specs.declared.kind.Kind.{Kind}
 use Rattle.pv_model.specs.declared.kind.Kind.TheVariants.{Directory, File, Executable, Symlink}
@@ -12,14 +12,13 @@ use Rattle.pv_model.specs.Tree.{Node, directory_node, file_node, link_node, Tree
 use Rattle.pv_inodes.specs.Files.{Contained, Files, held}
 use Rattle.pv_dirs.specs.Slots.{slot_entries, in_order, IsSlotted}
 
--- the node that an inode of this sort holds with these bytes
+-- the node of an inode with this kind and contents
 unfoldable pub node_from : Version → Kind → Bytes → Node
 node_from v Directory bytes = directory_node (in_order (slot_entries v bytes))
 node_from v File bytes = file_node false bytes
 node_from v Executable bytes = file_node true bytes
 node_from v Symlink bytes = link_node bytes
 
--- the node that an inode holds
 abbrev pub node_of : Version → Contained → Node
 node_of v c = node_from v c.sort c.bytes
 
@@ -27,20 +26,20 @@ node_of v c = node_from v c.sort c.bytes
 unfoldable pub tree_of : Files → Tree
 tree_of f = record { nodes = map (option_map (node_of f.version)) f.nodes; blocks = f.blocks; inodes = length f.nodes - 1; version = f.version }
 
--- each directory has the bytes of one, and there are so many data blocks, as an image may have
+-- the contents of each directory are valid, and the number of data blocks is one that an image can have
 pub record IsHolding (f : Files) (blocks : ℕ) : Type 0 where
   pub sized : f.blocks ≡ blocks
   pub allowed : inode_blocks f.version (length f.nodes - 1) + 1 + blocks ≤ greatest_blocks f.version
   pub slotted : (n : ℕ) (c : Contained) → held f n ≡ Some c → c.sort ≡ Directory → IsSlotted f.version c.bytes
 
--- what a node is
+-- the kind of a node
 abbrev pub sort_of : Node → Kind
 sort_of (directory_node entries) = Directory
 sort_of (file_node false bytes) = File
 sort_of (file_node true bytes) = Executable
 sort_of (link_node text) = Symlink
 
--- a node of this sort with nothing in it
+-- an empty node of this kind
 abbrev pub new_node : Kind → Node
 new_node Directory = directory_node []
 new_node File = file_node false []
@@ -52,11 +51,11 @@ bytes_of (Some (file_node executable bytes)) = bytes
 bytes_of (Some (link_node text)) = text
 bytes_of _ = []
 
--- the bytes of a file, or the text of a link
+-- the bytes of a file, or the target of a symbolic link
 abbrev pub bytes_at : Tree → ℕ → Bytes
 bytes_at t n = bytes_of (node_at t n)
 
--- a node with other bytes; a directory stays as it is
+-- a node with other bytes; a directory does not change
 abbrev pub with_bytes : Node → Bytes → Node
 with_bytes (directory_node entries) bytes = directory_node entries
 with_bytes (file_node executable old) bytes = file_node executable bytes
@@ -66,31 +65,30 @@ abbrev pub replaced : Tree → ℕ → Option Node → Bytes → Tree
 replaced t n None bytes = t
 replaced t n (Some node) bytes = with_node t n (with_bytes node bytes)
 
--- the tree with other bytes in a file or a link
+-- the tree with other bytes in a file or symbolic link
 abbrev pub with_bytes_at : Tree → ℕ → Bytes → Tree
 with_bytes_at t n bytes = replaced t n (node_at t n) bytes
 
--- the tree after bytes were written over those of a file or a link, from a place on; to write none changes nothing
+-- the tree after a write to a file or symbolic link; a write of zero bytes changes nothing
 abbrev pub written : Tree → ℕ → ℕ → Bytes → Tree
 written t n at [] = t
 written t n at (b ∷ bytes) = with_bytes_at t n (overwrite (bytes_at t n) at (b ∷ bytes))
 
--- the tree after the bytes of a file or a link were cut, or lengthened with zeros
+-- the tree after a truncation of a file or symbolic link, or an extension with zeros
 abbrev pub cut : Tree → ℕ → ℕ → Tree
 cut t n size = with_bytes_at t n (resize (bytes_at t n) size)
 
--- the tree with nothing under a number
+-- the tree without node n
 abbrev pub without_node : Tree → ℕ → Tree
 without_node t n = record t { nodes = without_number t.nodes n }
 
--- the data blocks that all nodes need
+-- the number of data blocks that all nodes need
 abbrev pub total_need : Tree → ℕ
 total_need t = sum_by (λ node. need t.version (node_length t.version node)) (present t.nodes)
 
--- data blocks are wanting
 abbrev pub LacksRoom : Tree → Type 0
 LacksRoom t = t.blocks < total_need t
 
--- the length of a directory with one entry more
+-- the length of a directory with one more entry
 abbrev pub grown_length : Tree → ℕ → ℕ
 grown_length t d = entry_length t.version * suc (length (entries_at t d))

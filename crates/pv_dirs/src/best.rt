@@ -1,4 +1,4 @@
-//! The best of the names that a pass over a directory meets: the least that comes after the last one.
+//! The best name that a scan of a directory has met: the least name that follows a given one.
 ghost use Rattle.std.specs.Prelude.{◌≡◌, ◌<◌, ◌≤◌, ◌↔◌, ◌&&◌, length, take, slice_index, IsTrue, None, Some, IfNone, IfSome};
 ghost use Rattle.std.specs.Option.{option_copied};
 ghost use Rattle.pv_model.specs.Calls.Descriptors.{is_past};
@@ -10,7 +10,7 @@ use crate::slot::{name_in, room_in};
 use pv_model::Name;
 use std::marker::Model;
 
-/// Whether a name comes after the last one, or there is no last one.
+/// Returns whether `name` follows `last` in byte order, or there is no `last`.
 fn is_past(last: Option<&[u8]>, name: &[u8]) -> bool
     ensures { result ≡ is_past (option_copied last.entry) name.now }
 {
@@ -20,12 +20,12 @@ fn is_past(last: Option<&[u8]>, name: &[u8]) -> bool
     }
 }
 
-/// The best name of a pass so far, if there is one: a contract sees it as that name, or none.
+/// The best name of a scan so far, if there is one. Contracts see it as an optional name.
 #[derive(Drop)]
 pub(crate) struct Best<'a> {
-    // The name in the block that has it.
+    // The name, borrowed from the block that contains it.
     lent: Option<&'a [u8]>,
-    // In its place, a copy of a name, as of one that stands across two blocks.
+    // Otherwise a copy of the name, for example of one that crosses a block boundary.
     copied: Option<Name>,
 }
 
@@ -44,7 +44,7 @@ impl<'a> Model for Best<'a> {
 }
 
 impl<'a> Best<'a> {
-    /// No name.
+    /// Creates a scan state without a name.
     pub(crate) fn none() -> Best<'a>
         ensures { result ≡ None }
     {
@@ -54,7 +54,7 @@ impl<'a> Best<'a> {
         }
     }
 
-    /// The name, if there is one.
+    /// Returns the name, if there is one.
     pub(crate) fn as_slice(&self) -> Option<&[u8]>
         ensures { option_copied result ≡ self.now }
     {
@@ -64,7 +64,7 @@ impl<'a> Best<'a> {
         }
     }
 
-    /// Takes a name that stays where it is.
+    /// Sets the name to a borrowed one.
     #[inline(always)]
     fn lend(&mut self, name: &'a [u8])
         requires { length name.now ≤ NAME_V2 }
@@ -74,7 +74,7 @@ impl<'a> Best<'a> {
         self.copied = None;
     }
 
-    /// Takes a copy of a name.
+    /// Sets the name to a copy of `name`.
     pub(crate) fn copy(&mut self, name: &[u8])
         requires { length name.now ≤ NAME_V2 }
         ensures { self.new ≡ Some name.now }
@@ -82,7 +82,7 @@ impl<'a> Best<'a> {
         self.copied = Name::new(name);
     }
 
-    /// The name itself.
+    /// Returns the name as an owned one.
     pub(crate) fn into_name(self) -> Option<Name>
         ensures { result ≡ self.entry }
     {
@@ -93,7 +93,7 @@ impl<'a> Best<'a> {
     }
 }
 
-/// Whether a name comes before another one, or there is no other one.
+/// Returns whether `name` precedes `other` in byte order, or there is no `other`.
 fn is_before(name: &[u8], other: Option<&[u8]>) -> bool
     ensures { result ≡ is_before name.now (option_copied other.entry) }
 {
@@ -103,16 +103,16 @@ fn is_before(name: &[u8], other: Option<&[u8]>) -> bool
     }
 }
 
-/// A byte that each name between two names has, since both have it, and the same bytes before it.
+/// A byte that every name between two given names has at a known offset, because both have it there after equal bytes.
 #[derive(Clone, Copy)]
 pub(crate) struct Mark {
-    // Where it stands in the name.
+    // The offset in the name.
     at: usize,
-    // The byte there.
+    // The byte at the offset.
     byte: u8,
 }
 
-// How many bytes two names begin with alike.
+// Returns the length of the longest common prefix of two names.
 fn alike(a: &[u8], b: &[u8]) -> usize
     ensures first { result ≤ length a.now }
     ensures second { result ≤ length b.now }
@@ -126,7 +126,7 @@ fn alike(a: &[u8], b: &[u8]) -> usize
     k
 }
 
-// The last byte that the last name and the best one begin with alike: a name that comes between them has it too.
+// Returns the last byte of the common prefix of the last name and the best one. Every name between them has it too.
 pub(crate) fn mark_of(last: Option<&[u8]>, best: &[u8]) -> Option<Mark>
     ensures { IfSome result (λ m. IsShared (option_copied last.entry) (Some best.now) m.at m.byte) }
 {
@@ -140,7 +140,7 @@ pub(crate) fn mark_of(last: Option<&[u8]>, best: &[u8]) -> Option<Mark>
     })
 }
 
-// Whether bytes have a byte where they must, if they must have one.
+// Returns whether `bytes` has the marked byte at its offset. Without a mark it returns true.
 #[inline(always)]
 pub(crate) fn has_mark(mark: Option<Mark>, bytes: &[u8]) -> bool
     ensures free { IfNone mark (IsTrue result) }
@@ -152,7 +152,7 @@ pub(crate) fn has_mark(mark: Option<Mark>, bytes: &[u8]) -> bool
     }
 }
 
-// Whether a name is to be the best one: it comes before the best so far and after the last.
+// Returns whether `name` is a better name: it precedes the best name so far and follows the last one.
 #[inline(always)]
 pub(crate) fn is_better(name: &[u8], best: &Best, last: Option<&[u8]>) -> bool
     ensures { result ≡ (is_before name.now best.now && is_past (option_copied last.entry) name.now) }
@@ -160,8 +160,8 @@ pub(crate) fn is_better(name: &[u8], best: &Best, last: Option<&[u8]>) -> bool
     is_before(name, best.as_slice()) && is_past(last, name)
 }
 
-// Puts the name in a slot in the place of the best one so far, where it comes before that one and after the last.
-// Most names of a long directory do not have the mark of those between the two, which is seen at one byte of the slot.
+// Replaces the best name by the name in a slot if that is better. In a long directory most names lack the mark, so one
+// byte of the slot decides.
 #[inline(always)]
 pub(crate) fn improve<'a>(
     best: &mut Best<'a>,

@@ -1,4 +1,4 @@
-//! A directory as slots, each read where it stands.
+//! A directory as slots, each read in place.
 ghost use Rattle.std.specs.Prelude.{◌≡◌, ◌+◌, ◌*◌, ◌<◌, ◌≤◌, length, take, drop, IfSome};
 ghost use Rattle.std.specs.Cmp.Lexicographic.{slice_cmp};
 ghost use Rattle.std.specs.Ordering.{nat_cmp, is_lt};
@@ -15,31 +15,31 @@ use byteorder::{ByteOrder, LittleEndian};
 use pv_inodes::Inodes;
 use pv_model::{Kind, Name};
 
-/// A directory: an inode in use, whose bytes are slots.
+/// A directory: an inode in use whose contents are slots.
 #[derive(Clone, Copy)]
 pub(crate) struct Dir<'a> {
-    /// All inodes.
+    /// The inodes of the image.
     pub(crate) inodes: &'a Inodes,
-    /// The number of the directory's inode.
+    /// The inode number of the directory.
     pub(crate) directory: u16,
     ghost used: { IsUsed inodes.now directory },
 }
 
-/// Whether an inode is a directory.
+/// Returns whether an inode is a directory.
 pub(crate) fn is_directory(inodes: &Inodes, inode: u16) -> bool
     ensures { result ≡ is_directory_at (tree_of inodes.now) inode }
 {
     inodes.is_used(inode) && matches!(inodes.kind(inode), Kind::Directory)
 }
 
-/// What is left of a run after its first slot; nothing where the slot ends past it.
+/// Returns the bytes of `run` after its first slot, or no bytes if the slot ends past the run.
 pub(crate) fn rest_of(run: &[u8], length: usize) -> &[u8]
     ensures { result.now ≡ drop length run.now }
 {
     &run[length.min(run.len())..]
 }
 
-/// The name in the slot that a run begins with, where it lies; None where the slot ends past the run.
+/// Returns the name in the first slot of `run`, without a copy, or `None` if the slot ends past the run.
 pub(crate) fn name_in_run(run: &[u8], slot_length: usize) -> Option<&[u8]>
     requires { 4 ≤ slot_length }
     ensures value { IfSome result (λ name. name.now ≡ slot_name (take slot_length run.now)) }
@@ -55,7 +55,7 @@ pub(crate) fn name_in_run(run: &[u8], slot_length: usize) -> Option<&[u8]>
 impl<'a> Dir<'a> {
     ghost use Rattle.pv_dirs.specs.Dirs.{bytes_in, slots_in, slot_in, name_in, number_in, any_name_in, IsRunIn};
 
-    /// How many slots an inode's bytes are.
+    /// Returns the number of slots in the directory.
     pub(crate) fn count(&self) -> u32
         ensures value { result ≡ slots_in self.now }
         ensures few { result ≤ greatest_entries V2 }
@@ -64,7 +64,7 @@ impl<'a> Dir<'a> {
         self.inodes.size(self.directory) / self.inodes.version().layout().slot_length as u32
     }
 
-    /// Where slot `k` begins.
+    /// Returns the offset of slot `k`.
     pub(crate) fn start(&self, k: u32) -> u32
         requires few { k ≤ greatest_entries V2 }
         ensures { result ≡ entry_length self.now.inodes.now.version * k }
@@ -72,7 +72,7 @@ impl<'a> Dir<'a> {
         self.inodes.version().layout().slot_length as u32 * k
     }
 
-    /// The number in slot `k`. A slot's first four bytes stand in one block.
+    /// Returns the inode number in slot `k`. The first four bytes of a slot always lie in one block.
     pub(crate) fn number(&self, k: u32) -> u16
         requires within { k < slots_in self.now }
         requires few { k ≤ greatest_entries V2 }
@@ -81,7 +81,7 @@ impl<'a> Dir<'a> {
         LittleEndian::read_u16(self.inodes.lend(self.directory, self.start(k)))
     }
 
-    /// Slot `k`.
+    /// Returns slot `k`.
     pub(crate) fn slot(&self, k: u32) -> Slot
         requires within { k < slots_in self.now }
         requires few { k ≤ greatest_entries V2 }
@@ -95,7 +95,7 @@ impl<'a> Dir<'a> {
         Slot { bytes, length }
     }
 
-    /// The bytes from slot `k` on, as far as they stand in one block. A slot of version 2 may end past them.
+    /// Returns the bytes from the start of slot `k` to the end of its block. A slot of version 2 can end past them.
     pub(crate) fn run_from(&self, k: u32) -> &'a [u8]
         requires within { k < slots_in self.now }
         requires few { k ≤ greatest_entries V2 }
@@ -104,7 +104,8 @@ impl<'a> Dir<'a> {
         self.inodes.lend(self.directory, self.start(k))
     }
 
-    /// The same: what the slots before it left of a block, or else the bytes of the next block.
+    /// Returns the same bytes as `run_from`. If `left` is not empty, it has these bytes already: it is the rest of the
+    /// previous run.
     pub(crate) fn run_at(&self, k: u32, left: &'a [u8]) -> &'a [u8]
         requires within { k < slots_in self.now }
         requires few { k ≤ greatest_entries V2 }
@@ -118,7 +119,7 @@ impl<'a> Dir<'a> {
         }
     }
 
-    // The number in slot `k`. The run begins with that slot, or with a part of it.
+    // Returns the inode number in slot `k`. `run` begins with that slot, or with its first part.
     pub(crate) fn number_in(&self, k: u32, run: &[u8]) -> u16
         requires within { k < slots_in self.now }
         requires few { k ≤ greatest_entries V2 }
@@ -131,7 +132,7 @@ impl<'a> Dir<'a> {
         LittleEndian::read_u16(run)
     }
 
-    /// The name in slot `k` where it lies; None where the slot stands across two blocks.
+    /// Returns the name in slot `k` without a copy, or `None` if the slot crosses a block boundary.
     pub(crate) fn lent_name(&self, k: u32) -> Option<&[u8]>
         requires within { k < slots_in self.now }
         requires few { k ≤ greatest_entries V2 }
@@ -142,7 +143,7 @@ impl<'a> Dir<'a> {
         name_in_run(self.run_from(k), length)
     }
 
-    /// The name in slot `k`; None past the last slot.
+    /// Returns a copy of the name in slot `k`, or `None` if there is no such slot.
     pub(crate) fn name_at(&self, k: u32) -> Option<Name>
         ensures value { result ≡ any_name_in self.now k }
         ensures within { IfSome result (λ _. k < slots_in self.now) }
@@ -157,7 +158,7 @@ impl<'a> Dir<'a> {
         }
     }
 
-    // Whether the name in slot `k`, which stands across two blocks, comes before another name.
+    // Returns whether the name in slot `k`, which crosses a block boundary, precedes `name`.
     #[inline(never)]
     fn is_less_across(&self, k: u32, name: &[u8]) -> bool
         requires within { k < slots_in self.now }
@@ -167,7 +168,7 @@ impl<'a> Dir<'a> {
         self.slot(k).name() < name
     }
 
-    /// Whether the name in slot `k` comes before another name.
+    /// Returns whether the name in slot `k` precedes `name`.
     pub(crate) fn is_less(&self, k: u32, name: &[u8]) -> bool
         requires within { k < slots_in self.now }
         requires few { k ≤ greatest_entries V2 }

@@ -23,35 +23,36 @@ use pv_model::{Kind, Name, Version};
 use std::alloc::{AllocError, Global};
 use std::marker::Model;
 
-/// The directories of an image, over its inodes: a tree by the numbers of its nodes. To make
-/// them takes memory for an index of their entries; nothing else here takes memory.
+/// The directories of an image, over its inodes: a tree of nodes by their numbers. The constructors allocate an index
+/// of the entries; no other method allocates memory.
 #[derive(Drop)]
 pub struct Directories {
     inodes: Inodes,
     // The number of data blocks.
     block_count: u16,
-    // The entries by their names. It stands apart, so that directories are small to move.
+    // The index of the entries by name. It is boxed, so that moving the directories is cheap.
     index: Box<Index>,
 }
 
 impl Model for Directories {
     ghost use Rattle.pv_model.specs.Tree.{Tree};
-    ghost use Rattle.pv_dirs.specs.Index.{IsKept};
+    ghost use Rattle.pv_dirs.specs.Index.{IsConsistent};
     ghost use Rattle.pv_dirs.specs.Trees.{tree_of};
 
     ghost Value = { Tree };
 
     ghost view = { λ d. tree_of d.inodes };
 
-    ghost invariant = { λ d. IsKept d.inodes d.block_count d.index.value };
+    ghost invariant = { λ d. IsConsistent d.inodes d.block_count d.index.value };
 }
 
 impl Directories {
-    /// The tree of an image of so many blocks and inodes over zeros: it has no node, and no root either.
+    /// Creates the tree of an image with the given numbers of blocks and inodes, in a vector of zeros. The tree has no
+    /// node, not even a root.
     ///
     /// # Errors
     ///
-    /// `AllocError` where memory for the index was refused.
+    /// Returns `AllocError` if memory for the index cannot be allocated.
     pub fn empty(
         alloc: Global,
         zeros: Vec<u8>,
@@ -80,7 +81,7 @@ impl Directories {
         })
     }
 
-    /// How many nodes the image has room for.
+    /// Returns the number of inodes, which limits the number of nodes.
     pub fn inodes(&self) -> u16
         ensures value { result ≡ self.now.inodes }
         ensures numbers { length self.now.nodes ≡ suc result }
@@ -88,7 +89,8 @@ impl Directories {
         self.inodes.inodes()
     }
 
-    /// How many data blocks the image has: with its others they are no more than an image may have.
+    /// Returns the number of data blocks. With the other blocks of the image they do not exceed the maximum of its
+    /// version.
     pub fn blocks(&self) -> u16
         ensures value { result ≡ self.now.blocks }
         ensures allowed { inode_blocks self.now.version self.now.inodes + 1 + result ≤ greatest_blocks self.now.version }
@@ -96,35 +98,35 @@ impl Directories {
         self.block_count
     }
 
-    /// The version of the image's format.
+    /// Returns the version of the image's format.
     pub fn version(&self) -> Version
         ensures { result ≡ self.now.version }
     {
         self.inodes.version()
     }
 
-    /// The number of data blocks that no node needs.
+    /// Returns the number of free data blocks.
     pub fn free(&self) -> u16
         ensures { result + total_need self.now ≡ self.now.blocks }
     {
         self.inodes.free()
     }
 
-    /// Whether a number is that of a node.
+    /// Returns whether `inode` is the number of a node.
     pub fn is_used(&self, inode: u16) -> bool
         ensures { IsTrue result ↔ IsSome (node_at self.now inode) }
     {
         self.inodes.is_used(inode)
     }
 
-    /// Whether a number is that of a directory.
+    /// Returns whether `inode` is the number of a directory.
     pub fn is_directory(&self, inode: u16) -> bool
         ensures { result ≡ is_directory_at self.now inode }
     {
         is_directory(&self.inodes, inode)
     }
 
-    /// What a node is.
+    /// Returns the kind of a node.
     pub fn kind(&self, inode: u16) -> Kind
         requires { IsSome (node_at self.now inode) }
         ensures { option_map sort_of (node_at self.now inode) ≡ Some result }
@@ -132,8 +134,8 @@ impl Directories {
         self.inodes.kind(inode)
     }
 
-    /// The size of a node, as stat(2) gives it: the number of a directory's entries, of a file's bytes, or
-    /// of those of a link's text.
+    /// Returns the size of a node as stat(2) reports it: the number of entries of a directory, the number of bytes of a
+    /// file, or the length of a symbolic link's target.
     pub fn size(&self, inode: u16) -> u32
         requires { IsSome (node_at self.now inode) }
         ensures value { option_map size_of (node_at self.now inode) ≡ Some result }
@@ -151,7 +153,7 @@ impl Directories {
         }
     }
 
-    /// The number of the node under a name of a directory.
+    /// Returns the number of the node that a directory has under `name`.
     pub fn find(&self, directory: u16, name: &[u8]) -> Option<u16>
         requires { IsTrue (is_directory_at self.now directory) }
         ensures { result ≡ find_entry self.now directory name.now }
@@ -164,8 +166,8 @@ impl Directories {
         Some(dir.number(k))
     }
 
-    /// The least name of a directory, in byte order, that comes after the last one; without a last one
-    /// the least of all. None where no name comes after it.
+    /// Returns the least name of a directory, in byte order, that follows `last`, or the least name of all if there is
+    /// no `last`. Returns `None` if no name follows.
     pub fn next_after(&self, directory: u16, last: Option<&[u8]>) -> Option<Name>
         requires { IsTrue (is_directory_at self.now directory) }
         ensures value { result ≡ next_name (option_copied last.entry) (entries_at self.now directory) }
@@ -178,9 +180,11 @@ impl Directories {
         dir.next_name(&self.index, last)
     }
 
-    /// The least name of a directory, in byte order, that comes after the last one, and the number of its node; without
-    /// a last one the least of all. None where no name comes after it. `before` is a guess of how many names come before
-    /// the answer: it is the same with any, and found at once where the guess is right and the names ascend from slot to slot.
+    /// Returns the least name of a directory, in byte order, that follows `last`, with the number of its node. If there
+    /// is no `last`, it returns the least name of all. Returns `None` if no name follows.
+    ///
+    /// `before` is a guess of the number of names that precede the result. It does not affect the result. If the guess
+    /// is right and the names ascend from slot to slot, the name is found in one step.
     pub fn next_entry(
         &self,
         directory: u16,
@@ -199,8 +203,8 @@ impl Directories {
         dir.next_entry(&self.index, last, before)
     }
 
-    /// The least name of a directory, in byte order, that names a node and comes after the last one; without a last one
-    /// the least of all that do. None where no such name comes after it.
+    /// Returns the least name of a directory, in byte order, that names `node` and follows `last`. If there is no
+    /// `last`, it returns the least name of `node` in the directory. Returns `None` if there is no such name.
     pub fn next_name_of(&self, directory: u16, node: u16, last: Option<&[u8]>) -> Option<Name>
         requires { IsTrue (is_directory_at self.now directory) }
         ensures { IsNextNameOf self.now directory node (option_copied last.entry) result }
@@ -212,7 +216,7 @@ impl Directories {
         dir.next_with(node, last)
     }
 
-    /// Whether a directory has no entry.
+    /// Returns whether a directory has no entry.
     pub fn is_empty(&self, directory: u16) -> bool
         requires { IsTrue (is_directory_at self.now directory) }
         ensures { IsTrue result ↔ (entries_at self.now directory ≡ []) }
@@ -224,8 +228,12 @@ impl Directories {
         dir.count() == 0
     }
 
-    /// Adds an entry to a directory that has none of this name. `TooBig` comes where the directory would be
-    /// longer than any may be, else `Full` where data blocks are wanting; then nothing has changed.
+    /// Adds an entry to a directory that has no entry of this name.
+    ///
+    /// # Errors
+    ///
+    /// Returns `TooBig` if the directory would exceed the maximum length. Otherwise returns `Full` if there are too few
+    /// free data blocks. If the call fails, nothing changes.
     pub fn add(&mut self, directory: u16, name: &[u8], inode: u16) -> Result<(), Space>
         requires directory { IsTrue (is_directory_at self.old directory) }
         requires name { IsTrue (is_name self.old.version name.now) }
@@ -250,8 +258,8 @@ impl Directories {
         added
     }
 
-    /// Takes away the entry of a directory that has this name, and answers the number of its node; None
-    /// where no entry has it, and then nothing has changed.
+    /// Removes the entry of a directory that has this name, and returns the number of its node. Returns `None` and
+    /// changes nothing if there is no such entry.
     pub fn remove(&mut self, directory: u16, name: &[u8]) -> Option<u16>
         requires { IsTrue (is_directory_at self.old directory) }
         ensures gone { result ≡ find_entry self.old directory name.now }
@@ -276,8 +284,8 @@ impl Directories {
         Some(gone)
     }
 
-    /// The bytes of a file or a link from `at` on, as far as they stand in one block, where they stand: they end with that
-    /// block, or where the bytes end.
+    /// Returns the contents of a file or symbolic link from offset `at` to the end of the block that has this offset,
+    /// or to the end of the contents if it comes first. Nothing is copied.
     pub fn lend(&self, inode: u16, at: u32) -> &[u8]
         requires used { IsSome (node_at self.now inode) }
         requires other { is_directory_at self.now inode ≡ false }
@@ -287,8 +295,9 @@ impl Directories {
         self.inodes.lend(inode, at)
     }
 
-    /// Copies the bytes of a file or a link, from `at` on, to the front of the buffer. The result is how
-    /// many: as many as the buffer takes, or fewer where the bytes end, or none past their end.
+    /// Copies the contents of a file or symbolic link from offset `at` to the front of `buffer`. Returns the number of
+    /// bytes copied: it is less than the length of `buffer` if the contents end before that, and 0 at or past their
+    /// end.
     pub fn read_at(&self, inode: u16, at: u32, buffer: &mut [u8]) -> usize
         requires used { IsSome (node_at self.now inode) }
         requires other { is_directory_at self.now inode ≡ false }
@@ -298,9 +307,13 @@ impl Directories {
         self.inodes.read_at(inode, at, buffer)
     }
 
-    /// Writes bytes over those of a file or a link, from `at` on. A gap past the end is filled with zeros,
-    /// and to write no bytes changes nothing. `TooBig` comes where a byte would lie past the greatest
-    /// length, else `Full` where data blocks are wanting; then nothing has changed.
+    /// Writes `bytes` to the contents of a file or symbolic link at offset `at`. A gap past the end of the contents is
+    /// filled with zeros. A write of zero bytes changes nothing.
+    ///
+    /// # Errors
+    ///
+    /// Returns `TooBig` if a byte would be written past the maximum length. Otherwise returns `Full` if there are too
+    /// few free data blocks. If the call fails, nothing changes.
     pub fn write_at(&mut self, inode: u16, at: u32, bytes: &[u8]) -> Result<(), Space>
         requires used { IsSome (node_at self.old inode) }
         requires other { is_directory_at self.old inode ≡ false }
@@ -312,9 +325,12 @@ impl Directories {
         self.inodes.write_at(inode, at, bytes)
     }
 
-    /// Cuts the bytes of a file or a link to a length, or fills them up to it with zeros. `TooBig` comes
-    /// where the length is past the greatest, else `Full` where data blocks are wanting; then nothing has
-    /// changed.
+    /// Truncates the contents of a file or symbolic link to `size` bytes, or extends them to it with zeros.
+    ///
+    /// # Errors
+    ///
+    /// Returns `TooBig` if `size` exceeds the maximum length. Otherwise returns `Full` if there are too few free data
+    /// blocks. If the call fails, nothing changes.
     pub fn cut(&mut self, inode: u16, size: u32) -> Result<(), Space>
         requires used { IsSome (node_at self.old inode) }
         requires other { is_directory_at self.old inode ≡ false }
@@ -326,8 +342,8 @@ impl Directories {
         self.inodes.cut(inode, size)
     }
 
-    /// Puts a node of this sort, with nothing in it, under the least number that is not in use; None only
-    /// where the image has no room for another node.
+    /// Creates an empty node of kind `sort` under the least unused number, and returns the number. Returns `None` if
+    /// the image has no free inode.
     pub fn fresh(&mut self, sort: Kind) -> Option<u16>
         ensures full { IsNone result ↔ (new_number self.old ≡ length self.old.nodes) }
         ensures none { IfNone result (self.new ≡ self.old) }
@@ -339,7 +355,7 @@ impl Directories {
         self.inodes.fresh(sort)
     }
 
-    /// Takes a node away, with all that is in it.
+    /// Removes a node and its contents.
     pub fn drop_inode(&mut self, inode: u16)
         requires { IsSome (node_at self.old inode) }
         ensures { self.new ≡ without_node self.old inode }

@@ -1,4 +1,4 @@
-//! Where the entries of directories stand, by their names.
+//! An index of the entries of directories by name.
 ghost use Rattle.std.specs.Prelude.{◌≡◌, ◌≢◌, ◌↔◌, ◌<◌, ℕ, true, IsTrue};
 ghost use Rattle.pv_model.specs.Bytes.{Bytes};
 ghost use Rattle.pv_dirs.specs.declared.index.TheConstants.{PLACES};
@@ -6,25 +6,25 @@ ghost use Rattle.pv_dirs.specs.Index.{place_of, said, known, Leads};
 
 use pv_model::limits::INODES;
 
-/// How many places an index has.
+/// The number of buckets of an index.
 const PLACES: usize = 8_192;
 
-// A byte of a name counts so many times as much as the one after it.
+// The base of the hash: each byte of a name has this many times the weight of the next.
 const FACTOR: u16 = 11;
 
-/// What an index says of the entries whose names fall on one of its places.
+/// The state of a bucket: which entries have names that hash to it.
 #[derive(Clone, Copy)]
 pub(crate) enum Bucket {
-    /// There are none.
+    /// No entry.
     Empty,
-    /// There is one at most, in this slot of this directory.
+    /// At most one entry: the one in this slot of this directory.
     Slot(u16, u16),
-    /// There may be several.
+    /// Possibly several entries.
     Shared,
 }
 
 impl Bucket {
-    // Whether this says that an entry stands in this slot of this directory.
+    // Returns whether the bucket leads to this slot of this directory.
     fn is_slot(self, directory: u16, slot: u16) -> bool
         ensures { IsTrue result ↔ (self ≡ Bucket.Slot directory slot) }
     {
@@ -35,7 +35,7 @@ impl Bucket {
     }
 }
 
-/// The place on which a name of a directory falls.
+/// Returns the bucket to which a name of a directory hashes.
 fn place_of(directory: u16, name: &[u8]) -> usize
     ensures value { result ≡ place_of directory name.now }
     ensures within { result < PLACES }
@@ -47,16 +47,16 @@ fn place_of(directory: u16, name: &[u8]) -> usize
     sum as usize % PLACES
 }
 
-/// An index of the entries of all directories by their names. It has one size, and takes no memory beside its own.
+/// An index of the entries of all directories by name. Its size is fixed, and it allocates no memory beyond that.
 #[derive(Drop)]
 pub(crate) struct Index {
     places: [Bucket; PLACES],
-    // Of which directories the names are known to ascend in byte order from slot to slot.
+    // For each directory, whether its names are known to ascend in byte order from slot to slot.
     ascending: [bool; INODES + 1],
 }
 
 impl Index {
-    /// The index of no entries.
+    /// Creates an index without entries.
     pub(crate) fn empty() -> Index {
         Index {
             places: [Bucket::Empty; PLACES],
@@ -64,13 +64,13 @@ impl Index {
         }
     }
 
-    /// Takes all entries out of the index.
+    /// Removes all entries from the index.
     pub(crate) fn clear(&mut self) {
         self.places.fill(Bucket::Empty);
         self.ascending.fill(false);
     }
 
-    /// Whether the names of a directory are known to ascend from slot to slot.
+    /// Returns whether the names of a directory are known to ascend from slot to slot.
     pub(crate) fn ascends(&self, directory: u16) -> bool
         ensures { result ≡ known self.now directory }
     {
@@ -78,7 +78,7 @@ impl Index {
         at <= INODES && self.ascending[at]
     }
 
-    // Says of a directory whether its names ascend.
+    // Records whether the names of a directory ascend.
     fn know(&mut self, directory: u16, ascends: bool)
         ensures places { self.new.places ≡ self.old.places }
         ensures this { known self.new directory ≡ true → ascends ≡ true }
@@ -90,15 +90,15 @@ impl Index {
         }
     }
 
-    /// What the index says of the entries whose names fall where this one does.
+    /// Returns the bucket to which a name hashes.
     pub(crate) fn find(&self, directory: u16, name: &[u8]) -> Bucket
         ensures { result ≡ said self.now directory name.now }
     {
         self.places[place_of(directory, name)]
     }
 
-    /// Puts an entry into the index, and leads to the others as before. The names of the directory ascend with
-    /// this one or not.
+    /// Adds an entry to the index. Lookups of other entries do not change. `ascends` is whether the names of the
+    /// directory ascend with the new one.
     pub(crate) fn add(&mut self, directory: u16, name: &[u8], slot: u16, ascends: bool)
         ensures this { Leads self.new directory name.now slot }
         ensures others { (d k : ℕ) (other : Bytes) → Leads self.old d other k → Leads self.new d other k }
@@ -113,7 +113,7 @@ impl Index {
         };
     }
 
-    /// Takes an entry out of the index, and leads to the others as before.
+    /// Removes an entry from the index. Lookups of other entries do not change.
     pub(crate) fn remove(&mut self, directory: u16, name: &[u8], slot: u16)
         ensures others { (d k : ℕ) (other : Bytes) → (d ≡ directory → k ≢ slot) → Leads self.old d other k → Leads self.new d other k }
         ensures known { (d : ℕ) → known self.new d ≡ known self.old d }
@@ -124,8 +124,8 @@ impl Index {
         }
     }
 
-    /// Leads to an entry in another slot of its directory, and to the others as before. Where it is another one,
-    /// the names of the directory may no longer ascend.
+    /// Changes the slot of an entry in the index. Lookups of other entries do not change. If the slot differs, the
+    /// names of the directory may no longer ascend.
     pub(crate) fn change(&mut self, directory: u16, name: &[u8], from: u16, to: u16)
         ensures this { Leads self.old directory name.now from → Leads self.new directory name.now to }
         ensures others { (d k : ℕ) (other : Bytes) → (d ≡ directory → k ≢ from) → Leads self.old d other k → Leads self.new d other k }

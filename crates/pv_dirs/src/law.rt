@@ -1,9 +1,9 @@
-//! Laws of slots.
-ghost use Rattle.pv_dirs.specs.Stored.{EntriesAreSpelled, SpelledAreEntries};
+//! A law about slots.
+ghost use Rattle.pv_dirs.specs.Stored.{EntriesAreEncoded, EncodedAreEntries};
 
-/// The bytes of a directory spell just the entries that its slots have, as an image's format says: in each
-/// slot a number of two bytes, the length of the name, a byte that is not read, the name, and what is left.
-pub fn slots_spell_entries()
-    ensures entries { EntriesAreSpelled }
-    ensures spelled { SpelledAreEntries }
+/// The contents of a directory encode exactly the entries in its slots, as the image format defines it. A slot is an
+/// inode number of two bytes, the length of the name, a byte that is ignored, the name, and unused space.
+pub fn slots_encode_entries()
+    ensures entries { EntriesAreEncoded }
+    ensures encoded { EncodedAreEntries }
 {}

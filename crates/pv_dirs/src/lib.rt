@@ -1,14 +1,12 @@
-//! Directories on slots: the layer where the bytes of directories become entries.
+//! The directory layer: inode contents as slots, and slots as entries.
 //!
-//! A directory is slots of 64 bytes, or of 260 in an image of version 2, each with a name and the number
-//! of an inode; a slot of 260 bytes may stand across two blocks. A contract sees the definitions' `Tree`:
-//! a directory as its entries in the order of their names, a file or a link as its bytes. Slots, their
-//! order, and the length of a directory's bytes stand in the invariant alone, and so does an index that
-//! leads from names to slots and knows of which directories the names ascend from slot to slot. `slot` has
-//! a slot's bytes, and `dir` has `Dir`, a directory as slots; `search` finds a name in it, and `next_names` the name after
-//! another, by `best`, the best name of a pass. `index` has the index, `indexing` puts slots into it, `sorting` puts
-//! slots in the order of the names, `directories` has `Directories`, and `law` says that slots spell their entries as
-//! an image's format does.
+//! A directory consists of slots of 64 bytes, or of 260 in version 2, each with a name and an inode number; a slot of
+//! 260 bytes can cross a block boundary. Contracts see the specification's `Tree`: a directory is a list of entries
+//! sorted by name, and a file or symbolic link is its bytes. Slots, their order, and the index from names to slots
+//! appear only in the invariant. `slot` encodes a slot, and `dir` reads a directory as slots. `search` finds a name,
+//! and `next_names` finds the name that follows another, with `best` as the state of a scan. `index` is a hash table of
+//! entries, `indexing` fills it, and `sorting` sorts slots by name. `directories` defines `Directories`, and `law`
+//! states that slots encode their entries.
 #![tactic(auto)]
 
 mod best;

@@ -1,4 +1,4 @@
-//! The next name of a directory.
+//! The name that follows another in a directory.
 ghost use Rattle.std.specs.Prelude.{◌≡◌, ◌<◌, ◌≤◌, Some, IfSome, IfOk, option_map};
 ghost use Rattle.std.specs.Cmp.Lexicographic.{slice_cmp};
 ghost use Rattle.std.specs.FinMap.Entries.{find};
@@ -17,7 +17,7 @@ use crate::index::Index;
 use pv_model::Name;
 
 impl<'a> Dir<'a> {
-    // The same with the name of slot `k`, wherever it stands: of a better name it keeps a copy.
+    // Does the same as `improve` for slot `k`, which may cross a block boundary: it copies a better name.
     #[inline(never)]
     fn improve_by_copy(&self, best: &mut Best, mark: &mut Option<Mark>, last: Option<&[u8]>, k: u32)
         requires within { k < slots_in self.now }
@@ -34,9 +34,9 @@ impl<'a> Dir<'a> {
         }
     }
 
-    /// The least name after the last one, in one pass. It begins with the name in slot `first`, if there
-    /// is such a slot: the answer is the same with any, and where that is the next name, most others are passed over at
-    /// one byte.
+    /// Returns the least name that follows `last`, with one scan. The scan starts with the name in slot `first`, if it
+    /// exists. The result does not depend on `first`. If that slot has the next name, one byte is enough to skip most
+    /// of the others.
     fn best_of_pass(&self, last: Option<&[u8]>, first: u32) -> Option<Name>
         requires distinct { IsDistinct (entries_in self.now) }
         ensures { result ≡ next_name (option_copied last.entry) (in_order (entries_in self.now)) }
@@ -63,8 +63,8 @@ impl<'a> Dir<'a> {
         best.into_name()
     }
 
-    /// The least name after the last one among the names in the slots that have the number of a node.
-    /// Such slots are few, so their names are copied.
+    /// Returns the least name that follows `last` among the slots with the inode number `node`. Few slots have it, so
+    /// their names are copied.
     pub(crate) fn next_with(&self, node: u16, last: Option<&[u8]>) -> Option<Name>
         ensures { IsNextOf (IsNamedIn self.now node) (option_copied last.entry) result }
     {
@@ -81,9 +81,9 @@ impl<'a> Dir<'a> {
         best.into_name()
     }
 
-    // The slot after the one of the last name, or the first slot where there is no last name. It has the next name
-    // where names were added in byte order. None where no slot has the last name. `before` is a guess of the answer: one
-    // name is compared where it is right.
+    // Returns the slot after that of the last name, or slot 0 if there is no last name. If names were added in byte
+    // order, this slot has the next name. Returns `None` if no slot has the last name. `before` is a guess of the
+    // result: if it is right, only one name is compared.
     fn slot_past(&self, index: &Index, last: Option<&[u8]>, before: u32) -> Option<u32>
         requires led { IsLedBy self.now index.now }
         ensures within { IfSome result (λ k. k ≤ slots_in self.now) }
@@ -100,8 +100,8 @@ impl<'a> Dir<'a> {
         Some(self.find(index, last)? + 1)
     }
 
-    // The slot of the next name, or the one after the last slot where no name is next, if the names are known to ascend.
-    // An error where they are not: the slot with which a pass may best begin.
+    // If the names are known to ascend, returns the slot of the next name, or the number of slots if there is no next
+    // name. Otherwise fails with the slot at which a scan should start.
     fn next_slot(&self, index: &Index, last: Option<&[u8]>, before: u32) -> Result<u32, u32>
         requires led { IsLedBy self.now index.now }
         requires distinct { IsDistinct (entries_in self.now) }
@@ -114,8 +114,8 @@ impl<'a> Dir<'a> {
         }
     }
 
-    /// The least name after the last one: the name in the slot after that of the last one, where the
-    /// names are known to ascend, and otherwise the best one of a pass.
+    /// Returns the least name that follows `last`. If the names are known to ascend, it is in the slot after that of
+    /// `last`; otherwise a scan finds it.
     pub(crate) fn next_name(&self, index: &Index, last: Option<&[u8]>) -> Option<Name>
         requires led { IsLedBy self.now index.now }
         requires distinct { IsDistinct (entries_in self.now) }
@@ -127,8 +127,8 @@ impl<'a> Dir<'a> {
         }
     }
 
-    /// The least name after the last one, and the number of its node. `before` is a guess of how many names
-    /// come before it: the answer is the same with any.
+    /// Returns the least name that follows `last`, with the number of its node. `before` is a guess of the number of
+    /// names that precede it. The result does not depend on the guess.
     pub(crate) fn next_entry(
         &self,
         index: &Index,

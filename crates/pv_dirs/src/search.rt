@@ -13,7 +13,7 @@ use crate::index::{Bucket, Index};
 use crate::slot::name_in;
 
 impl<'a> Dir<'a> {
-    // Whether slot `k`, which stands across two blocks, has a name.
+    // Returns whether slot `k`, which crosses a block boundary, has the name.
     #[inline(never)]
     fn has_name_across(&self, k: u32, name: &[u8]) -> bool
         requires within { k < slots_in self.now }
@@ -23,7 +23,7 @@ impl<'a> Dir<'a> {
         self.slot(k).name() == name
     }
 
-    /// Whether slot `k` has a name. The run begins with that slot, or with a part of it.
+    /// Returns whether slot `k` has the name. `run` begins with that slot, or with its first part.
     fn has_name(&self, k: u32, run: &[u8], name: &[u8]) -> bool
         requires within { k < slots_in self.now }
         requires few { k ≤ greatest_entries V2 }
@@ -37,7 +37,7 @@ impl<'a> Dir<'a> {
         name_in(&run[..length]) == name
     }
 
-    /// The first slot with a name.
+    /// Returns the first slot with the name, by a linear search.
     fn search(&self, name: &[u8]) -> Option<u32>
         ensures absent { IfNone result (find (slice_cmp nat_cmp) name.now (entries_in self.now) ≡ None) }
         ensures within { IfSome result (λ k. k < slots_in self.now) }
@@ -56,7 +56,7 @@ impl<'a> Dir<'a> {
         None
     }
 
-    // This slot, if there is such a slot, and it has the name.
+    // Returns `at` if there is such a slot and it has the name.
     pub(crate) fn slot_with(&self, at: u32, name: &[u8]) -> Option<u32>
         ensures other { IfNone result (at < slots_in self.now → name_in self.now at ≢ name.now) }
         ensures within { IfSome result (λ k. k < slots_in self.now) }
@@ -74,7 +74,7 @@ impl<'a> Dir<'a> {
         }
     }
 
-    // How many slots have names before another one, where the names ascend: a binary search.
+    // Returns the number of slots whose names precede `name`, by a binary search. The names must ascend.
     fn count_before(&self, name: &[u8]) -> u32
         requires ascend { AscendIn self.now (slots_in self.now) }
         ensures within { result ≤ slots_in self.now }
@@ -95,7 +95,7 @@ impl<'a> Dir<'a> {
         from
     }
 
-    /// The slot with a name, where the names ascend.
+    /// Returns the slot with the name, by a binary search. The names must ascend.
     fn binary_search(&self, name: &[u8]) -> Option<u32>
         requires ascend { AscendIn self.now (slots_in self.now) }
         ensures absent { IfNone result (find (slice_cmp nat_cmp) name.now (entries_in self.now) ≡ None) }
@@ -106,7 +106,7 @@ impl<'a> Dir<'a> {
         self.slot_with(self.count_before(name), name)
     }
 
-    /// The slot with a name, by the index.
+    /// Returns the slot with the name. It uses the index.
     pub(crate) fn find(&self, index: &Index, name: &[u8]) -> Option<u32>
         requires led { IsLedBy self.now index.now }
         ensures absent { IfNone result (find (slice_cmp nat_cmp) name.now (entries_in self.now) ≡ None) }

@@ -1,4 +1,4 @@
-//! The bytes of a slot.
+//! The encoding of a slot.
 ghost use Rattle.std.specs.Prelude.{◌≡◌, ◌≤◌, length, drop, slice_index};
 ghost use Rattle.pv_model.specs.declared.limits.TheConstants.{NAME_V2};
 ghost use Rattle.pv_model.specs.Room.{entry_length};
@@ -10,16 +10,16 @@ use pv_model::Version;
 use pv_model::format::{NAME_AT, NAME_LENGTH_AT, SLOT_V2};
 use std::marker::Model;
 
-/// Bytes of the longest slot, that of version 2.
+/// The length of the longest slot, that of version 2.
 pub(crate) const LONGEST: usize = SLOT_V2;
 
-/// An entry of a directory as it is stored: the number of an inode in 2 bytes, the length of the name in
-/// one, a byte that is not read, and the name. A contract sees the slot's bytes.
+/// An entry of a directory as it is stored: the inode number in 2 bytes, the length of the name in one byte, a byte
+/// that is ignored, and the name. Contracts see the bytes of the slot.
 #[derive(Drop)]
 pub(crate) struct Slot {
-    // The bytes, in front of others that are not read.
+    // The bytes of the slot, followed by bytes that are not read.
     pub(crate) bytes: [u8; LONGEST],
-    // How many they are.
+    // The length of the slot.
     pub(crate) length: usize,
 }
 
@@ -34,7 +34,7 @@ impl Model for Slot {
     ghost invariant = { λ s. (4 ≤ s.length) × (s.length ≤ 260) };
 }
 
-/// The room for a name in the bytes of a slot: the name, and what it leaves.
+/// Returns the space for the name in a slot, including its unused part.
 #[inline]
 pub(crate) fn room_in(slot: &[u8]) -> &[u8]
     requires { 4 ≤ length slot.now }
@@ -43,7 +43,7 @@ pub(crate) fn room_in(slot: &[u8]) -> &[u8]
     &slot[NAME_AT..]
 }
 
-/// The name in the bytes of a slot.
+/// Returns the name in a slot.
 #[inline]
 #[tactic(auto, unfolding(crate::specs::Slots::slot_name))]
 pub(crate) fn name_in(slot: &[u8]) -> &[u8]
@@ -55,9 +55,9 @@ pub(crate) fn name_in(slot: &[u8]) -> &[u8]
     &slot[NAME_AT..end]
 }
 
-// The bytes of an entry, and zeros after them.
+// Returns the encoding of an entry, padded with zeros.
 #[tactic(auto, unfolding(crate::specs::Slots::slot_name, crate::specs::Slots::slot_number))]
-fn spelled(name: &[u8], inode: u16) -> [u8; LONGEST]
+fn encoded(name: &[u8], inode: u16) -> [u8; LONGEST]
     requires { length name.now ≤ NAME_V2 }
     ensures name { slot_name result ≡ name.now }
     ensures number { slot_number result ≡ inode }
@@ -72,7 +72,7 @@ fn spelled(name: &[u8], inode: u16) -> [u8; LONGEST]
 }
 
 impl Slot {
-    /// The slot of an entry. What the name leaves of it is zeros.
+    /// Creates the slot of an entry. The space that the name does not use is zero.
     pub(crate) fn new(version: Version, name: &[u8], inode: u16) -> Slot
         requires { length name.now ≤ greatest_name version }
         ensures name { slot_name result ≡ name.now }
@@ -81,12 +81,12 @@ impl Slot {
         ensures whole { length result ≡ entry_length version }
     {
         Slot {
-            bytes: spelled(name, inode),
+            bytes: encoded(name, inode),
             length: version.layout().slot_length,
         }
     }
 
-    /// The bytes of the slot.
+    /// Returns the bytes of the slot.
     pub(crate) fn as_bytes(&self) -> &[u8]
         ensures value { result.now ≡ self.now }
         ensures long { 4 ≤ length result.now }
@@ -94,7 +94,7 @@ impl Slot {
         &self.bytes[..self.length]
     }
 
-    /// The entry's name.
+    /// Returns the name of the entry.
     #[tactic(auto, unfolding(crate::specs::Slots::slot_name))]
     pub(crate) fn name(&self) -> &[u8]
         ensures value { result.now ≡ slot_name self.now }

@@ -1,4 +1,4 @@
--- Which of the two values of a pledge is refused first.
+-- The first of the two values of a pledge(2) that is refused.
 use Rattle.std.proofs.Common.{◌≡◌, ◌∙◌, ap, sym, refl, ℕ, Bool, true, cond, codes, Option, None, Result, Ok, Err}
 use Rattle.std.specs.Prelude.{OnOk, IfErr}
 use Rattle.std.specs.Result.{is_err}
@@ -7,19 +7,19 @@ use Rattle.pv_model.specs.Answers.Explain.{increase_text}
 use Rattle.pv_model.specs.Answers.Lines.{answer_line_bytes}
 use Rattle.pv_model.specs.Bytes.{Bytes}
 use Rattle.pv_model.specs.Promises.{Promises, is_lenient, narrow_promises}
-use Rattle.pv_promises.specs.Pledge.{Pledged, both_kept, narrow_both}
+use Rattle.pv_promises.specs.Pledge.{Pledged, both_preserved, narrow_both}
 use Rattle.pv_explain.specs.Parts.{first_increase, why}
 
-kept-err : (first : Result (Option Promises) Promise) (second : Option Promises) → is_err (both_kept first (Ok second)) ≡ is_err first
-kept-err (Ok kept) second = refl
-kept-err (Err p) second = refl
+preserved-err : (first : Result (Option Promises) Promise) (second : Option Promises) → is_err (both_preserved first (Ok second)) ≡ is_err first
+preserved-err (Ok preserved) second = refl
+preserved-err (Err p) second = refl
 
--- a second value that is not asked for is not refused
+-- a missing second value is not refused
 pub first-refused : {T : Type 0} (held now : Pledged) (asked : Option Promises) (r : Result T Promise)
     → OnOk r (narrow_both held asked None ≡ Ok now) → IfErr r (λ p. narrow_both held asked None ≡ Err p)
     → is_err r ≡ is_err (narrow_promises (is_lenient held.promises) held.promises asked)
-first-refused held now asked (Ok done) kept refused = sym (sym (kept-err (narrow_promises (is_lenient held.promises) held.promises asked) held.execpromises) ∙ ap is_err kept)
-first-refused held now asked (Err p) kept refused = sym (sym (kept-err (narrow_promises (is_lenient held.promises) held.promises asked) held.execpromises) ∙ ap is_err refused)
+first-refused held now asked (Ok done) preserved refused = sym (sym (preserved-err (narrow_promises (is_lenient held.promises) held.promises asked) held.execpromises) ∙ ap is_err preserved)
+first-refused held now asked (Err p) preserved refused = sym (sym (preserved-err (narrow_promises (is_lenient held.promises) held.promises asked) held.execpromises) ∙ ap is_err refused)
 
 -- the line of the first value
 pub first-line : (pid : ℕ) (held : Pledged) (asked exec_asked now : Option Promises) → true ≡ is_err (narrow_promises (is_lenient held.promises) held.promises asked) → now ≡ held.promises

@@ -26,13 +26,13 @@ module _ (pid : ℕ) (mine : List Setting) (m : MadeCall) (after : State) where
   first_bytes = trace_bytes (first_lines_of pid (call_of m.call) m.answer.walks)
 
   abbrev pub promise_bytes : List Word → Bytes
-  promise_bytes told = answer_bytes (flat_map (promise_part pid m.before.pledge (call_of m.call)) told)
+  promise_bytes reported = answer_bytes (flat_map (promise_part pid m.before.pledge (call_of m.call)) reported)
 
   abbrev pub table_bytes : State → Bytes
   table_bytes seen = answer_bytes (table_lines pid mine m seen)
 
   abbrev pub moved_bytes : State → List Word → Bytes
-  moved_bytes seen told = answer_bytes (flat_map (moved_part pid seen m.before.file (call_of m.call)) told)
+  moved_bytes seen reported = answer_bytes (flat_map (moved_part pid seen m.before.file (call_of m.call)) reported)
 
   abbrev pub last_bytes : Bytes
   last_bytes = trace_bytes (end_lines_of pid (call_of m.call) m.answer.outcome)
@@ -49,7 +49,7 @@ module _ (pid : ℕ) (mine : List Setting) (m : MadeCall) (after : State) where
       ap₂ (λ (a b : Bytes). a ++ b)
       (ap₂ (λ (a b : Bytes). a ++ b)
       (ap₂ (λ (a b : Bytes). a ++ b) (ap₂ (λ (a b : Bytes). a ++ b) (trace-bytes (first_lines_of pid (call_of m.call) m.answer.walks)) (ap promise_bytes are)) (ap table_bytes is))
-      (ap₂ (λ (t : State) (told : List Word). moved_bytes t told) is gave))
+      (ap₂ (λ (t : State) (reported : List Word). moved_bytes t reported) is gave))
       (trace-bytes (end_lines_of pid (call_of m.call) m.answer.outcome))
       ∙ sym
       (two-parts (first ++ promise ++ table ++ gives) last

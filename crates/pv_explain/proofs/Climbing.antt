@@ -1,4 +1,4 @@
--- The lines of a directory and of those above it, level by level.
+-- The lines of a directory and its ancestors, level by level.
 use Rattle.std.proofs.Common.{◌≡◌, ◌<◌, ◌≤◌, ◌+◌, ◌-◌, ◌∙◌, ℕ, suc, true, false, cond, ◌==◌, List, [], ◌∷◌, ◌++◌, length, Option, None, Some, refl, ap, sym, subst, append_assoc, arith}
 use Rattle.std.specs.Prelude.{flat_map, is_some, option_to_list}
 use Rattle.std.proofs.lemmas.Bool.{false≢true}
@@ -14,8 +14,8 @@ use Rattle.pv_model.specs.Answers.Lines.{AnswerLine, answer_bytes, answer_line_b
 use Rattle.pv_model.specs.Bytes.{Bytes}
 use Rattle.pv_model.specs.Tree.{Tree, root, is_directory_at, above_or_none, parent, IsWellFormed}
 use Rattle.pv_model.specs.Unveil.{entry_for}
-use Rattle.pv_streams.specs.Sinks.{and_all, TellsBeginning}
-use Rattle.pv_streams.proofs.Telling.{written_both, written_none, begins_first, begins_then}
+use Rattle.pv_streams.specs.Sinks.{and_all, WritesPrefix}
+use Rattle.pv_streams.proofs.Reporting.{written_both, written_none, begins_first, begins_then}
 use Rattle.pv_unveil.specs.Up.{up}
 use Rattle.pv_unveil.proofs.Climbing.{up-directory}
 use Rattle.pv_explain.specs.declared.levels.Basis.{Basis}
@@ -29,7 +29,7 @@ pub some-found : (o : Option ℕ) → true ≡ is_some o → (k : ℕ) × (o ≡
 some-found None is = absurd (false≢true (sym is))
 some-found (Some k) is = (k, refl)
 
--- what is above a directory
+-- the parent of a directory
 above-up : (t : Tree) (d : ℕ) → above_or_none t d ≡ option_to_list (up t d)
 above-up t d = elim (d == root) as (λ b. cond b [] (option_to_list (parent t d)) ≡ option_to_list (cond b None (parent t d))) [ true ↦ refl | false ↦ refl ]
 
@@ -53,7 +53,7 @@ module _ (b : Basis) (asked : Perms) where
   one-level : (l : Level) → lines (l ∷ []) ≡ answer_line_bytes (level_line b asked l)
   one-level l = append-nil (answer_line_bytes (level_line b asked l))
 
-  -- ---- the levels from a directory on, in so many steps
+  -- ---- the levels from a directory on, within a number of steps
 
   module _ (steps d : ℕ) where
     abbrev here : Level
@@ -73,29 +73,29 @@ module _ (b : Basis) (asked : Perms) where
         ∙ ap (λ ds. here ∷ flat_map (levels_within tree (table_of b) steps) ds) (above-up tree d ∙ ap option_to_list rises)
         ∙ ap (λ (ls : List Level). here ∷ ls) (append-nil (levels_within tree (table_of b) steps above))
 
-  -- ---- as the loop climbs
+  -- ---- the loop that climbs
 
   module _ (directory : ℕ) where
     abbrev pub all : List Level
     all = directory_levels tree (table_of b) directory
 
-    -- so many levels are written, and these are left
+    -- the first levels are written, and these remain
     pub record IsClimbing (index reached : ℕ) (before now : Option Bytes) : Type 0 where
       pub seen : List Level
       pub parts : directory_levels tree (table_of b) directory ≡ seen ++ levels_within tree (table_of b) (suc (length tree.nodes) - index) reached
       pub written : now ≡ and_all before (lines seen)
-      pub stands : is_directory_at tree reached ≡ true
+      pub appears : is_directory_at tree reached ≡ true
 
     pub climbing-init : (written : Option Bytes) → is_directory_at tree directory ≡ true → IsClimbing 0 directory written written
-    climbing-init written stands = record {
+    climbing-init written appears = record {
       seen = [];
       parts = let whole : suc (length tree.nodes) ≡ suc (length tree.nodes) - 0 = omega arith in ap (λ n. levels_within tree (table_of b) n directory) whole;
       written = written_none written;
-      stands = stands;
+      appears = appears;
     }
 
     module _ (index reached : ℕ) (before mid : Option Bytes) (so_far : IsClimbing index reached before mid) where
-      -- nothing is left
+      -- no level remains
       pub climbing-end : suc (length tree.nodes) ≤ index → mid ≡ and_all before (lines all)
       climbing-end past =
           let none : suc (length tree.nodes) - index ≡ 0 = omega (arith, past) in
@@ -143,16 +143,16 @@ module _ (b : Basis) (asked : Perms) where
               parts-here ∙ ap (λ ls. so_far.seen ++ ls) (on-above steps reached above (sym own ∙ none) rises ∙ ap (λ (l : Level). l ∷ levels_within tree (table_of b) steps above) this-is)
               ∙ sym (append_assoc so_far.seen (this ∷ []) (levels_within tree (table_of b) steps above));
           written = written-here after written;
-          stands = up-directory tree well reached above rises;
+          appears = up-directory tree well reached above rises;
         }
 
-        -- a line that was not written whole
-        pub climbing-begun : (after : Option Bytes) → TellsBeginning (line_of (Directory reached) entry) mid after → TellsBeginning (lines all) before after
+        -- a line that was not written completely
+        pub climbing-begun : (after : Option Bytes) → WritesPrefix (line_of (Directory reached) entry) mid after → WritesPrefix (lines all) before after
         climbing-begun after begun =
             let rest : List Level = unless_found tree (table_of b) (entry_for (table_of b) (Directory reached)) (flat_map (levels_within tree (table_of b) steps) (above_or_none tree reached)) in
             let whole : all ≡ so_far.seen ++ this ∷ rest = parts-here ∙ ap (λ (l : Level). so_far.seen ++ l ∷ rest) this-is in
             let bytes : lines all ≡ lines so_far.seen ++ (line_of (Directory reached) entry ++ lines rest) = ap lines whole ∙ lines-append so_far.seen (this ∷ rest) in
-            subst (λ (bs : Bytes). TellsBeginning bs before after) (sym bytes)
+            subst (λ (bs : Bytes). WritesPrefix bs before after) (sym bytes)
             (begins_then (lines so_far.seen) (line_of (Directory reached) entry ++ lines rest) before mid after so_far.written
             (begins_first (line_of (Directory reached) entry) (lines rest) mid after begun))
 
@@ -176,25 +176,25 @@ module _ (b : Basis) (asked : Perms) where
         (ap (λ (l : Level). l ∷ directory_levels tree (table_of b) d) (sym named-is)
         ∙ sym (ap (λ o. level tree (table_of b) (Name d name) ∷ unless_found tree (table_of b) o (directory_levels tree (table_of b) d)) (sym own ∙ none)))
 
-    -- the line of the name is a beginning
-    pub name-begun : (before after : Option Bytes) → TellsBeginning (line_of (Name d name) entry) before after → TellsBeginning (lines (name_levels tree (table_of b) d name)) before after
+    -- the line of the name is a prefix
+    pub name-begun : (before after : Option Bytes) → WritesPrefix (line_of (Name d name) entry) before after → WritesPrefix (lines (name_levels tree (table_of b) d name)) before after
     name-begun before after begun =
         let rest : List Level = unless_found tree (table_of b) (entry_for (table_of b) (Name d name)) (directory_levels tree (table_of b) d) in
         let bytes : line_of (Name d name) entry ++ lines rest ≡ lines (name_levels tree (table_of b) d name) = ap (λ (l : Level). lines (l ∷ rest)) (sym named-is) in
-        subst (λ (bs : Bytes). TellsBeginning bs before after) bytes (begins_first (line_of (Name d name) entry) (lines rest) before after begun)
+        subst (λ (bs : Bytes). WritesPrefix bs before after) bytes (begins_first (line_of (Name d name) entry) (lines rest) before after begun)
 
-  -- ---- a place that is no directory
+  -- ---- a place that is not a directory
 
   module _ (place : Place) (d : ℕ) (name : Bytes) (node : Option ℕ) (is : place ≡ At d name node) (written : Bytes) (same : written ≡ name) where
     named-same : lines (name_levels tree (table_of b) d written) ≡ lines (name_levels tree (table_of b) d name)
     named-same = ap (λ (w : Bytes). lines (name_levels tree (table_of b) d w)) same
 
-    -- there is nothing of the name
+    -- nothing exists under the name
     pub place-bare : node ≡ None → lines (name_levels tree (table_of b) d written) ≡ lines (levels tree (table_of b) place)
     unfolding levels
     place-bare none = named-same ∙ sym (ap (λ (p : Place). lines (levels tree (table_of b) p)) (is ∙ ap (λ o. At d name o) none))
 
-    -- it is a file or a link
+    -- the name is of a file or a link
     pub place-other : (n : ℕ) → node ≡ Some n → false ≡ is_directory_at tree n → lines (name_levels tree (table_of b) d written) ≡ lines (levels tree (table_of b) place)
     unfolding levels
     place-other n some other =

@@ -1,4 +1,4 @@
--- What was made can be told: the place of a refused walk is one of a directory, and bytes have their size.
+-- The data of a step can be written: the place of a refused walk is in a directory, and bytes have their size.
 use Rattle.std.proofs.Common.{◌≡◌, ◌⊎◌, inl, inr, ◌∙◌, ℕ, zero, suc, true, [], length, take, Option, None, Some, Result, Ok, Err, refl, ap, sym, subst, arith}
 use Rattle.std.proofs.lemmas.List.{length-take-le}
 use Rattle.pv_model.specs.declared.call.Call.{Call}
@@ -24,7 +24,7 @@ use Rattle.pv_model.specs.Tree.{Tree, is_directory_at}
 use Rattle.pv_model.specs.Walk.{resolve}
 use Rattle.pv_model.specs.Walks.{Walk, walk_number, walks_of}
 use Rattle.pv_laws_states.specs.Calls.{IsUnharmed}
-use Rattle.pv_laws_states.specs.States.{IsWhole}
+use Rattle.pv_laws_states.specs.States.{IsValid}
 use Rattle.pv_laws_states.proofs.Attempts.{Leads}
 use Rattle.pv_laws_states.proofs.Outcomes.{refused-unharmed}
 use Rattle.pv_laws_states.proofs.Starts.{StartsWell, leads-start}
@@ -49,7 +49,7 @@ HasLength (Lstat path) n = (n ≡ 0) ⊎ (n ≡ 8)
 HasLength (Fstat d) n = (n ≡ 0) ⊎ (n ≡ 8)
 HasLength call n = Unit {0}
 
--- a whole buffer, or none
+-- a whole buffer, or nothing
 abbrev IsFront : Bytes → Type 0
 IsFront front = (front ≡ []) ⊎ (length front ≡ BUFFER)
 
@@ -85,7 +85,7 @@ long-answer s pid (Lstat path) taken is = lstat-takes program_of s pid path take
 long-answer s pid (Fstat d) taken is = fstat-takes program_of s pid d taken is
 long-answer s pid call taken is = tt
 
-front-whole : (s : State) (pid : ℕ) → IsWhole s → IsFront (buffer_of (process_at s pid))
+front-whole : (s : State) (pid : ℕ) → IsValid s → IsFront (buffer_of (process_at s pid))
 front-whole s pid whole = by (process_at s pid) refl
   where
     by : (o : Option Process) → process_at s pid ≡ o → IsFront (buffer_of o)
@@ -94,16 +94,16 @@ front-whole s pid whole = by (process_at s pid) refl
 
 -- ---- places
 
-module _ (s : State) (pid : ℕ) (me : Process) (whole : IsWhole s) (lives : process_at s pid ≡ Some me) where
+module _ (s : State) (pid : ℕ) (me : Process) (whole : IsValid s) (lives : process_at s pid ≡ Some me) where
   found-directory : (t : Tree) (w : Walk) (start : ℕ) → is_directory_at s.tree start ≡ true → (place : Place) → place_found (resolve s.tree w.follow start w.path) ≡ Some place
       → is_directory_at s.tree (directory_of place) ≡ true
-  found-directory t w start stands place found = by (resolve s.tree w.follow start w.path) refl found
+  found-directory t w start appears place found = by (resolve s.tree w.follow start w.path) refl found
     where
       by : (r : Result Place Errno) → resolve s.tree w.follow start w.path ≡ r → place_found r ≡ Some place → is_directory_at s.tree (directory_of place) ≡ true
       by (Err e) is none = cc none
       by (Ok there) is some =
           let same : there ≡ place = cc some in
-          resolve-directory s.tree whole.tree.well_formed w.follow start w.path place stands (is ∙ ap Ok same)
+          resolve-directory s.tree whole.tree.well_formed w.follow start w.path place appears (is ∙ ap Ok same)
 
   end-directory : (w : Walk) (place : Place) → end_begun s pid me w ≡ Some place → is_directory_at s.tree (directory_of place) ≡ true
   end-directory w place = by (check_start s pid me w.start w.path) (leads-start s pid me w.start w.path)
@@ -120,35 +120,35 @@ module _ (s : State) (pid : ℕ) (me : Process) (whole : IsWhole s) (lives : pro
       by None is = tt
       by (Some place) is = end-directory w place is
 
--- ---- what was made
+-- ---- the step
 
-module _ (s : State) (pid : ℕ) (m : MadeCall) (after : State) (before : IsWhole s) (whole : IsWhole after) (is : IsMadeCall s pid m after) where
+module _ (s : State) (pid : ℕ) (m : MadeCall) (after : State) (before : IsValid s) (whole : IsValid after) (is : IsMadeCall s pid m after) where
   refused-place : (e : Errno) (cause : Cause) → m.answer.outcome ≡ Failed e cause → IsInDirectory after.tree (place_of m.before m.answer.walks)
   refused-place e cause fails =
       let c : Call = call_of m.call in
-      let told : (answer program_of s pid c).outcome ≡ Failed e cause = ap (λ (x : Answered). x.outcome) is.answered ∙ fails in
-      let left : IsUnharmed s pid after = subst (λ (x : State). IsUnharmed s pid x) (ap (λ (x : Answered). x.after) is.answered) (refused-unharmed program_of s pid c e cause told) in
+      let reported : (answer program_of s pid c).outcome ≡ Failed e cause = ap (λ (x : Answered). x.outcome) is.answered ∙ fails in
+      let left : IsUnharmed s pid after = subst (λ (x : State). IsUnharmed s pid x) (ap (λ (x : Answered). x.after) is.answered) (refused-unharmed program_of s pid c e cause reported) in
       subst (λ (t : Tree). IsInDirectory t (place_of m.before m.answer.walks)) (sym left.tree)
       (subst (λ (o : Option Place). IsInDirectory s.tree o) (sym (is.before.place m.answer.walks)) (some-directory s pid is.me before is.lives (walk_number (walks_of c) m.answer.walks)))
 
   place-fit : (o : Outcome) → m.answer.outcome ≡ o → (unveil_words (call_of m.call) m.answer.walks o ≡ [] → ⊥) → IsInDirectory after.tree (place_of m.before m.answer.walks)
   place-fit (Failed e cause) fails some = refused-place e cause fails
-  place-fit (Value n) told some = absurd (some refl)
-  place-fit (Text taken) told some = absurd (some refl)
-  place-fit (Killed p) told some = absurd (some refl)
-  place-fit Exited told some = absurd (some refl)
-  place-fit Blocked told some = absurd (some refl)
-  place-fit Gone told some = absurd (some refl)
+  place-fit (Value n) reported some = absurd (some refl)
+  place-fit (Text taken) reported some = absurd (some refl)
+  place-fit (Killed p) reported some = absurd (some refl)
+  place-fit Exited reported some = absurd (some refl)
+  place-fit Blocked reported some = absurd (some refl)
+  place-fit Gone reported some = absurd (some refl)
 
   pub call-fits : IsFitCall pid m after
   call-fits = record {
     place = place-fit m.answer.outcome refl;
     bytes =
         moved-fit (call_of m.call) m.answer.outcome (buffer_of (process_at after pid))
-        (λ taken told. long-answer s pid (call_of m.call) taken (ap (λ (x : Answered). x.outcome) is.answered ∙ told)) (front-whole after pid whole);
+        (λ taken reported. long-answer s pid (call_of m.call) taken (ap (λ (x : Answered). x.outcome) is.answered ∙ reported)) (front-whole after pid whole);
   }
 
-pub made-fits : (s : State) (pid : ℕ) (made : MadeStep) (after : State) → IsWhole s → IsWhole after → IsMade s pid made after → IsFit pid made after
+pub made-fits : (s : State) (pid : ℕ) (made : MadeStep) (after : State) → IsValid s → IsValid after → IsMade s pid made after → IsFit pid made after
 made-fits s pid GoneStep after before whole is = tt
 made-fits s pid (Register n) after before whole is = tt
 made-fits s pid (CallMade m) after before whole is = call-fits s pid m after before whole is

@@ -1,4 +1,4 @@
--- What a call leaves of where entries were set.
+-- The records of entry origins after a call.
 use Rattle.std.proofs.Common.{◌≡◌, ◌≢◌, ◌∙◌, ⊎_elim, ℕ, Bool, true, false, cond, ◌==◌, List, [], Option, None, Some, option_map, refl, ap, sym, subst}
 use Rattle.std.specs.Prelude.{unwrap_or}
 use Rattle.std.specs.Cmp.{unsigned_ties}
@@ -21,10 +21,10 @@ use Rattle.pv_model.specs.Step.{Stepped, step, step_by}
 use Rattle.pv_model.specs.Unveil.{target_of}
 use Rattle.pv_laws_access.specs.Growth.{IsInOrder}
 use Rattle.pv_laws_access.proofs.Ends.{step-is, step-gone}
-use Rattle.pv_explain.specs.Keeping.{IsLive, Agree, target_before, entry_at, set_now, settings_told}
+use Rattle.pv_explain.specs.Keeping.{IsLive, Agree, target_before, entry_at, set_now, reported_settings}
 use Rattle.pv_explain.proofs.Newcomers.{answered-comes, inside-comes}
 
--- ---- by the entry that was given permissions
+-- ---- by the entry whose permissions were set
 
 entry-same : (s : State) (p : Process) (place : Option Place) (after : Option Process) → table_entry s p place after ≡ entry_at (option_map (target_of s.tree) place) after
 entry-same s p None after = refl
@@ -39,17 +39,17 @@ module _ (s : State) (pid : ℕ) (p : Process) (after : State) (all : Settings) 
   abbrev given : Call → Option ℕ
   given call = entry_at (target_before s p call) (process_at after pid)
 
-  pub told-is : (call : Call) (outcome : Outcome) → settings_after s pid p after all call outcome ≡ settings_told pid p.line (process_at after pid) (given call) all call outcome
-  unfolding settings_after settings_told
-  told-is Fork (Value child) = refl
-  told-is (Unveil (Some path) permissions) (Value n) =
+  pub reported-is : (call : Call) (outcome : Outcome) → settings_after s pid p after all call outcome ≡ reported_settings pid p.line (process_at after pid) (given call) all call outcome
+  unfolding settings_after reported_settings
+  reported-is Fork (Value child) = refl
+  reported-is (Unveil (Some path) permissions) (Value n) =
       ap (λ mine. put nat_cmp pid mine all)
       (given-same s p (entry_given s p path (process_at after pid)) (settings_of all pid)
       ∙ ap (λ o. set_now p.line o (settings_of all pid)) (entry-same s p _ (process_at after pid)))
-  told-is (Execve path) (Value n) = refl
-  told-is call outcome = refl
+  reported-is (Execve path) (Value n) = refl
+  reported-is call outcome = refl
 
--- ---- what is the same of live processes stays so
+-- ---- agreement on live processes is preserved
 
 put-of : (k q : ℕ) (mine : List Setting) (all : Settings) → settings_of (put nat_cmp k mine all) q ≡ unwrap_or (cond (eq_by_cmp nat_cmp q k) (Some mine) (find nat_cmp q all)) []
 put-of k q mine all = ap (λ o. unwrap_or o []) (find-put nat_cmp nat_cmp_total q k mine all)
@@ -68,7 +68,7 @@ module _ (s : State) (pid : ℕ) (p : Process) (at : process_at s pid ≡ Some p
   own : settings_of a pid ≡ settings_of b pid
   own = same pid (p, at)
 
-  -- who is live after a call, and no child, was so before
+  -- a process that is live after a call and is not a new child was live before
   was : (call : Call) (q : ℕ) → IsLive (answer program_of s pid call).after q → ((call ≡ Fork) → ((answer program_of s pid call).outcome ≡ Value q) → settings_of a q ≡ settings_of b q)
       → settings_of a q ≡ settings_of b q
   was call q lives born = ⊎_elim (λ before. same q before) (λ is. born is.0 is.1) (answered-comes program_of s pid order call q lives)
@@ -77,16 +77,16 @@ module _ (s : State) (pid : ℕ) (p : Process) (at : process_at s pid ≡ Some p
       → settings_of (settings_after s pid p (answer program_of s pid call).after a call o) q ≡ settings_of (settings_after s pid p (answer program_of s pid call).after b call o) q
   unfolding settings_after
   after-call Fork (Value child) is q lives =
-      put-same child q (settings_of a pid) (settings_of b pid) a b own (λ other. was Fork q lives (λ fork told. let both : Value child ≡ Value q = sym is ∙ told in let eq : child ≡ q = cc both in absurd (other (sym eq))))
+      put-same child q (settings_of a pid) (settings_of b pid) a b own (λ other. was Fork q lives (λ fork reported. let both : Value child ≡ Value q = sym is ∙ reported in let eq : child ≡ q = cc both in absurd (other (sym eq))))
   after-call (Unveil (Some path) permissions) (Value n) is q lives =
       put-same pid q _ _ a b
       (ap (after_unveil s p (entry_given s p path (process_at (answer program_of s pid (Unveil (Some path) permissions)).after pid))) own)
-      (λ other. was (Unveil (Some path) permissions) q lives (λ fork told. cc fork))
+      (λ other. was (Unveil (Some path) permissions) q lives (λ fork reported. cc fork))
   after-call (Execve path) (Value n) is q lives =
-      put-same pid q _ _ a b (ap (after_execve (process_at (answer program_of s pid (Execve path)).after pid)) own) (λ other. was (Execve path) q lives (λ fork told. cc fork))
-  after-call call o is q lives = was call q lives (λ fork told. cc)
+      put-same pid q _ _ a b (ap (after_execve (process_at (answer program_of s pid (Execve path)).after pid)) own) (λ other. was (Execve path) q lives (λ fork reported. cc fork))
+  after-call call o is q lives = was call q lives (λ fork reported. cc)
 
--- ---- by what comes next
+-- ---- by the next instruction
 
 module _ (s : State) (pid : ℕ) (all : Settings) where
   pub next-gone : process_at s pid ≡ None → settings_next program_of s pid all ≡ all

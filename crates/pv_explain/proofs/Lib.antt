@@ -1,15 +1,16 @@
--- Lemmas of explained steps.
--- - Kept (what is kept of processes: found, put, and how many), Newcomers (who is live after a step), Following (what a call leaves of
---   where entries were set)
--- - Unveiled (what an unveil is for), Sizes (how many bytes a call gives), Fit (what was made can be told), MadeLines (its lines are the
---   definition's)
--- - Climbing (the lines of levels, one by one), Steps (those of several steps)
+-- Lemmas about explained steps.
+-- - ProcessOrigins (the records of processes: lookup, update, and number), Newcomers (the processes that are live after
+--   a step), Following (the records after a call)
+-- - Unveiled (the target of an unveil), Sizes (the number of bytes of a call), Fit (the data of a step can be written),
+--   MadeLines (its lines are those of the definitions)
+-- - Asked (pledge), Sources (origins in words), Remarks, MovedLines and StatusBytes (parts of lines), CallLines (the
+--   bytes of a call's lines), Climbing (the lines of levels, one at a time), Made (one step), Steps (several steps)
 pub mod Asked
 pub mod CallLines
 pub mod Climbing
 pub mod Fit
 pub mod Following
-pub mod Kept
+pub mod ProcessOrigins
 pub mod Made
 pub mod MadeLines
 pub mod MovedLines

@@ -1,9 +1,9 @@
--- A step that was made, as the definition has it: its number and line, and what it leaves of where entries were set.
+-- A step, as in the definitions: its number and line, and the records after it.
 use Rattle.std.proofs.Common.{◌≡◌, ◌∙◌, ℕ, List, ◌++◌, Some, ap, sym, subst}
 use Rattle.std.specs.Prelude.{codes}
 use Rattle.std.specs.Fmt.{decimal}
 use Rattle.pv_model.specs.Answer.{Answered}
-use Rattle.pv_model.specs.Answers.Explain.{settings_next, standing_at, step_line}
+use Rattle.pv_model.specs.Answers.Explain.{settings_next, location_at, step_line}
 use Rattle.pv_model.specs.Answers.Lines.{AnswerLine, answer_line, answer_bytes, answer_line_bytes}
 use Rattle.pv_model.specs.Answers.Settings.{Setting, Settings, settings_of, settings_after}
 use Rattle.pv_model.specs.Bytes.{Bytes}
@@ -11,30 +11,30 @@ use Rattle.pv_model.specs.CallRef.{call_of}
 use Rattle.pv_model.specs.Grammar.Programs.{program_of}
 use Rattle.pv_model.specs.State.{State, process_at}
 use Rattle.pv_model.specs.Step.{Stepped, step, step_by}
-use Rattle.pv_laws_states.specs.States.{IsWhole}
+use Rattle.pv_laws_states.specs.States.{IsValid}
 use Rattle.pv_laws_states.proofs.BySteps.{step-keeps_whole}
 use Rattle.pv_laws_access.proofs.Ends.{step-is, step-gone}
-use Rattle.pv_laws_runs.proofs.Ranges.{program_of-spells}
+use Rattle.pv_laws_runs.proofs.Ranges.{program_of-encodes}
 use Rattle.pv_explain.specs.declared.making.MadeCall.{MadeCall}
 use Rattle.pv_explain.specs.declared.making.MadeStep.{MadeStep}
 use Rattle.pv_explain.specs.declared.making.MadeStep.TheVariants.{Gone, Register, Call as CallMade}
-use Rattle.pv_explain.specs.Keeping.{entry_at, settings_told}
+use Rattle.pv_explain.specs.Keeping.{entry_at, reported_settings}
 use Rattle.pv_explain.specs.Made.{IsMadeCall, IsMade, line_of, made_lines, settings_made}
-use Rattle.pv_explain.specs.Parts.{standing_text, step_text}
+use Rattle.pv_explain.specs.Parts.{location_text, step_text}
 use Rattle.pv_explain.specs.Steps.{step_lines}
-use Rattle.pv_explain.proofs.Following.{told-is, next-gone, next-inside, next-called}
+use Rattle.pv_explain.proofs.Following.{reported-is, next-gone, next-inside, next-called}
 use Rattle.pv_explain.proofs.MadeLines.{made-is}
 
-stood : (s : State) (pid : ℕ) (made : MadeStep) (after : State) → IsMade s pid made after → standing_text (line_of made) ≡ standing_at program_of (process_at s pid)
-stood s pid Gone after is = sym (ap (standing_at program_of) is.0)
-stood s pid (Register n) after is = ap (λ k. standing_text (Some k)) is.stood ∙ sym (ap (standing_at program_of) is.lives)
-stood s pid (CallMade m) after is = ap (λ k. standing_text (Some k)) is.before.line ∙ sym (ap (standing_at program_of) is.lives)
+appeared : (s : State) (pid : ℕ) (made : MadeStep) (after : State) → IsMade s pid made after → location_text (line_of made) ≡ location_at program_of (process_at s pid)
+appeared s pid Gone after is = sym (ap (location_at program_of) is.0)
+appeared s pid (Register n) after is = ap (λ k. location_text (Some k)) is.appeared ∙ sym (ap (location_at program_of) is.lives)
+appeared s pid (CallMade m) after is = ap (λ k. location_text (Some k)) is.before.line ∙ sym (ap (location_at program_of) is.lives)
 
 module _ (s : State) (pid : ℕ) (made : MadeStep) (after : State) (is : IsMade s pid made after) where
   line-is : (k : ℕ) → answer_line pid (codes "STEP") (step_text k (line_of made)) ≡ step_line program_of k s pid
-  line-is k = ap (λ (bs : Bytes). answer_line pid (codes "STEP") (decimal k ++ bs)) (stood s pid made after is)
+  line-is k = ap (λ (bs : Bytes). answer_line pid (codes "STEP") (decimal k ++ bs)) (appeared s pid made after is)
 
-  -- its line, and then its lines
+  -- the STEP line, and then the lines of the step
   pub step-text : (k : ℕ) (all : Settings) (mine : List Setting) → mine ≡ settings_of all pid
       → answer_line_bytes (answer_line pid (codes "STEP") (step_text k (line_of made))) ++ answer_bytes (made_lines pid mine made after) ≡ answer_bytes (step_lines k all s pid)
   step-text k all mine same =
@@ -48,17 +48,17 @@ left-by s pid (Register n) after is = is.left ∙ sym (ap (λ (w : Stepped). w.a
 left-by s pid (CallMade m) after is =
     sym (ap (λ (w : Stepped). w.after) (step-is program_of s pid is.me is.lives ∙ ap (step_by program_of s pid is.me) is.comes) ∙ ap (λ (a : Answered). a.after) is.answered)
 
--- what a call leaves is whole
-pub whole-made : (s : State) (pid : ℕ) (m : MadeCall) (after : State) → IsWhole s → IsMadeCall s pid m after → IsWhole after
-whole-made s pid m after whole is = subst IsWhole (sym (left-by s pid (CallMade m) after is)) (step-keeps_whole program_of program_of-spells s pid whole)
+-- the state after a call is valid
+pub whole-made : (s : State) (pid : ℕ) (m : MadeCall) (after : State) → IsValid s → IsMadeCall s pid m after → IsValid after
+whole-made s pid m after whole is = subst IsValid (sym (left-by s pid (CallMade m) after is)) (step-keeps_whole program_of program_of-encodes s pid whole)
 
--- what a step leaves of where entries were set
+-- the records after a step
 pub settings-made : (s : State) (pid : ℕ) (made : MadeStep) (after : State) (all : Settings) → IsMade s pid made after → settings_made pid made after all ≡ settings_next program_of s pid all
 settings-made s pid Gone after all is = sym (next-gone s pid all is.0)
 settings-made s pid (Register n) after all is = sym (next-inside s pid all is.me is.then_is is.lives is.comes)
 settings-made s pid (CallMade m) after all is =
-    ap (λ n. settings_told pid n (process_at after pid) (entry_at m.before.target (process_at after pid)) all (call_of m.call) m.answer.outcome) is.before.line
-    ∙ ap (λ target. settings_told pid is.me.line (process_at after pid) (entry_at target (process_at after pid)) all (call_of m.call) m.answer.outcome) is.before.target
-    ∙ sym (told-is s pid is.me after all (call_of m.call) m.answer.outcome)
+    ap (λ n. reported_settings pid n (process_at after pid) (entry_at m.before.target (process_at after pid)) all (call_of m.call) m.answer.outcome) is.before.line
+    ∙ ap (λ target. reported_settings pid is.me.line (process_at after pid) (entry_at target (process_at after pid)) all (call_of m.call) m.answer.outcome) is.before.target
+    ∙ sym (reported-is s pid is.me after all (call_of m.call) m.answer.outcome)
     ∙ sym (ap (λ (a : Answered). settings_after s pid is.me a.after all (call_of m.call) a.outcome) is.answered)
     ∙ sym (next-called s pid all is.me (call_of m.call) is.lives is.comes)

@@ -1,4 +1,4 @@
--- The lines of a step that was made are the definition's.
+-- The lines of a step are those of the definitions.
 use Rattle.std.proofs.Common.{◌≡◌, ◌≤◌, ◌∙◌, ℕ, List, [], ◌∷◌, ◌++◌, map, take, Option, None, Some, option_map, refl, ap, ap₂, sym, subst, arith}
 use Rattle.std.specs.Prelude.{flat_map, codes}
 use Rattle.std.proofs.lemmas.Grind.{flat_map-append}
@@ -27,7 +27,7 @@ use Rattle.pv_model.specs.Effect.{descriptor_at, open_file_of}
 use Rattle.pv_model.specs.Grammar.Programs.{program_of}
 use Rattle.pv_model.specs.Numbered.{at_number}
 use Rattle.pv_model.specs.State.{Descriptor, OpenFile, Process, State, process_at}
-use Rattle.pv_model.specs.Trace.{Line, line, Word, call_word, nami_word, pldg_word, unvl_word, gio_word, for_kill, for_refusal, for_increase, UnveilVerdict, no_entry, entry_lacks, table_locked, Way, promise_words, unveil_words, end_words, asked_permissions, buffer_of, call_lines, gone_lines}
+use Rattle.pv_model.specs.Trace.{Line, line, Word, call_word, nami_word, pldg_word, unvl_word, gio_word, for_kill, for_refusal, for_increase, UnveilVerdict, no_entry, entry_lacks, table_locked, Direction, promise_words, unveil_words, end_words, asked_permissions, buffer_of, call_lines, gone_lines}
 use Rattle.pv_model.specs.Tree.{Tree}
 use Rattle.pv_model.specs.Unveil.{Table}
 use Rattle.pv_model.specs.Walks.{Walk, walk_number, walks_of}
@@ -56,7 +56,7 @@ flat-map : {X Y Z : Type 0} (f : Y → List Z) (g : X → Y) (xs : List X) → f
 flat-map f g [] = refl
 flat-map f g (x ∷ xs) = ap (λ ys. f (g x) ++ ys) (flat-map f g xs)
 
--- ---- what is said of a table
+-- ---- the lines of a table
 
 module _ (s : State) (p : Process) (mine : List Setting) where
   abbrev table : Table
@@ -110,7 +110,7 @@ module _ (s : State) (p : Process) (mine : List Setting) where
     reasons-same after call (Failed e Locked) = ap (λ (ls : List AnswerLine). (of_trace (line pid (unvl_word table_locked)) ∷ ls) ++ []) (locked-same call)
     reasons-same after call o = refl
 
--- ---- a call's lines, part by part
+-- ---- the lines of a call, part by part
 
 module _ (s : State) (pid : ℕ) (me : Process) (mine : List Setting) (call : Call) (a : Answered) where
   abbrev said : Line → List AnswerLine
@@ -165,12 +165,12 @@ module _ (s : State) (pid : ℕ) (me : Process) (mine : List Setting) (call : Ca
   text-same (Write d n) bytes = ap (λ (bs : Bytes). Rattle.pv_model.specs.Trace.quote bytes ++ bs) (node-same (descriptor_at me d))
   text-same c bytes = refl
 
-  gio-same : (way : Way) (bytes : Bytes) → said (line pid (gio_word way bytes)) ≡ moved_part pid a.after (file_number me call) call (gio_word way bytes)
-  gio-same way [] = refl
-  gio-same way (b ∷ bs) = ap (λ (t : Bytes). of_trace (line pid (gio_word way (b ∷ bs))) ∷ answer_line pid (codes "TEXT") t ∷ []) (text-same call (b ∷ bs))
+  gio-same : (direction : Direction) (bytes : Bytes) → said (line pid (gio_word direction bytes)) ≡ moved_part pid a.after (file_number me call) call (gio_word direction bytes)
+  gio-same direction [] = refl
+  gio-same direction (b ∷ bs) = ap (λ (t : Bytes). of_trace (line pid (gio_word direction (b ∷ bs))) ∷ answer_line pid (codes "TEXT") t ∷ []) (text-same call (b ∷ bs))
 
-  one-moved : (way : Way) (bytes : Bytes) → flat_map said (map (line pid) (gio_word way bytes ∷ [])) ≡ flat_map (moved_part pid a.after (file_number me call) call) (gio_word way bytes ∷ [])
-  one-moved way bytes = ap (λ (ls : List AnswerLine). ls ++ []) (gio-same way bytes)
+  one-moved : (direction : Direction) (bytes : Bytes) → flat_map said (map (line pid) (gio_word direction bytes ∷ [])) ≡ flat_map (moved_part pid a.after (file_number me call) call) (gio_word direction bytes ∷ [])
+  one-moved direction bytes = ap (λ (ls : List AnswerLine). ls ++ []) (gio-same direction bytes)
 
 module _ (s : State) (pid : ℕ) (me : Process) (mine : List Setting) (a : Answered) where
   pub moved-same : (call : Call) (front : Bytes) (o : Outcome) → flat_map (said s pid me mine call a) (moved_lines_of pid front call o)
@@ -179,7 +179,7 @@ module _ (s : State) (pid : ℕ) (me : Process) (mine : List Setting) (a : Answe
   moved-same (Write d n) front (Value count) = one-moved s pid me mine (Write d n) a Rattle.pv_model.specs.Trace.took (take count front)
   moved-same call front o = refl
 
--- ---- a call that was made
+-- ---- a call
 
 module _ (s : State) (pid : ℕ) (mine : List Setting) (m : MadeCall) (after : State) (is : IsMadeCall s pid m after) where
   abbrev c : Call
@@ -203,12 +203,12 @@ module _ (s : State) (pid : ℕ) (mine : List Setting) (m : MadeCall) (after : S
           let few : m.answer.walks ≤ (answer program_of s pid c).walks = omega (arith, ap (λ (x : Answered). x.walks) is.answered) in
           begun-ends program_of s pid me is.lives c m.answer.walks w found few
 
-  -- a refusal leaves the tree and the table
+  -- a refusal leaves the tree and the table unchanged
   refused-same : (e : Errno) (cause : Cause) → m.answer.outcome ≡ Failed e cause
       → table_lines pid mine m after ≡ flat_map (table_part s.tree (entries_of_table me.table) mine pid c (place_of m.before m.answer.walks)) (unveil_words c m.answer.walks m.answer.outcome)
   refused-same e cause fails =
-      let told : (answer program_of s pid c).outcome ≡ Failed e cause = ap (λ (x : Answered). x.outcome) is.answered ∙ fails in
-      let left : IsUnharmed s pid after = subst (λ (x : State). IsUnharmed s pid x) (ap (λ (x : Answered). x.after) is.answered) (refused-unharmed program_of s pid c e cause told) in
+      let reported : (answer program_of s pid c).outcome ≡ Failed e cause = ap (λ (x : Answered). x.outcome) is.answered ∙ fails in
+      let left : IsUnharmed s pid after = subst (λ (x : State). IsUnharmed s pid x) (ap (λ (x : Answered). x.after) is.answered) (refused-unharmed program_of s pid c e cause reported) in
       let stays = left.caller me is.lives in
       let words : List Word = unveil_words c m.answer.walks m.answer.outcome in
       let o : Option Place = place_of m.before m.answer.walks in
@@ -226,12 +226,12 @@ module _ (s : State) (pid : ℕ) (mine : List Setting) (m : MadeCall) (after : S
   left-same : (o : Outcome) → m.answer.outcome ≡ o
       → table_lines pid mine m after ≡ flat_map (table_part s.tree (entries_of_table me.table) mine pid c (place_of m.before m.answer.walks)) (unveil_words c m.answer.walks m.answer.outcome)
   left-same (Failed e cause) fails = refused-same e cause fails
-  left-same (Value n) told = none-same (ap (unveil_words c m.answer.walks) told)
-  left-same (Text taken) told = none-same (ap (unveil_words c m.answer.walks) told)
-  left-same (Killed p) told = none-same (ap (unveil_words c m.answer.walks) told)
-  left-same Exited told = none-same (ap (unveil_words c m.answer.walks) told)
-  left-same Blocked told = none-same (ap (unveil_words c m.answer.walks) told)
-  left-same Gone told = none-same (ap (unveil_words c m.answer.walks) told)
+  left-same (Value n) reported = none-same (ap (unveil_words c m.answer.walks) reported)
+  left-same (Text taken) reported = none-same (ap (unveil_words c m.answer.walks) reported)
+  left-same (Killed p) reported = none-same (ap (unveil_words c m.answer.walks) reported)
+  left-same Exited reported = none-same (ap (unveil_words c m.answer.walks) reported)
+  left-same Blocked reported = none-same (ap (unveil_words c m.answer.walks) reported)
+  left-same Gone reported = none-same (ap (unveil_words c m.answer.walks) reported)
 
   table-same : flat_map says (unveil_lines_of pid c m.answer.walks m.answer.outcome) ≡ table_lines pid mine m after
   table-same =
@@ -268,7 +268,7 @@ module _ (s : State) (pid : ℕ) (mine : List Setting) (m : MadeCall) (after : S
       ∙ sym (ap (explained_of program_of (source_of mine) s pid) is.lives ∙ ap (explained_next program_of (source_of mine) s pid me) is.comes
       ∙ ap (explained_call s pid me (source_of mine) c) is.answered)
 
--- the lines of a step that was made are the definition's
+-- the lines of a step are those of the definitions
 pub made-is : (s : State) (pid : ℕ) (mine : List Setting) (made : MadeStep) (after : State) → IsMade s pid made after → made_lines pid mine made after ≡ explained_step program_of (source_of mine) s pid
 unfolding explained_step
 made-is s pid mine GoneStep after is = sym (ap (explained_of program_of (source_of mine) s pid) is.0)

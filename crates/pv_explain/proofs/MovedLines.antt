@@ -5,25 +5,25 @@ use Rattle.pv_model.specs.declared.call.Call.{Call}
 use Rattle.pv_model.specs.Answers.Lines.{AnswerLine, answer_line, of_trace}
 use Rattle.pv_model.specs.Bytes.{Bytes}
 use Rattle.pv_model.specs.State.{State}
-use Rattle.pv_model.specs.Trace.{Way, gio_word, line}
+use Rattle.pv_model.specs.Trace.{Direction, gio_word, line}
 use Rattle.pv_explain.specs.Parts.{moved_by_call, moved_part}
 
-module _ (pid : ℕ) (after : State) (file : Option ℕ) (call : Call) (way : Way) where
-  abbrev told : Bytes → AnswerLine
-  told bytes = of_trace (line pid (gio_word way bytes))
+module _ (pid : ℕ) (after : State) (file : Option ℕ) (call : Call) (direction : Direction) where
+  abbrev reported : Bytes → AnswerLine
+  reported bytes = of_trace (line pid (gio_word direction bytes))
 
-  pub moved-none : (bytes : Bytes) → true ≡ (length bytes == 0) → moved_part pid after file call (gio_word way bytes) ≡ told bytes ∷ []
+  pub moved-none : (bytes : Bytes) → true ≡ (length bytes == 0) → moved_part pid after file call (gio_word direction bytes) ≡ reported bytes ∷ []
   moved-none [] is = refl
   moved-none (b ∷ bs) is =
       let zero : suc (length bs) ≡ 0 = eqb-true (suc (length bs)) 0 (sym is) in
       let none : ⊥ = omega (arith, zero) in
       absurd none
 
-  pub moved-some : (bytes : Bytes) → false ≡ (length bytes == 0) → moved_part pid after file call (gio_word way bytes) ≡ told bytes ∷ answer_line pid (codes "TEXT") (moved_by_call after file call bytes) ∷ []
+  pub moved-some : (bytes : Bytes) → false ≡ (length bytes == 0) → moved_part pid after file call (gio_word direction bytes) ≡ reported bytes ∷ answer_line pid (codes "TEXT") (moved_by_call after file call bytes) ∷ []
   moved-some [] is = absurd (false≢true is)
   moved-some (b ∷ bs) is = refl
 
-  -- the line comes first
-  pub moved-first : (bytes : Bytes) → (rest : List AnswerLine) × (moved_part pid after file call (gio_word way bytes) ≡ told bytes ∷ rest)
+  -- the GIO line comes first
+  pub moved-first : (bytes : Bytes) → (rest : List AnswerLine) × (moved_part pid after file call (gio_word direction bytes) ≡ reported bytes ∷ rest)
   moved-first [] = ([], refl)
   moved-first (b ∷ bs) = (answer_line pid (codes "TEXT") (moved_by_call after file call (b ∷ bs)) ∷ [], refl)

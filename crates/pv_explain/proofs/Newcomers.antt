@@ -1,4 +1,4 @@
--- Who is live after a step was live before it, or is the child of a fork.
+-- A process that is live after a step was live before it, or is the child of a fork.
 use Rattle.std.proofs.Common.{◌≡◌, ◌⊎◌, inl, inr, ℕ, suc, true, pos, negsuc, Option, None, Some, refl, ap, sym, subst, ◌∙◌, ⊎_elim}
 use Rattle.std.specs.FinMap.Entries.{find, where_key, is_sorted}
 use Rattle.std.specs.Ordering.{nat_cmp}
@@ -15,7 +15,7 @@ use Rattle.pv_model.specs.Bytes.{Bytes}
 use Rattle.pv_model.specs.Calls.Processes.{with_program, with_result, child, end_process}
 use Rattle.pv_model.specs.Effect.{Effect, Reply, returns, returns_bytes, ends, waits}
 use Rattle.pv_model.specs.Errno.{errno_number}
-use Rattle.pv_model.specs.Held.{trim}
+use Rattle.pv_model.specs.Held.{collect}
 use Rattle.pv_model.specs.State.{Program, Process, live, ended_record, State, process_at, with_process}
 use Rattle.pv_laws_states.proofs.Attempts.{Leads}
 use Rattle.pv_laws_states.proofs.Ending.{adopted, mapped, map-adopt, sorted-mapped, found-filtered, found-mapped, live-adopted}
@@ -26,7 +26,7 @@ use Rattle.pv_laws_states.proofs.Whole.{sorted-put_number}
 use Rattle.pv_laws_access.specs.Growth.{IsInOrder}
 use Rattle.pv_laws_access.proofs.HasEffect.{HasEffect, stays, restrains, begins, closes, copies, forks, reaps, moves, cuts, writes_bytes, makes, links, unlinks, renames, opens, creates, Did}
 use Rattle.pv_laws_access.proofs.EffectByCall.{does-effect}
-use Rattle.pv_laws_access.proofs.Ends.{process_at-trim, in_order-call, ended-not_live, put_away, heir, claimed}
+use Rattle.pv_laws_access.proofs.Ends.{process_at-collect, in_order-call, ended-not_live, put_away, heir, claimed}
 use Rattle.pv_explain.specs.Keeping.{IsLive}
 
 -- ---- one process put into a state
@@ -44,8 +44,8 @@ update-lives s pid k f = by (process_at s pid) refl
     by None none lives = lives
     by (Some p) at lives = put-lives s pid k (f p) (p, at) lives
 
-trim-lives : (s : State) (k : ℕ) → IsLive (trim s) k → IsLive s k
-trim-lives s k lives = (lives.0, sym (process_at-trim s k) ∙ lives.1)
+collect-lives : (s : State) (k : ℕ) → IsLive (collect s) k → IsLive s k
+collect-lives s k lives = (lives.0, sym (process_at-collect s k) ∙ lives.1)
 
 -- ---- the end of a process
 
@@ -56,18 +56,18 @@ module _ (s : State) (pid : ℕ) (me : Process) (status : ℕ) (ascending : is_s
       let found = subst (λ es. find nat_cmp k (Rattle.std.specs.Prelude.filter (claimed s pid me status) es) ≡ Some (live lives.0)) (map-adopt pid (heir s pid me status) (put_away s pid me status)) (live-found (end_process s pid me status) k lives.0 lives.1) in
       let in_order : is_sorted nat_cmp (mapped (adopted pid (heir s pid me status)) (put_away s pid me status)) ≡ true =
       sorted-mapped (adopted pid (heir s pid me status)) (put_away s pid me status) ∙ sorted-put_number pid (ended_record me.parent status) s.processes ascending in
-      let kept = found-filtered (claimed s pid me status) (mapped (adopted pid (heir s pid me status)) (put_away s pid me status)) in_order k (live lives.0) found in
-      let was = found-mapped (adopted pid (heir s pid me status)) k (put_away s pid me status) (live lives.0) kept.0 in
+      let preserved = found-filtered (claimed s pid me status) (mapped (adopted pid (heir s pid me status)) (put_away s pid me status)) in_order k (live lives.0) found in
+      let was = found-mapped (adopted pid (heir s pid me status)) k (put_away s pid me status) (live lives.0) preserved.0 in
       let old = live-adopted pid (heir s pid me status) was.0 lives.0 was.2 in
       ⊎_elim
       (λ same. absurd (ended-not_live s pid me status ascending lives.0 (subst (λ (n : ℕ). process_at (end_process s pid me status) n ≡ Some lives.0) same lives.1)))
       (λ other. (old.0, found-live s k old.0 (sym (find-put_other k pid (ended_record me.parent status) s.processes other) ∙ was.1 ∙ ap Some old.1)))
       (cases_eq k pid)
 
--- ---- what a call leaves
+-- ---- the state after a call
 
 module _ (s : State) (pid : ℕ) (me : Process) (call : Call) (order : IsInOrder s) (at : process_at s pid ≡ Some me) where
-  -- live before, or a child of this call
+  -- the process was live before, or is a child of this call
   abbrev Came : ℕ → Reply → Type 0
   Came k r = IsLive s k ⊎ ((call ≡ Fork) × (r ≡ returns k))
 
@@ -126,27 +126,27 @@ module _ (program_of : Bytes → Option Program) (s : State) (pid : ℕ) (order 
     back : (k : ℕ) → IsLive x k → IsLive s k
     back k lives = put-lives s pid k now (me, at) lives
 
-    told : (after : State) (r : Reply) (f : Process → Process) (o : Outcome) → HasEffect x pid now call after r → ((n : ℕ) → r ≡ returns n → o ≡ Value n) → (k : ℕ)
-        → IsLive (trim (update after pid f)) k → IsLive s k ⊎ ((call ≡ Fork) × (o ≡ Value k))
-    told after r f o does value k lives =
+    reported : (after : State) (r : Reply) (f : Process → Process) (o : Outcome) → HasEffect x pid now call after r → ((n : ℕ) → r ≡ returns n → o ≡ Value n) → (k : ℕ)
+        → IsLive (collect (update after pid f)) k → IsLive s k ⊎ ((call ≡ Fork) × (o ≡ Value k))
+    reported after r f o does value k lives =
         ⊎_elim (λ was. inl (back k was)) (λ is. inr (is.0, value k is.1))
-        (came x pid now call x_order x_at k after r does (update-lives after pid k f (trim-lives (update after pid f) k lives)))
+        (came x pid now call x_order x_at k after r does (update-lives after pid k f (collect-lives (update after pid f) k lives)))
 
     attempted : (a : Attempt Effect) → Leads (Did x pid now call) a → (k : ℕ) → Comes k (answer_by_attempt s x pid now a)
     attempted (done walks (after, returns n)) does k lives =
-        told after (returns n) (λ p. with_result p (pos n) 0) (Value n) does (λ m is. let same : n ≡ m = cc is in ap Value same) k lives
+        reported after (returns n) (λ p. with_result p (pos n) 0) (Value n) does (λ m is. let same : n ≡ m = cc is in ap Value same) k lives
     attempted (done walks (after, returns_bytes n bytes)) does k lives =
         inl (⊎_elim (λ was. was) (λ is. cc is.1)
         (⊎_elim {C = IsLive s k ⊎ ((call ≡ Fork) × (returns_bytes n bytes ≡ returns k))} (λ was. inl (back k was)) (λ is. inr is)
         (came x pid now call x_order x_at k after (returns_bytes n bytes) does
-        (update-lives after pid k (λ p. with_front bytes (with_result p (pos n) 0)) (trim-lives (update after pid (λ p. with_front bytes (with_result p (pos n) 0))) k lives)))))
+        (update-lives after pid k (λ p. with_front bytes (with_result p (pos n) 0)) (collect-lives (update after pid (λ p. with_front bytes (with_result p (pos n) 0))) k lives)))))
     attempted (done walks (after, ends status)) does k lives = inl (back k (ended k lives))
       where
         same : after ≡ x
         same = Rattle.pv_laws_access.proofs.HasEffect.ends-stays x pid now call after (ends status) status does refl
 
-        ended : (k : ℕ) → IsLive (trim (end_process after pid now status)) k → IsLive x k
-        ended k lives = ended-lives x pid now status x_order.ascending k (subst (λ (y : State). IsLive (end_process y pid now status) k) same (trim-lives (end_process after pid now status) k lives))
+        ended : (k : ℕ) → IsLive (collect (end_process after pid now status)) k → IsLive x k
+        ended k lives = ended-lives x pid now status x_order.ascending k (subst (λ (y : State). IsLive (end_process y pid now status) k) same (collect-lives (end_process after pid now status) k lives))
     attempted (done walks (after, waits)) does k lives = inl lives
     attempted (refused walks errno cause) does k lives = inl (back k (update-lives x pid k (λ p. with_result p (negsuc 0) (errno_number errno)) lives))
 
@@ -156,7 +156,7 @@ module _ (program_of : Bytes → Option Program) (s : State) (pid : ℕ) (order 
       (λ none lives. inl lives)
       (λ me at missing. attempted me at (effect program_of (at_call s pid me) pid (at_next_line me) call) (does-effect program_of (at_call s pid me) pid (at_next_line me) call) k)
       (λ me lacks at missing lenient. attempted me at (refused 0 ENOSYS (ByPromise lacks)) tt k)
-      (λ me lacks at missing lenient lives. inl (ended-lives s pid (at_next_line me) 6 order.ascending k (trim-lives (end_process s pid (at_next_line me) 6) k lives)))
+      (λ me lacks at missing lenient lives. inl (ended-lives s pid (at_next_line me) 6 order.ascending k (collect-lives (end_process s pid (at_next_line me) 6) k lives)))
 
 -- ---- steps inside a process
 

@@ -1,4 +1,4 @@
--- How many bytes a call gives, where what they say is of one size.
+-- The number of bytes that a call gives, if their meaning has a fixed size.
 use Rattle.std.proofs.Common.{◌≡◌, ◌⊎◌, inl, inr, ℕ, ℤ, List, [], ◌∷◌, length, Option, None, Some, refl, ap, subst}
 use Rattle.pv_model.specs.declared.call.Call.{Call}
 use Rattle.pv_model.specs.declared.call.Call.TheVariants.{Wait, Fstat, Stat, Lstat}
@@ -22,7 +22,7 @@ use Rattle.pv_laws_states.proofs.Attempts.{Leads, leads-demand, leads-place, lea
 use Rattle.pv_laws_states.proofs.Outcomes.{at_call, by_answer}
 use Rattle.pv_laws_states.proofs.Rests
 
--- a reply that has bytes has as many as this says
+-- the number of bytes of a reply satisfies the predicate
 abbrev Gives : (ℕ → Type 0) → Effect → Type 0
 Gives P (after, returns n) = Unit {0}
 Gives P (after, returns_bytes n bytes) = P (length bytes)
@@ -32,7 +32,7 @@ Gives P (after, waits) = Unit {0}
 abbrev Takes : (ℕ → Type 0) → Answered → Type 0
 Takes P a = (taken : Taken) → a.outcome ≡ Text taken → P taken.len
 
--- none, or eight
+-- no bytes, or eight
 abbrev IsStatus : ℕ → Type 0
 IsStatus n = (n ≡ 0) ⊎ (n ≡ 8)
 
@@ -64,7 +64,7 @@ taken-by P s t pid me (done walks (after, ends status)) gives taken is = cc is
 taken-by P s t pid me (done walks (after, waits)) gives taken is = cc is
 taken-by P s t pid me (refused walks errno cause) gives taken is = cc is
 
--- what a call has to do, whatever its process is
+-- a fact about a call that holds for every process
 takes-by : (P : ℕ → Type 0) (program_of : Bytes → Option Program) (s : State) (pid : ℕ) (call : Call)
     → ((x : State) (me : Process) → Leads (Gives P) (effect program_of x pid me call)) → Takes P (answer program_of s pid call)
 takes-by P program_of s pid call gives =

@@ -1,4 +1,4 @@
--- Where an entry was set, in words.
+-- The origin of an entry, in words.
 use Rattle.std.proofs.Common.{◌≡◌, ◌∙◌, ap, ap₂, sym, ℕ, Bool, true, false, nat_lt, List, [], ◌++◌, length, get_or, codes, Option, None, Some, option_map}
 use Rattle.std.specs.Prelude.{slice_get}
 use Rattle.std.specs.Fmt.{decimal}

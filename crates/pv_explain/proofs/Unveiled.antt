@@ -1,4 +1,4 @@
--- What an unveil of a path is for, by where its walk ends.
+-- The unveil target of a path, from the end of its walk.
 use Rattle.std.proofs.Common.{◌≡◌, ◌∙◌, ℕ, Option, Some, option_map, ap, sym}
 use Rattle.pv_model.specs.declared.place.Place.{Place}
 use Rattle.pv_model.specs.Bytes.{Bytes}

@@ -1,4 +1,4 @@
--- What places and values are judged by, as the definitions have it.
+-- The context in which places and values are checked, as in the definitions.
 use Rattle.std.specs.Prelude.{ℕ, List, map, Option, option_map}
 use Rattle.pv_model.specs.declared.perms.Perms.{Perms}
 use Rattle.pv_model.specs.declared.target.Target.TheVariants.{Directory, Name}
@@ -21,7 +21,7 @@ table_of b = entries_of_table b.table.now.table
 abbrev pub set_of : Basis → List Setting
 set_of b = settings_in b.origins.now
 
--- the level of a directory, and that of a name
+-- the levels of a directory and of a name
 abbrev pub directory_level : ℕ → Option ℕ → Level
 directory_level d entry = record { target = Directory d; entry = entry }
 
@@ -35,6 +35,6 @@ level_line b asked l = why b.pid (level_text_by b.tree.now.tree (table_of b) (se
 abbrev pub lines_of : Basis → Perms → List Level → List AnswerLine
 lines_of b asked ls = map (level_line b asked) ls
 
--- two values that are asked for
+-- the two requested values
 abbrev pub sets_of : Option (Option Set × Option Set) → Option (Option Promises × Option Promises)
 sets_of asked = option_map (λ pair. (bits_of pair.0, bits_of pair.1)) asked

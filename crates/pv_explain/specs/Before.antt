@@ -1,4 +1,4 @@
--- What is told of the state before a call, and goes with it.
+-- The part of the state before a call that its explanation needs.
 use Rattle.std.specs.Prelude.{◌≡◌, ℕ, zero, suc, Option, None}
 use Rattle.pv_model.specs.declared.call.Call.{Call}
 use Rattle.pv_model.specs.declared.place.Place.{Place}
@@ -13,7 +13,7 @@ use Rattle.pv_explain.specs.declared.before.Before.{Before}
 abbrev pub pledged_of : Process → Pledged
 pledged_of p = record { promises = p.promises; execpromises = p.execpromises }
 
--- where the walk of a number ended
+-- the place at which walk `number` ended
 abbrev pub place_of : Before → ℕ → Option Place
 place_of b (suc zero) = b.first
 place_of b (suc (suc zero)) = b.second

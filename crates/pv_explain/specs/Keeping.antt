@@ -1,4 +1,4 @@
--- Where entries were set, as it is kept of the processes that are live.
+-- The origins of table entries, as recorded for live processes.
 use Rattle.std.specs.Prelude.{◌≡◌, ℕ, ◌&&◌, Bool, true, false, List, [], ◌∷◌, map, is_none, Option, None, Some, option_map}
 use Rattle.std.specs.FinMap.Entries.{find, put}
 use Rattle.std.specs.Ordering.{nat_cmp}
@@ -16,7 +16,7 @@ use Rattle.pv_model.specs.State.{Process, State, process_at}
 use Rattle.pv_model.specs.Touch.{place_found}
 use Rattle.pv_model.specs.Unveil.{entry_for, target_of}
 use Rattle.pv_model.specs.Walks.{unveil_walk}
-use Rattle.pv_explain.specs.declared.origins.Kept.{Kept}
+use Rattle.pv_explain.specs.declared.origins.ProcessOrigins.{ProcessOrigins}
 use Rattle.pv_explain.specs.declared.origins.Origin.{Origin}
 
 abbrev pub setting_of : Origin → Setting
@@ -25,18 +25,18 @@ setting_of o = record { line = o.line; earlier = o.earlier }
 abbrev pub settings_in : List Origin → List Setting
 settings_in os = map setting_of os
 
--- it is of an earlier program
+-- the origin, marked as of an earlier program
 abbrev pub aged : Origin → Origin
 aged o = record o { earlier = true }
 
-abbrev pub kept_of : Kept → ℕ × List Setting
-kept_of k = (k.pid, settings_in k.origins.items)
+abbrev pub origins_of_process : ProcessOrigins → ℕ × List Setting
+origins_of_process k = (k.pid, settings_in k.origins.items)
 
--- what is kept of all
-abbrev pub all_of : List Kept → Settings
-all_of ks = map kept_of ks
+-- all records
+abbrev pub all_of : List ProcessOrigins → Settings
+all_of ks = map origins_of_process ks
 
--- no process stands twice
+-- no process has two records
 abbrev pub is_once : Settings → Bool
 is_once [] = true
 is_once (e ∷ es) = is_none (find nat_cmp e.0 es) && is_once es
@@ -45,13 +45,13 @@ is_once (e ∷ es) = is_none (find nat_cmp e.0 es) && is_once es
 abbrev pub IsLive : State → ℕ → Type 0
 IsLive s pid = (p : Process) × (process_at s pid ≡ Some p)
 
--- of each live process the same is kept
+-- two sets of records agree on each live process
 abbrev pub Agree : State → Settings → Settings → Type 0
 Agree s all others = (pid : ℕ) → IsLive s pid → settings_of all pid ≡ settings_of others pid
 
--- ---- what a call leaves, by the entry that an unveil gave permissions
+-- ---- the records after a call, given the entry whose permissions an unveil(2) set
 
--- the path that an unveil gives
+-- the path argument of an unveil(2)
 abbrev pub path_unveiled : Call → Option Bytes
 path_unveiled (Unveil path permissions) = path
 path_unveiled call = None
@@ -60,7 +60,7 @@ abbrev pub target_at : State → Process → Option Bytes → Option Target
 target_at s p None = None
 target_at s p (Some path) = option_map (target_of s.tree) (place_found (end_of s p (unveil_walk path no_permissions)))
 
--- what an unveil of the path of a call is for
+-- the unveil target of the path of a call
 abbrev pub target_before : State → Process → Call → Option Target
 target_before s p call = target_at s p (path_unveiled call)
 
@@ -73,9 +73,9 @@ set_now line None mine = mine
 set_now line (Some k) mine = set_at mine k (record { line = line; earlier = false })
 
 module _ (pid line : ℕ) (after : Option Process) (given : Option ℕ) (all : Settings) where
-  -- where entries are set after a call of a process that stood at a line
-  unfoldable pub settings_told : Call → Outcome → Settings
-  settings_told Fork (Value child) = put nat_cmp child (settings_of all pid) all
-  settings_told (Unveil (Some path) permissions) (Value n) = put nat_cmp pid (set_now line given (settings_of all pid)) all
-  settings_told (Execve path) (Value n) = put nat_cmp pid (after_execve after (settings_of all pid)) all
-  settings_told _ _ = all
+  -- the records after a call of a process that was at a line
+  unfoldable pub reported_settings : Call → Outcome → Settings
+  reported_settings Fork (Value child) = put nat_cmp child (settings_of all pid) all
+  reported_settings (Unveil (Some path) permissions) (Value n) = put nat_cmp pid (set_now line given (settings_of all pid)) all
+  reported_settings (Execve path) (Value n) = put nat_cmp pid (after_execve after (settings_of all pid)) all
+  reported_settings _ _ = all

@@ -1,4 +1,4 @@
--- A step that was made, and its lines with what is said of them, by what is told of the states before and after it.
+-- A step that was made, and its explained lines, given the parts of the states before and after it.
 use Rattle.std.specs.Prelude.{◌≡◌, ⊤, ℕ, IsTrue, List, [], ◌∷◌, ◌++◌, map, flat_map, Option, None, Some}
 use Rattle.pv_model.specs.declared.call.Call.{Call}
 use Rattle.pv_model.specs.declared.place.Place.{Place}
@@ -18,11 +18,11 @@ use Rattle.pv_explain.specs.declared.making.MadeCall.{MadeCall}
 use Rattle.pv_explain.specs.declared.making.MadeStep.{MadeStep}
 use Rattle.pv_explain.specs.declared.making.MadeStep.TheVariants.{Gone, Register, Call as CallMade}
 use Rattle.pv_explain.specs.Before.{IsBefore, place_of}
-use Rattle.pv_explain.specs.Keeping.{entry_at, settings_told}
+use Rattle.pv_explain.specs.Keeping.{entry_at, reported_settings}
 use Rattle.pv_explain.specs.Moved.{IsMoved}
 use Rattle.pv_explain.specs.Parts.{promise_part, table_part, moved_part}
 
--- ---- its lines
+-- ---- the lines
 
 module _ (pid : ℕ) (mine : List Setting) (m : MadeCall) (after : State) where
   abbrev pub first_part_lines : List AnswerLine
@@ -47,25 +47,25 @@ module _ (pid : ℕ) (mine : List Setting) (m : MadeCall) (after : State) where
   abbrev pub last_lines : List AnswerLine
   last_lines = map of_trace (end_lines_of pid (call_of m.call) m.answer.outcome)
 
-  -- the lines of a call that was made
+  -- the lines of a call
   unfoldable pub call_made_lines : List AnswerLine
   call_made_lines = first_part_lines ++ promise_lines ++ table_lines ++ moved_lines ++ last_lines
 
--- the lines of a step that was made
+-- the lines of a step
 abbrev pub made_lines : ℕ → List Setting → MadeStep → State → List AnswerLine
 made_lines pid mine Gone after = map of_trace (gone_lines pid)
 made_lines pid mine (Register line) after = []
 made_lines pid mine (CallMade m) after = call_made_lines pid mine m after
 
--- the line at which its process stood
+-- the line of the process before the step
 abbrev pub line_of : MadeStep → Option ℕ
 line_of Gone = None
 line_of (Register line) = Some line
 line_of (CallMade m) = Some m.before.line
 
--- ---- what was made
+-- ---- the step
 
--- a call was made in this state, and left that one
+-- a call was made in state s and left this state
 pub record IsMadeCall (s : State) (pid : ℕ) (m : MadeCall) (after : State) : Type 0 where
   pub me : Process
   pub lives : process_at s pid ≡ Some me
@@ -73,11 +73,11 @@ pub record IsMadeCall (s : State) (pid : ℕ) (m : MadeCall) (after : State) : T
   pub answered : answer program_of s pid (call_of m.call) ≡ record { after = after; outcome = m.answer.outcome; walks = m.answer.walks }
   pub before : IsBefore s pid me (call_of m.call) m.before
 
--- an instruction on registers was made
+-- an instruction on registers was carried out
 pub record IsMadeInside (s : State) (pid line : ℕ) (after : State) : Type 0 where
   pub me : Process
   pub lives : process_at s pid ≡ Some me
-  pub stood : line ≡ me.line
+  pub appeared : line ≡ me.line
   pub then_is : Process
   pub comes : next me ≡ inside then_is
   pub left : after ≡ with_process s pid then_is
@@ -87,19 +87,19 @@ IsMade s pid Gone after = (process_at s pid ≡ None) × (after ≡ s)
 IsMade s pid (Register line) after = IsMadeInside s pid line after
 IsMade s pid (CallMade m) after = IsMadeCall s pid m after
 
--- ---- what its lines can be told of
+-- ---- conditions on the data of the lines
 
 abbrev pub IsInDirectory : Tree → Option Place → Type 0
 IsInDirectory t None = ⊤
 IsInDirectory t (Some place) = IsTrue (is_directory_at t (directory_of place))
 
--- the bytes that a line tells
+-- the bytes in a line
 abbrev pub AreMoved : Call → List Word → Type 0
 AreMoved call [] = ⊤
-AreMoved call (gio_word way bytes ∷ ws) = IsMoved call bytes
+AreMoved call (gio_word direction bytes ∷ ws) = IsMoved call bytes
 AreMoved call (w ∷ ws) = ⊤
 
--- the place of a refused walk is still one of a directory, and the bytes have their size
+-- the place of a refused walk is still in a directory, and the bytes have their size
 pub record IsFitCall (pid : ℕ) (m : MadeCall) (after : State) : Type 0 where
   pub place : (unveil_words (call_of m.call) m.answer.walks m.answer.outcome ≡ [] → ⊥) → IsInDirectory after.tree (place_of m.before m.answer.walks)
   pub bytes : AreMoved (call_of m.call) (moved_by (buffer_of (process_at after pid)) (call_of m.call) m.answer.outcome)
@@ -108,11 +108,11 @@ abbrev pub IsFit : ℕ → MadeStep → State → Type 0
 IsFit pid (CallMade m) after = IsFitCall pid m after
 IsFit pid made after = ⊤
 
--- ---- what it leaves of where entries were set
+-- ---- the origins of entries after the step
 
 abbrev pub settings_called : ℕ → MadeCall → State → Settings → Settings
 settings_called pid m after all =
-    settings_told pid m.before.line (process_at after pid) (entry_at m.before.target (process_at after pid)) all (call_of m.call) m.answer.outcome
+    reported_settings pid m.before.line (process_at after pid) (entry_at m.before.target (process_at after pid)) all (call_of m.call) m.answer.outcome
 
 abbrev pub settings_made : ℕ → MadeStep → State → Settings → Settings
 settings_made pid (CallMade m) after all = settings_called pid m after all

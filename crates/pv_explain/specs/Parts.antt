@@ -1,4 +1,4 @@
--- The parts of a call's lines with what is said of them, by what is told of the states before and after it.
+-- The parts of a call's explained lines, given the parts of the states before and after it.
 use Rattle.std.specs.Prelude.{ℕ, if◌then◌else◌, List, [], ◌∷◌, ◌++◌, map, codes, Option, None, Some, option_map}
 use Rattle.std.specs.Fmt.{decimal}
 use Rattle.std.specs.Result.{is_err}
@@ -31,23 +31,23 @@ why pid text = answer_line pid (codes "WHY") text
 
 -- ---- the front
 
-abbrev pub standing_text : Option ℕ → Bytes
-standing_text None = []
-standing_text (Some line) = codes ", line " ++ decimal line
+abbrev pub location_text : Option ℕ → Bytes
+location_text None = []
+location_text (Some line) = codes ", line " ++ decimal line
 
--- the number of a step, and where its process stands
+-- the number of a step, and the line of its process
 abbrev pub step_text : ℕ → Option ℕ → Bytes
-step_text number line = decimal number ++ standing_text line
+step_text number line = decimal number ++ location_text line
 
 -- ---- promises
 
--- the first of two values of a pledge that is refused
+-- the first of the two values of a pledge(2) that is refused
 abbrev pub first_increase : Pledged → Option Promises → Option Promises → Bytes
 first_increase held asked exec_asked =
     if is_err (narrow_promises (is_lenient held.promises) held.promises asked) then increase_text (codes "promises") asked held.promises
     else increase_text (codes "execpromises") exec_asked held.execpromises
 
--- the two values that a pledge asks for
+-- the two values that a pledge(2) requests
 abbrev pub values_asked : Call → Option (Option Promises × Option Promises)
 values_asked (Pledge promises execpromises) = Some (asked_set promises, asked_set execpromises)
 values_asked call = None
@@ -63,7 +63,7 @@ abbrev pub promise_reason_by : Pledged → Call → PromiseVerdict → Bytes
 promise_reason_by held call for_increase = increase_reason held call
 promise_reason_by held call _ = lack_text call held.promises
 
--- a line, and why the promise that it names decided
+-- a PLDG line, and the reason for the decision
 abbrev pub promise_part : ℕ → Pledged → Call → Word → List AnswerLine
 promise_part pid held call (pldg_word by promise verdict) =
     of_trace (line pid (pldg_word by promise verdict)) ∷ why pid (promise_reason_by held call verdict) ∷ []
@@ -71,7 +71,7 @@ promise_part pid held call word = of_trace (line pid word) ∷ []
 
 -- ---- the table
 
--- where an entry was set
+-- the origin of an entry
 abbrev pub source_of : List Setting → ℕ → Bytes
 source_of mine k = set_text program_of mine k
 
@@ -101,7 +101,7 @@ module _ (t : Tree) (table : Table) (mine : List Setting) where
   abbrev pub level_lines : ℕ → Perms → List Level → List AnswerLine
   level_lines pid asked ls = map (λ l. why pid (level_text_by asked l)) ls
 
-  -- how a judgement came about, level by level
+  -- the derivation of a decision, level by level
   abbrev pub judgement_lines : ℕ → Perms → Option Place → List AnswerLine
   judgement_lines pid asked None = []
   judgement_lines pid asked (Some place) = level_lines pid asked (levels t table place)
@@ -112,14 +112,14 @@ module _ (t : Tree) (table : Table) (mine : List Setting) where
   table_reasons pid call place (entry_lacks k needed) = judgement_lines pid needed place
   table_reasons pid call place (no_entry needed) = judgement_lines pid needed place
 
-  -- a line, and why the table decided
+  -- an UNVL line, and the reason for the decision
   abbrev pub table_part : ℕ → Call → Option Place → Word → List AnswerLine
   table_part pid call place (unvl_word verdict) = of_trace (line pid (unvl_word verdict)) ∷ table_reasons pid call place verdict
   table_part pid call place word = of_trace (line pid word) ∷ []
 
 -- ---- bytes
 
--- the open file of a call that reads or writes, where its descriptor is one
+-- the open file of a call that reads or writes, if its descriptor is open
 abbrev pub file_number : Process → Call → Option ℕ
 file_number p (Read d n) = option_map (λ x. x.file) (descriptor_at p d)
 file_number p (Write d n) = option_map (λ x. x.file) (descriptor_at p d)
@@ -133,7 +133,7 @@ abbrev pub file_at : State → Option ℕ → Option OpenFile
 file_at s None = None
 file_at s (Some k) = at_number s.files k
 
--- what bytes are that a call moved, on an open file
+-- the meaning of the bytes that a call moved, on an open file
 abbrev pub moved_by_call : State → Option ℕ → Call → Bytes → Bytes
 moved_by_call after file Wait bytes = ended_words (number_of bytes)
 moved_by_call after file (Stat path) bytes = status_words bytes
@@ -143,8 +143,8 @@ moved_by_call after file (Read d n) bytes = quote bytes ++ node_text after (file
 moved_by_call after file (Write d n) bytes = quote bytes ++ node_text after (file_at after file)
 moved_by_call after file call bytes = quote bytes
 
--- a line, and what the bytes are that it tells
+-- a GIO line, and the meaning of its bytes
 abbrev pub moved_part : ℕ → State → Option ℕ → Call → Word → List AnswerLine
-moved_part pid after file call (gio_word way (b ∷ bs)) =
-    of_trace (line pid (gio_word way (b ∷ bs))) ∷ answer_line pid (codes "TEXT") (moved_by_call after file call (b ∷ bs)) ∷ []
+moved_part pid after file call (gio_word direction (b ∷ bs)) =
+    of_trace (line pid (gio_word direction (b ∷ bs))) ∷ answer_line pid (codes "TEXT") (moved_by_call after file call (b ∷ bs)) ∷ []
 moved_part pid after file call word = of_trace (line pid word) ∷ []

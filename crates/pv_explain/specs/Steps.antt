@@ -1,4 +1,4 @@
--- The lines of several steps, what is kept after them, and where they stop.
+-- The lines of several steps, the records after them, and the point at which they stop.
 use Rattle.std.specs.Prelude.{◌≡◌, ⊤, ℕ, ◌+◌, List, [], ◌∷◌, ◌++◌, Option}
 use Rattle.pv_model.specs.Answers.Explain.{explained_step, set_text, settings_next, step_line}
 use Rattle.pv_model.specs.Answers.Lines.{AnswerLine, answer_bytes}
@@ -16,17 +16,17 @@ use Rattle.pv_streams.specs.Sinks.{and_all}
 abbrev pub step_lines : ℕ → Settings → State → ℕ → List AnswerLine
 step_lines k all s pid = step_line program_of k s pid ∷ explained_step program_of (set_text program_of (settings_of all pid)) s pid
 
--- the lines of steps, from number k on
+-- the lines of steps whose numbers start at k
 abbrev pub steps_lines : ℕ → Settings → List ℕ → State → List AnswerLine
 steps_lines k all [] s = []
 steps_lines k all (pid ∷ pids) s = step_lines k all s pid ++ steps_lines (k + 1) (settings_next program_of s pid all) pids (step program_of s pid).after
 
--- where entries were set, after steps
+-- the origins of entries after steps
 abbrev pub settings_through : Settings → List ℕ → State → Settings
 settings_through all [] s = all
 settings_through all (pid ∷ pids) s = settings_through (settings_next program_of s pid all) pids (step program_of s pid).after
 
--- of the steps of these processes the first were made, and their lines written, and the next is an execve that leads to a program
+-- the steps before an execve that leads to a program were made, and their lines were written
 pub record StopsAtLoad (k : ℕ) (all : Settings) (pids : List ℕ) (s now : State) (before after : Option Bytes) : Type 0 where
   pub made : List ℕ
   pub pid : ℕ
@@ -36,7 +36,7 @@ pub record StopsAtLoad (k : ℕ) (all : Settings) (pids : List ℕ) (s now : Sta
   pub as_written : after ≡ and_all before (answer_bytes (steps_lines k all made s))
   pub loads : NextLoads now pid
 
--- want of memory stops there alone
+-- out of memory stops a run only there
 abbrev pub StopsExplained : Stop → ℕ → Settings → List ℕ → State → State → Option Bytes → Option Bytes → Type 0
 StopsExplained Memory k all pids s now before after = StopsAtLoad k all pids s now before after
 StopsExplained Write k all pids s now before after = ⊤

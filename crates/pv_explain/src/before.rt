@@ -1,9 +1,9 @@
-//! What is told of the state before a call, and goes with it.
+//! The part of the state before a call that its explanation needs.
 ghost use Rattle.std.specs.Prelude.{◌≡◌, IsSome, Some, option_copied};
 ghost use Rattle.pv_explain.specs.Before.{IsBefore, place_of};
 ghost use Rattle.pv_explain.specs.Keeping.{path_unveiled, target_before};
 ghost use Rattle.pv_explain.specs.Parts.{file_number};
-ghost use Rattle.pv_laws_states.specs.States.{IsWhole};
+ghost use Rattle.pv_laws_states.specs.States.{IsValid};
 ghost use Rattle.pv_model.specs.CallRef.{call_of};
 ghost use Rattle.pv_model.specs.State.{Process, process_at};
 
@@ -14,23 +14,23 @@ use pv_files::Descriptors;
 use pv_model::{CallRef, Perms, Place, Target, Text, Walk};
 use pv_promises::Pledge;
 
-/// What is told of the state before a call of a process, and is not there any more after it.
+/// The part of the state before a call of a process that its explanation needs and that the call may change.
 #[derive(Drop)]
 pub struct Before {
-    /// The line at which the process stood.
+    /// The line of the process.
     pub(crate) line: u16,
-    /// What it had promised.
+    /// The promises and execpromises of the process.
     pub(crate) pledge: Pledge,
     /// The open file that the call reads or writes.
     pub(crate) file: Option<usize>,
-    /// What an unveil of the call's path is for.
+    /// The unveil target of the call's path.
     pub(crate) target: Option<Target>,
-    // Where its walks end.
+    // The places at which the walks of the call end.
     first: Option<Place>,
     second: Option<Place>,
 }
 
-// The open file that a call reads or writes, where its descriptor is one.
+// Returns the open file that a call reads or writes, if its descriptor is open.
 fn file_of(descriptors: &Descriptors, call: CallRef<'_>) -> Option<usize>
     ensures { (p : Process) → p.descriptors ≡ descriptors.now → result ≡ file_number p (call_of call.entry) }
 {
@@ -40,7 +40,7 @@ fn file_of(descriptors: &Descriptors, call: CallRef<'_>) -> Option<usize>
     }
 }
 
-// The path that an unveil(2) gives.
+// Returns the path argument of an unveil(2).
 fn unveiled_path(call: CallRef<'_>) -> Option<&Text>
     ensures { option_copied result ≡ path_unveiled (call_of call.entry) }
 {
@@ -50,9 +50,9 @@ fn unveiled_path(call: CallRef<'_>) -> Option<&Text>
     }
 }
 
-// What an unveil of a call's path is for, where the path leads to a place.
+// Returns the unveil target of a call's path, if the path leads to a place.
 fn unveiled(parts: &Parts, pid: u32, call: CallRef<'_>) -> Option<Target>
-    requires whole { IsWhole parts.now }
+    requires whole { IsValid parts.now }
     requires live { IsSome (process_at parts.now pid) }
     ensures { (p : Process) → process_at parts.now pid ≡ Some p → result ≡ target_before parts.now p (call_of call.entry) }
 {
@@ -66,9 +66,9 @@ fn unveiled(parts: &Parts, pid: u32, call: CallRef<'_>) -> Option<Target>
 }
 
 impl Before {
-    /// What is told of the state before a call that comes next in a live process.
+    /// Captures the state before the next call of a live process.
     pub(crate) fn of(parts: &Parts, pid: u32, call: CallRef<'_>) -> Before
-        requires whole { IsWhole parts.now }
+        requires whole { IsValid parts.now }
         requires live { IsSome (process_at parts.now pid) }
         ensures { (p : Process) → process_at parts.now pid ≡ Some p → IsBefore parts.now pid p (call_of call.entry) result }
     {
@@ -83,7 +83,7 @@ impl Before {
         }
     }
 
-    /// Where the walk of a number ended, from 1, in a place.
+    /// Returns the place at which walk `walk` ended, counted from 1, if it ended at a place.
     pub(crate) fn place(&self, walk: u8) -> Option<&Place>
         ensures { option_copied result ≡ place_of self.now walk }
     {

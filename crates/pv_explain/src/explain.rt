@@ -1,4 +1,4 @@
-//! Schedules, step by step, with what is said of their lines.
+//! Explained runs of schedules, step by step.
 ghost use Rattle.std.specs.Prelude.{◌≡◌, ◌+◌, ◌≤◌, ◌<◌, ◌^◌, [], ◌∷◌, length, replicate, IfErr, IfOk, IfSome, IsTrue, OnErr, OnOk, option_copied};
 ghost use Rattle.pv_explain.specs.Keeping.{Agree, entry_at};
 ghost use Rattle.pv_explain.specs.Made.{settings_called};
@@ -13,12 +13,12 @@ ghost use Rattle.pv_model.specs.State.{process_at};
 ghost use Rattle.pv_model.specs.Step.{steps_of};
 ghost use Rattle.pv_procs.specs.Turns.{CallsNext};
 ghost use Rattle.pv_session.specs.Running.{FailsBy, run_of, stepped, turn};
-ghost use Rattle.pv_streams.specs.Sinks.{and_all, TellsBeginning};
+ghost use Rattle.pv_streams.specs.Sinks.{and_all, WritesPrefix};
 
 use crate::explained::{write_call, write_step_line};
 use crate::making::{MadeCall, make_call, make_register};
 use crate::origins::Origins;
-use pv_answers::write_standings;
+use pv_answers::write_locations;
 use pv_calls_state::Parts;
 use pv_model::{CallRef, Target};
 use pv_procs::Fetched;
@@ -29,7 +29,7 @@ use pv_trace::{LineBuffer, write_gone_line};
 use std::alloc::{AllocError, Global};
 use std::marker::Model;
 
-// The entry for a target in the table of a process, where there is one.
+// Returns the entry for a target in the table of a process, if there is one.
 fn entry_for(parts: &Parts, pid: u32, target: Option<&Target>) -> Option<u8>
     ensures value { result ≡ entry_at (option_copied target.entry) (process_at parts.now pid) }
     ensures few { IfSome result (λ k. k < UNVEILS) }
@@ -43,7 +43,7 @@ fn entry_for(parts: &Parts, pid: u32, target: Option<&Target>) -> Option<u8>
     }
 }
 
-// What a call that was made leaves of where entries were set.
+// Updates the origins of entries after a call.
 fn follow(origins: &mut Origins, parts: &Parts, pid: u32, made: &MadeCall<'_>)
     ensures { Agree parts.now origins.new (settings_called pid made.now parts.now origins.old) }
 {
@@ -58,15 +58,14 @@ fn follow(origins: &mut Origins, parts: &Parts, pid: u32, made: &MadeCall<'_>)
     );
 }
 
-// A step to explain: whose it is, and its number.
+// A step to explain: its process and its number.
 #[derive(Clone, Copy)]
 struct NumberedStep {
     pid: u32,
     number: u64,
 }
 
-// Makes a call that comes next in a process, and writes the line of the step's number and the lines of the call, with what is
-// said of them.
+// Makes the next call of a process, and writes the STEP line and the explained lines of the call.
 fn explain_call<W: Sink>(
     alloc: Global,
     session: &mut Session,
@@ -80,7 +79,7 @@ fn explain_call<W: Sink>(
     requires callable { IsTrue (is_call (call_of call)) }
     ensures after { OnOk result (session.new ≡ (stepped session.old step.pid).after) }
     ensures whole { OnOk result (W.written out.new ≡ and_all (W.written out.old) (answer_bytes (step_lines step.number origins.old session.old step.pid))) }
-    ensures beginning { OnErr result (TellsBeginning (answer_bytes (step_lines step.number origins.old session.old step.pid)) (W.written out.old) (W.written out.new)) }
+    ensures prefix { OnErr result (WritesPrefix (answer_bytes (step_lines step.number origins.old session.old step.pid)) (W.written out.old) (W.written out.new)) }
     ensures failed { IfErr result (λ stop. FailsBy stop (W.failures out.old) (W.failures out.new)) }
     ensures quiet { OnOk result (W.failures out.new ≡ W.failures out.old) }
     ensures stopped { IfErr result (λ stop. StopsExplained stop step.number origins.old (step.pid ∷ []) session.old session.new (W.written out.old) (W.written out.new)) }
@@ -94,12 +93,12 @@ fn explain_call<W: Sink>(
     Ok(())
 }
 
-/// Explains steps, one after another: it keeps at which line each entry of each table was set.
+/// An explainer of consecutive steps. It records the line at which each entry of each table was set.
 #[derive(Drop)]
 pub struct Explainer {
-    // The texts of the call that was made last.
+    // The texts of the last call.
     texts: CallTexts,
-    // What the lines of a trace are made on.
+    // The buffer in which trace lines are built.
     line_buffer: Box<LineBuffer>,
     origins: Origins,
 }
@@ -113,11 +112,12 @@ impl Model for Explainer {
 }
 
 impl Explainer {
-    /// It knows of no entry where it was set.
+    /// Returns an explainer that knows the origin of no entry.
     ///
     /// # Errors
     ///
-    /// Where there is no memory for what it keeps. No other call of it asks for any but for a program that is executed.
+    /// `AllocError`, if there is no memory for its records. The other methods allocate only to load a program for
+    /// execve(2).
     pub fn new(alloc: Global) -> Result<Explainer, AllocError>
         ensures { IfOk result (λ explainer. explainer ≡ []) }
     {
@@ -128,12 +128,13 @@ impl Explainer {
         })
     }
 
-    /// Makes a step of a process, and writes the line of its number and its lines, with what is said of them.
+    /// Makes a step of a process, and writes its STEP line and its explained lines.
     ///
     /// # Errors
     ///
-    /// `Memory` where memory was refused for the program of an execve(2), as in `Session::step`: the step was not made, and nothing
-    /// was written. `Write` where a write failed: the sink was given a beginning of the lines.
+    /// - `Memory`, if there is no memory for the program of an execve(2), as for `Session::step`. The step was not
+    ///   made, and nothing was written.
+    /// - `Write`, if a write failed. The sink received a prefix of the lines.
     pub fn explain_step<W: Sink>(
         &mut self,
         alloc: Global,
@@ -144,12 +145,12 @@ impl Explainer {
     ) -> Result<(), Stop>
         ensures after { OnOk result (session.new ≡ (stepped session.old pid).after) }
         ensures whole { OnOk result (W.written out.new ≡ and_all (W.written out.old) (answer_bytes (step_lines number self.old session.old pid))) }
-        ensures beginning { OnErr result (TellsBeginning (answer_bytes (step_lines number self.old session.old pid)) (W.written out.old) (W.written out.new)) }
+        ensures prefix { OnErr result (WritesPrefix (answer_bytes (step_lines number self.old session.old pid)) (W.written out.old) (W.written out.new)) }
         ensures failed { IfErr result (λ stop. FailsBy stop (W.failures out.old) (W.failures out.new)) }
         ensures quiet { OnOk result (W.failures out.new ≡ W.failures out.old) }
         ensures stopped { IfErr result (λ stop. StopsExplained stop number self.old (pid ∷ []) session.old session.new (W.written out.old) (W.written out.new)) }
 
-        // Of the processes that are live, it knows where entries were set.
+        // The explainer knows the origins of the entries of live processes.
         ensures keeps { OnOk result (Agree session.new self.new (settings_next program_of session.old pid self.old)) }
     {
         match session.fetch(pid, &mut self.texts) {
@@ -176,7 +177,7 @@ impl Explainer {
     }
 }
 
-// Explains so many steps of a process, from a number on.
+// Explains `count` steps of a process, whose numbers start at `number`.
 fn explain_turn<W: Sink>(
     alloc: Global,
     session: &mut Session,
@@ -189,14 +190,14 @@ fn explain_turn<W: Sink>(
     requires { number + count < 2 ^ 64 }
     ensures after { OnOk result (session.new ≡ (turn session.old pid count).final) }
     ensures whole { OnOk result (W.written out.new ≡ and_all (W.written out.old) (answer_bytes (steps_lines number explainer.old (replicate count pid) session.old))) }
-    ensures beginning { OnErr result (TellsBeginning (answer_bytes (steps_lines number explainer.old (replicate count pid) session.old)) (W.written out.old) (W.written out.new)) }
+    ensures prefix { OnErr result (WritesPrefix (answer_bytes (steps_lines number explainer.old (replicate count pid) session.old)) (W.written out.old) (W.written out.new)) }
     ensures failed { IfErr result (λ stop. FailsBy stop (W.failures out.old) (W.failures out.new)) }
     ensures quiet { OnOk result (W.failures out.new ≡ W.failures out.old) }
     ensures stopped { IfErr result (λ stop. StopsExplained stop number explainer.old (replicate count pid) session.old session.new (W.written out.old) (W.written out.new)) }
     ensures keeps { OnOk result (Agree session.new explainer.new (settings_through explainer.old (replicate count pid) session.old)) }
 {
     for step in 0..count {
-        // (what its parts tell with them: the state is one that a run may reach)
+        // The contract of `parts` states that the state satisfies the invariant.
         let _ = session.parts();
         let at = number + u64::from(step);
         explainer.explain_step(alloc, session, pid, at, out)?;
@@ -215,7 +216,7 @@ fn explain_steps<W: Sink>(
     requires { length schedule.now ≤ SCHEDULE_LINES }
     ensures after { OnOk result (session.new ≡ (run_of session.old schedule.now).final) }
     ensures whole { OnOk result (W.written out.new ≡ and_all (W.written out.old) (answer_bytes (steps_lines 1 explainer.old (steps_of schedule.now) session.old))) }
-    ensures beginning { OnErr result (TellsBeginning (answer_bytes (steps_lines 1 explainer.old (steps_of schedule.now) session.old)) (W.written out.old) (W.written out.new)) }
+    ensures prefix { OnErr result (WritesPrefix (answer_bytes (steps_lines 1 explainer.old (steps_of schedule.now) session.old)) (W.written out.old) (W.written out.new)) }
     ensures failed { IfErr result (λ stop. FailsBy stop (W.failures out.old) (W.failures out.new)) }
     ensures quiet { OnOk result (W.failures out.new ≡ W.failures out.old) }
     ensures stopped { IfErr result (λ stop. StopsExplained stop 1 explainer.old (steps_of schedule.now) session.old session.new (W.written out.old) (W.written out.new)) }
@@ -230,16 +231,17 @@ fn explain_steps<W: Sink>(
     Ok(())
 }
 
-/// Makes the steps of a schedule, and writes the lines of each before the next, with what is said of them: before them its number,
-/// after bytes what they are, and after a refusal why. Then it writes who each process is, and at what.
+/// Runs a schedule, and writes the explained lines of each step before it makes the next: the number of the step first,
+/// the meaning of bytes after each GIO line, and the reason after each refusal. Then writes the location of each
+/// process.
 ///
-/// The explainer is one that has explained nothing yet.
+/// The explainer must be new.
 ///
 /// # Errors
 ///
-/// `Write` where a write failed: no step was made after it, and the sink was given a beginning of the lines. `Memory` where
-/// memory was refused for the program of an execve(2), which leads to an executable file that the process's table allows: that
-/// step was not made, and the sink was given just the lines of the steps before.
+/// - `Write`, if a write failed. No step was made after it, and the sink received a prefix of the lines.
+/// - `Memory`, if there is no memory for the program of an execve(2) that leads to an executable file allowed by the
+///   process's table. That step was not made, and the sink received exactly the lines of the earlier steps.
 pub fn explain_schedule<W: Sink>(
     alloc: Global,
     session: &mut Session,
@@ -251,11 +253,11 @@ pub fn explain_schedule<W: Sink>(
     requires fresh { explainer.old ≡ [] }
     ensures after { OnOk result (session.new ≡ (run_of session.old schedule.now).final) }
     ensures whole { OnOk result (W.written out.new ≡ and_all (W.written out.old) (answer_bytes (explain_lines program_of (steps_of schedule.now) session.old))) }
-    ensures beginning { OnErr result (TellsBeginning (answer_bytes (explain_lines program_of (steps_of schedule.now) session.old)) (W.written out.old) (W.written out.new)) }
+    ensures prefix { OnErr result (WritesPrefix (answer_bytes (explain_lines program_of (steps_of schedule.now) session.old)) (W.written out.old) (W.written out.new)) }
     ensures failed { IfErr result (λ stop. FailsBy stop (W.failures out.old) (W.failures out.new)) }
     ensures quiet { OnOk result (W.failures out.new ≡ W.failures out.old) }
     ensures stopped { IfErr result (λ stop. StopsExplained stop 1 [] (steps_of schedule.now) session.old session.new (W.written out.old) (W.written out.new)) }
 {
     explain_steps(alloc, session, explainer, schedule, out)?;
-    Ok(write_standings(out, session.parts())?)
+    Ok(write_locations(out, session.parts())?)
 }

@@ -1,11 +1,11 @@
-//! The lines of a step that was made, with what is said of them.
+//! The explained lines of a step.
 ghost use Rattle.std.specs.Prelude.{◌≡◌, codes, OnErr, OnOk};
 ghost use Rattle.pv_explain.specs.Keeping.{settings_in};
 ghost use Rattle.pv_explain.specs.Made.{IsFit, IsFitCall, call_made_lines, made_lines, table_lines};
 ghost use Rattle.pv_explain.specs.Parts.{step_text};
 ghost use Rattle.pv_model.specs.Answers.Lines.{answer_bytes, answer_line, answer_line_bytes};
 ghost use Rattle.pv_model.specs.Stream.{Rose};
-ghost use Rattle.pv_streams.specs.Sinks.{and_all, TellsBeginning};
+ghost use Rattle.pv_streams.specs.Sinks.{and_all, WritesPrefix};
 
 use crate::levels::Basis;
 use crate::making::{MadeCall, MadeStep};
@@ -19,11 +19,11 @@ use pv_calls_state::Parts;
 use pv_session::Session;
 use pv_streams::{Failed, Sink, write_whole};
 use pv_trace::{
-    LineBuffer, bytes_told, promise_told, table_told, write_first_lines, write_gone_line,
-    write_last_line,
+    LineBuffer, reported_bytes, reported_promise, reported_table_verdict, write_first_lines,
+    write_gone_line, write_last_line,
 };
 
-// Writes the lines of a table that decided a call, and of why it did.
+// Writes the UNVL line of a call that a table decided, and the lines with the reason.
 fn write_table_lines<W: Sink>(
     out: &mut W,
     line_buffer: &mut LineBuffer,
@@ -34,12 +34,12 @@ fn write_table_lines<W: Sink>(
 ) -> Result<(), Failed>
     requires { IsFitCall pid made.now parts.now }
     ensures whole { OnOk result (W.written out.new ≡ and_all (W.written out.old) (answer_bytes (table_lines pid (settings_in origins.now) made.now parts.now))) }
-    ensures beginning { OnErr result (TellsBeginning (answer_bytes (table_lines pid (settings_in origins.now) made.now parts.now)) (W.written out.old) (W.written out.new)) }
+    ensures prefix { OnErr result (WritesPrefix (answer_bytes (table_lines pid (settings_in origins.now) made.now parts.now)) (W.written out.old) (W.written out.new)) }
     ensures failed { OnErr result (Rose (W.failures out.old) (W.failures out.new)) }
     ensures quiet { OnOk result (W.failures out.new ≡ W.failures out.old) }
 {
     let walks = made.answer.walks;
-    let Some(verdict) = table_told(made.call, walks, made.answer.outcome) else {
+    let Some(verdict) = reported_table_verdict(made.call, walks, made.answer.outcome) else {
         return Ok(());
     };
     let Some(record) = parts.live_record(pid) else {
@@ -55,11 +55,11 @@ fn write_table_lines<W: Sink>(
     write_table_part(out, line_buffer, &basis, made.call, place, verdict)
 }
 
-/// Writes the lines of a call that was just made, with what is said of them, as `write_made` does.
+/// Writes the explained lines of a call that was just made, as `write_made` does.
 ///
 /// # Errors
 ///
-/// `Failed` where a write failed: the sink was given a beginning of the lines.
+/// `Failed`, if a write failed. The sink received a prefix of the lines.
 pub(crate) fn write_call<W: Sink>(
     out: &mut W,
     line_buffer: &mut LineBuffer,
@@ -70,7 +70,7 @@ pub(crate) fn write_call<W: Sink>(
 ) -> Result<(), Failed>
     requires { IsFitCall pid made.now session.now }
     ensures whole { OnOk result (W.written out.new ≡ and_all (W.written out.old) (answer_bytes (call_made_lines pid (settings_in origins.now) made.now session.now))) }
-    ensures beginning { OnErr result (TellsBeginning (answer_bytes (call_made_lines pid (settings_in origins.now) made.now session.now)) (W.written out.old) (W.written out.new)) }
+    ensures prefix { OnErr result (WritesPrefix (answer_bytes (call_made_lines pid (settings_in origins.now) made.now session.now)) (W.written out.old) (W.written out.new)) }
     ensures failed { OnErr result (Rose (W.failures out.old) (W.failures out.new)) }
     ensures quiet { OnOk result (W.failures out.new ≡ W.failures out.old) }
 {
@@ -78,7 +78,7 @@ pub(crate) fn write_call<W: Sink>(
     let Answer { outcome, walks } = made.answer;
     let before = &made.before;
     let parts = session.parts();
-    let moved = bytes_told(session.buffer(pid), call, outcome);
+    let moved = reported_bytes(session.buffer(pid), call, outcome);
     write_first_lines(out, line_buffer, pid, call, walks)?;
     write_promise_part(
         out,
@@ -86,20 +86,20 @@ pub(crate) fn write_call<W: Sink>(
         pid,
         before.pledge,
         call,
-        promise_told(outcome),
+        reported_promise(outcome),
     )?;
     write_table_lines(out, line_buffer, parts, pid, made, origins)?;
     write_moved_part(out, line_buffer, pid, parts, before.file, call, moved)?;
     write_last_line(out, line_buffer, pid, call, outcome)
 }
 
-/// Writes the lines of a step that was just made, with what is said of them. `origins` are where the entries of its process were
-/// set before it: nothing is said of those that are not among them.
+/// Writes the explained lines of a step that was just made. `origins` are the origins of the entries of its process
+/// before the step. If the origin of an entry is not among them, the line at which the entry was set is omitted.
 ///
 /// # Errors
 ///
-/// `Failed` where a write failed: the sink was given a beginning of the lines.
-#[tactic(auto, using(pv_streams::proofs::Telling::written_both, pv_streams::proofs::Telling::begins_first, pv_streams::proofs::Telling::begins_then, pv_streams::proofs::Telling::written_none))]
+/// `Failed`, if a write failed. The sink received a prefix of the lines.
+#[tactic(auto, using(pv_streams::proofs::Reporting::written_both, pv_streams::proofs::Reporting::begins_first, pv_streams::proofs::Reporting::begins_then, pv_streams::proofs::Reporting::written_none))]
 pub fn write_made<W: Sink>(
     out: &mut W,
     line_buffer: &mut LineBuffer,
@@ -110,7 +110,7 @@ pub fn write_made<W: Sink>(
 ) -> Result<(), Failed>
     requires { IsFit pid made.now session.now }
     ensures whole { OnOk result (W.written out.new ≡ and_all (W.written out.old) (answer_bytes (made_lines pid (settings_in origins.now) made.now session.now))) }
-    ensures beginning { OnErr result (TellsBeginning (answer_bytes (made_lines pid (settings_in origins.now) made.now session.now)) (W.written out.old) (W.written out.new)) }
+    ensures prefix { OnErr result (WritesPrefix (answer_bytes (made_lines pid (settings_in origins.now) made.now session.now)) (W.written out.old) (W.written out.new)) }
     ensures failed { OnErr result (Rose (W.failures out.old) (W.failures out.new)) }
     ensures quiet { OnOk result (W.failures out.new ≡ W.failures out.old) }
 {
@@ -136,14 +136,14 @@ impl Fragment for StepNumber {
     }
 }
 
-// The line at which a process stands, where it is live.
+// The line of a process, if it is live.
 #[derive(Clone, Copy)]
-struct StandingText(Option<u16>);
+struct LocationText(Option<u16>);
 
-impl Fragment for StandingText {
-    ghost use Rattle.pv_explain.specs.Parts.{standing_text};
+impl Fragment for LocationText {
+    ghost use Rattle.pv_explain.specs.Parts.{location_text};
 
-    ghost text = { λ p. standing_text p.0 };
+    ghost text = { λ p. location_text p.0 };
 
     fn write<W: Sink>(&self, out: &mut W) -> Result<(), Failed> {
         match self.0 {
@@ -153,11 +153,11 @@ impl Fragment for StandingText {
     }
 }
 
-/// Writes the line of a step: its number, and the line at which its process stands, where that is live.
+/// Writes the STEP line of a step: its number, and the line of its process, if it is live.
 ///
 /// # Errors
 ///
-/// `Failed` where a write failed: the sink was given a beginning of the line.
+/// `Failed`, if a write failed. The sink received a prefix of the line.
 #[tactic(auto, unfolding(pv_model::specs::Trace::text_line))]
 pub(crate) fn write_step_line<W: Sink>(
     out: &mut W,
@@ -166,14 +166,14 @@ pub(crate) fn write_step_line<W: Sink>(
     line: Option<u16>,
 ) -> Result<(), Failed>
     ensures whole { OnOk result (W.written out.new ≡ and_all (W.written out.old) (answer_line_bytes (answer_line pid (codes "STEP") (step_text number line)))) }
-    ensures beginning { OnErr result (TellsBeginning (answer_line_bytes (answer_line pid (codes "STEP") (step_text number line))) (W.written out.old) (W.written out.new)) }
+    ensures prefix { OnErr result (WritesPrefix (answer_line_bytes (answer_line pid (codes "STEP") (step_text number line))) (W.written out.old) (W.written out.new)) }
     ensures failed { OnErr result (Rose (W.failures out.old) (W.failures out.new)) }
     ensures quiet { OnOk result (W.failures out.new ≡ W.failures out.old) }
 {
     let line = Line {
         pid,
         word: *b"STEP",
-        text: (StepNumber(number), StandingText(line)),
+        text: (StepNumber(number), LocationText(line)),
     };
     line.write(out)
 }

@@ -1,4 +1,4 @@
-//! How the judgement of a place by a table came about, level by level.
+//! The derivation of a table's decision on a place, level by level.
 ghost use Rattle.std.specs.Prelude.{◌≡◌, IsTrue, OnOk, OnErr};
 ghost use Rattle.pv_explain.specs.Basis.{directory_level, level_line, lines_of, name_level, table_of};
 ghost use Rattle.pv_model.specs.Answers.Explain.{permissions_lacked};
@@ -8,7 +8,7 @@ ghost use Rattle.pv_model.specs.Calls.Restraints.{entries_of_table};
 ghost use Rattle.pv_model.specs.Stream.{Rose};
 ghost use Rattle.pv_model.specs.Tree.{is_directory_at};
 ghost use Rattle.pv_model.specs.Unveil.{permissions_at};
-ghost use Rattle.pv_streams.specs.Sinks.{and_all, TellsBeginning};
+ghost use Rattle.pv_streams.specs.Sinks.{and_all, WritesPrefix};
 ghost use Rattle.pv_unveil.specs.Up.{directory_of};
 
 use crate::origins::Origin;
@@ -18,7 +18,7 @@ use pv_streams::{Failed, Sink, write_whole};
 use pv_tree::Tree;
 use pv_unveil::{Table, above};
 
-/// What the places of a process are judged by.
+/// The context in which the places of a process are checked.
 #[derive(Clone, Copy)]
 pub(crate) struct Basis<'a> {
     /// The number of the process.
@@ -27,11 +27,11 @@ pub(crate) struct Basis<'a> {
     pub(crate) tree: &'a Tree,
     /// The table of the process.
     pub(crate) table: &'a Table,
-    /// Where its entries were set, as far as that is known.
+    /// The known origins of the table's entries.
     pub(crate) origins: &'a [Origin],
 }
 
-// The permissions of an entry: none where there is no such entry.
+// Returns the permissions of an entry, or none if there is no such entry.
 fn permissions_of(table: &Table, entry: u8) -> Perms
     ensures { result ≡ permissions_at (entries_of_table table.now.table) entry }
 {
@@ -42,7 +42,7 @@ fn permissions_of(table: &Table, entry: u8) -> Perms
     }
 }
 
-// The permissions of the second that the first has not.
+// Returns the permissions in `asked` that are not in `has`.
 fn lacked(has: Perms, asked: Perms) -> Perms
     ensures { result ≡ permissions_lacked has asked }
 {
@@ -54,12 +54,12 @@ fn lacked(has: Perms, asked: Perms) -> Perms
     }
 }
 
-/// Where an entry was set: nothing where that is not known.
+/// The origin of an entry. Nothing is written if it is unknown.
 #[derive(Clone, Copy)]
 pub(crate) struct OriginText<'a> {
-    /// Where the entries of its table were set.
+    /// The origins of the table's entries.
     pub(crate) origins: &'a [Origin],
-    /// Its number.
+    /// The number of the entry.
     pub(crate) entry: u8,
 }
 
@@ -90,9 +90,9 @@ impl<'a> Fragment for OriginText<'a> {
 /// An entry with its permissions.
 #[derive(Clone, Copy)]
 pub(crate) struct EntryText<'a> {
-    /// Its table.
+    /// The table.
     pub(crate) table: &'a Table,
-    /// Its number.
+    /// The number of the entry.
     pub(crate) entry: u8,
 }
 
@@ -109,7 +109,7 @@ impl<'a> Fragment for EntryText<'a> {
     }
 }
 
-// What is found at a level: an entry, what it lacks of what was asked, and where it was set.
+// The finding at a level: an entry, the requested permissions that it lacks, and its origin.
 #[derive(Clone, Copy)]
 struct FoundText<'a> {
     table: &'a Table,
@@ -142,7 +142,7 @@ impl<'a> Fragment for FoundText<'a> {
     }
 }
 
-// A directory: its path, or its number where it is removed.
+// A directory: its path, or its number if it is removed.
 #[derive(Clone, Copy)]
 struct DirectoryWords<'a> {
     tree: &'a Tree,
@@ -175,7 +175,7 @@ fn write_directory_level<W: Sink>(
     entry: Option<u8>,
 ) -> Result<(), Failed>
     ensures whole { OnOk result (W.written out.new ≡ and_all (W.written out.old) (answer_line_bytes (level_line basis.now asked (directory_level directory entry)))) }
-    ensures beginning { OnErr result (TellsBeginning (answer_line_bytes (level_line basis.now asked (directory_level directory entry))) (W.written out.old) (W.written out.new)) }
+    ensures prefix { OnErr result (WritesPrefix (answer_line_bytes (level_line basis.now asked (directory_level directory entry))) (W.written out.old) (W.written out.new)) }
     ensures failed { OnErr result (Rose (W.failures out.old) (W.failures out.new)) }
     ensures quiet { OnOk result (W.failures out.new ≡ W.failures out.old) }
 {
@@ -208,7 +208,7 @@ fn write_name_level<W: Sink>(
     entry: Option<u8>,
 ) -> Result<(), Failed>
     ensures whole { OnOk result (W.written out.new ≡ and_all (W.written out.old) (answer_line_bytes (level_line basis.now asked (name_level directory name.now entry)))) }
-    ensures beginning { OnErr result (TellsBeginning (answer_line_bytes (level_line basis.now asked (name_level directory name.now entry))) (W.written out.old) (W.written out.new)) }
+    ensures prefix { OnErr result (WritesPrefix (answer_line_bytes (level_line basis.now asked (name_level directory name.now entry))) (W.written out.old) (W.written out.new)) }
     ensures failed { OnErr result (Rose (W.failures out.old) (W.failures out.new)) }
     ensures quiet { OnOk result (W.failures out.new ≡ W.failures out.old) }
 {
@@ -231,7 +231,7 @@ fn write_name_level<W: Sink>(
     line.write(out)
 }
 
-// Writes the lines of a directory and of those above it, up to one that has an entry, the root or a removed one.
+// Writes the lines of a directory and its ancestors, up to one that has an entry, the root, or a removed directory.
 fn write_directory_levels<W: Sink>(
     out: &mut W,
     basis: &Basis<'_>,
@@ -240,7 +240,7 @@ fn write_directory_levels<W: Sink>(
 ) -> Result<(), Failed>
     requires { IsTrue (is_directory_at basis.now.tree.now.tree directory) }
     ensures whole { OnOk result (W.written out.new ≡ and_all (W.written out.old) (answer_bytes (lines_of basis.now asked (directory_levels basis.now.tree.now.tree (table_of basis.now) directory)))) }
-    ensures beginning { OnErr result (TellsBeginning (answer_bytes (lines_of basis.now asked (directory_levels basis.now.tree.now.tree (table_of basis.now) directory))) (W.written out.old) (W.written out.new)) }
+    ensures prefix { OnErr result (WritesPrefix (answer_bytes (lines_of basis.now asked (directory_levels basis.now.tree.now.tree (table_of basis.now) directory))) (W.written out.old) (W.written out.new)) }
     ensures failed { OnErr result (Rose (W.failures out.old) (W.failures out.new)) }
     ensures quiet { OnOk result (W.failures out.new ≡ W.failures out.old) }
 {
@@ -259,7 +259,7 @@ fn write_directory_levels<W: Sink>(
     Ok(())
 }
 
-// Writes the lines of a name, and of its directory and those above it where the name has no entry.
+// Writes the line of a name. If the name has no entry, also writes the lines of its directory and the ancestors.
 fn write_name_levels<W: Sink>(
     out: &mut W,
     basis: &Basis<'_>,
@@ -269,7 +269,7 @@ fn write_name_levels<W: Sink>(
 ) -> Result<(), Failed>
     requires { IsTrue (is_directory_at basis.now.tree.now.tree directory) }
     ensures whole { OnOk result (W.written out.new ≡ and_all (W.written out.old) (answer_bytes (lines_of basis.now asked (name_levels basis.now.tree.now.tree (table_of basis.now) directory name.now)))) }
-    ensures beginning { OnErr result (TellsBeginning (answer_bytes (lines_of basis.now asked (name_levels basis.now.tree.now.tree (table_of basis.now) directory name.now))) (W.written out.old) (W.written out.new)) }
+    ensures prefix { OnErr result (WritesPrefix (answer_bytes (lines_of basis.now asked (name_levels basis.now.tree.now.tree (table_of basis.now) directory name.now))) (W.written out.old) (W.written out.new)) }
     ensures failed { OnErr result (Rose (W.failures out.old) (W.failures out.new)) }
     ensures quiet { OnOk result (W.failures out.new ≡ W.failures out.old) }
 {
@@ -282,12 +282,13 @@ fn write_name_levels<W: Sink>(
     }
 }
 
-/// Writes how the judgement of a place came about, from the place upwards: a line for the name, if the place is no directory,
-/// and for its directory and each one above it, up to the one that has an entry, the root or a removed one.
+/// Writes the derivation of a table's decision on a place, from the place upwards: a line for the name, if the place is
+/// not a directory, and a line for the directory and each ancestor, up to one that has an entry, the root, or a removed
+/// directory.
 ///
 /// # Errors
 ///
-/// `Failed` where a write failed: the sink was given a beginning of the lines.
+/// `Failed`, if a write failed. The sink received a prefix of the lines.
 #[tactic(auto, unfolding(pv_model::specs::Answers::Levels::levels))]
 pub(crate) fn write_levels<W: Sink>(
     out: &mut W,
@@ -297,7 +298,7 @@ pub(crate) fn write_levels<W: Sink>(
 ) -> Result<(), Failed>
     requires { IsTrue (is_directory_at basis.now.tree.now.tree (directory_of place.now)) }
     ensures whole { OnOk result (W.written out.new ≡ and_all (W.written out.old) (answer_bytes (lines_of basis.now asked (levels basis.now.tree.now.tree (table_of basis.now) place.now)))) }
-    ensures beginning { OnErr result (TellsBeginning (answer_bytes (lines_of basis.now asked (levels basis.now.tree.now.tree (table_of basis.now) place.now))) (W.written out.old) (W.written out.new)) }
+    ensures prefix { OnErr result (WritesPrefix (answer_bytes (lines_of basis.now asked (levels basis.now.tree.now.tree (table_of basis.now) place.now))) (W.written out.old) (W.written out.new)) }
     ensures failed { OnErr result (Rose (W.failures out.old) (W.failures out.new)) }
     ensures quiet { OnOk result (W.failures out.new ≡ W.failures out.old) }
 {

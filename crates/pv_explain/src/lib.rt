@@ -1,12 +1,11 @@
-//! What a reader of a trace asks beside it: at which step and line each line came about, what bytes are, and why a promise or a
-//! table refused.
+//! Explained traces: the step and line of each call, the meaning of bytes, and the reason why a promise or a table
+//! refused.
 //!
-//! `explain` writes the lines of each step of a schedule with what is said of them, and then who is where. `explained` has the
-//! lines of one step, which `making` makes; `before` keeps what is told of the state before a call and goes with it; `reasons` writes why a promise or a
-//! table decided, `levels` how a judgement came about, from the place upwards, and `moved` what bytes are. `origins` keeps at which
-//! line each entry of a table was set.
-//!
-//! A clause sees the lines as `pv_model`'s definitions have them.
+//! `explain` runs a schedule, writes the explained lines of each step, and then writes the location of each process.
+//! `making` makes one step and `explained` writes its lines. `before` captures the state before a call. `reasons`
+//! writes why a promise or a table decided, `levels` derives the decision of a table from the place upwards, and
+//! `moved` decodes bytes. `origins` records the line at which each table entry was set. Contracts cite the lines that
+//! the definitions in `pv_model` give.
 #![tactic(auto)]
 
 mod before;

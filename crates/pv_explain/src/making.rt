@@ -1,4 +1,4 @@
-//! A step that is made, with what its lines tell of the state before it.
+//! Steps, with the part of the state before them that their explanations need.
 ghost use Rattle.std.specs.Prelude.{◌≡◌, IfOk, IsTrue, OnErr};
 ghost use Rattle.pv_explain.specs.Made.{IsFit, IsFitCall, IsMade, IsMadeCall, IsMadeInside, line_of};
 ghost use Rattle.pv_laws_states.specs.States.{is_call};
@@ -15,30 +15,30 @@ use pv_script::CallTexts;
 use pv_session::Session;
 use std::alloc::Global;
 
-/// A call that was made, with what is told of the state before it.
+/// A call that was made, with the state before it.
 #[derive(Drop)]
 pub struct MadeCall<'a> {
     /// The call.
     pub call: CallRef<'a>,
-    /// What it answered.
+    /// The answer of the call.
     pub answer: Answer,
-    /// What is told of the state before it.
+    /// The part of the state before the call that its explanation needs.
     pub before: Before,
 }
 
 /// A step that was made.
 #[derive(Drop)]
 pub enum MadeStep<'a> {
-    /// Of a process that is not live: nothing was made.
+    /// The process was not live. Nothing was done.
     Gone,
-    /// On registers, by a process that stood at this line.
+    /// An instruction on registers, by a process that was at this line.
     Register(u16),
     /// A call.
     Call(MadeCall<'a>),
 }
 
 impl<'a> MadeStep<'a> {
-    /// The line at which the process stood before it, where it was live.
+    /// Returns the line of the process before the step, if it was live.
     pub fn line(&self) -> Option<u16>
         ensures { result ≡ line_of self.now }
     {
@@ -50,7 +50,8 @@ impl<'a> MadeStep<'a> {
     }
 }
 
-/// Makes the instruction on registers or the jump that comes next in a process: answers the line at which that stood.
+/// Carries out the next instruction of a process, which must be an instruction on registers or a jump. Returns the line
+/// of the process before it.
 pub(crate) fn make_register(session: &mut Session, pid: u32) -> u16
     requires { RegisterNext (process_at session.old pid) }
     ensures { IsMadeInside session.old pid result session.new }
@@ -60,11 +61,11 @@ pub(crate) fn make_register(session: &mut Session, pid: u32) -> u16
     line
 }
 
-/// Makes a call that comes next in a process, and keeps what its lines tell of the state before it.
+/// Makes the next call of a process, and captures the state before it.
 ///
 /// # Errors
 ///
-/// `NoMemory` as in `make_step`; nothing has then changed.
+/// `NoMemory`, as for `make_step`. The state is then unchanged.
 pub(crate) fn make_call<'a>(
     alloc: Global,
     session: &mut Session,
@@ -87,11 +88,11 @@ pub(crate) fn make_call<'a>(
     })
 }
 
-/// Makes a step of a process, and keeps what its lines tell of the state before it. The texts of a call are kept in `texts`.
+/// Makes a step of a process, and captures the state before it. The texts of a call are kept in `texts`.
 ///
 /// # Errors
 ///
-/// `NoMemory` where memory was refused for the program of an execve(2); nothing has then changed.
+/// `NoMemory`, if there is no memory for the program of an execve(2). The state is then unchanged.
 pub fn make_step<'a>(
     alloc: Global,
     session: &mut Session,

@@ -1,4 +1,4 @@
-//! What bytes are that a call moved.
+//! The meaning of the bytes that a call moved.
 ghost use Rattle.std.specs.Prelude.{◌≡◌, ◌≤◌, ◌++◌, [], ◌∷◌, length, codes, drop, flat_map, option_map, slice_index, take, IfSome, OnOk, OnErr};
 ghost use Rattle.pv_explain.specs.Parts.{file_at, moved_by_call, moved_part, node_text};
 ghost use Rattle.pv_explain.specs.Moved.{HasSize, IsMoved};
@@ -9,23 +9,23 @@ ghost use Rattle.pv_model.specs.CallRef.{call_of};
 ghost use Rattle.pv_model.specs.Image.{number_of};
 ghost use Rattle.pv_model.specs.Stream.{Rose};
 ghost use Rattle.pv_model.specs.Trace.{quote};
-ghost use Rattle.pv_streams.specs.Sinks.{and_all, TellsBeginning};
-ghost use Rattle.pv_trace.specs.Told.{moved_words_of};
+ghost use Rattle.pv_streams.specs.Sinks.{and_all, WritesPrefix};
+ghost use Rattle.pv_trace.specs.Reported.{moved_words_of};
 
 use pv_answers::{Decimal, Fragment, Line as AnswerLine, NodeWords, Plain, Quoted};
 use pv_calls_state::Parts;
 use pv_model::CallRef;
 use pv_streams::{Failed, Sink, write_whole};
-use pv_trace::{Line, LineBuffer, Way, Word, write_line_on};
+use pv_trace::{Direction, Line, LineBuffer, Word, write_line_on};
 
-// The number of two bytes, the least first.
+// Returns the number in two bytes, the lowest first.
 fn number_of_two(low: u8, high: u8) -> u32
     ensures { result ≡ number_of (low ∷ high ∷ []) }
 {
     u32::from(low) + 256 * u32::from(high)
 }
 
-// The number of four bytes, the least first.
+// Returns the number in four bytes, the lowest first.
 fn number_of_four(first: u8, second: u8, third: u8, fourth: u8) -> u32
     ensures { result ≡ number_of (first ∷ second ∷ third ∷ fourth ∷ []) }
 {
@@ -33,7 +33,7 @@ fn number_of_four(first: u8, second: u8, third: u8, fourth: u8) -> u32
     u32::from(first) + 256 * (u32::from(second) + 256 * upper)
 }
 
-// The word for what a node is, by its number in a status.
+// Returns the word for a kind of node, given its number in the bytes of stat(2).
 fn sort_word(sort: u8) -> &'static [u8]
     ensures { result.now ≡ sort_words sort }
 {
@@ -45,7 +45,7 @@ fn sort_word(sort: u8) -> &'static [u8]
     }
 }
 
-// What stat(2) tells of a node.
+// The status of a node, as stat(2) reports it.
 #[derive(Clone, Copy)]
 struct Status {
     sort: u8,
@@ -53,7 +53,7 @@ struct Status {
     size: u32,
 }
 
-// What the eight bytes that stat(2) gave tell.
+// Decodes the eight bytes of stat(2).
 fn status_of(bytes: &[u8]) -> Status
     requires { length bytes.now ≡ 8 }
     ensures sort { result.sort ≡ slice_index bytes.now 0 }
@@ -70,12 +70,12 @@ fn status_of(bytes: &[u8]) -> Status
     }
 }
 
-// Writes the line of bytes that stat(2) gave.
+// Writes the line of bytes from stat(2).
 #[tactic(auto, unfolding(pv_model::specs::Trace::text_line))]
 fn write_status<W: Sink>(out: &mut W, pid: u32, bytes: &[u8]) -> Result<(), Failed>
     requires { length bytes.now ≡ 8 }
     ensures whole { OnOk result (W.written out.new ≡ and_all (W.written out.old) (answer_line_bytes (answer_line pid (codes "TEXT") (status_words bytes.now)))) }
-    ensures beginning { OnErr result (TellsBeginning (answer_line_bytes (answer_line pid (codes "TEXT") (status_words bytes.now))) (W.written out.old) (W.written out.new)) }
+    ensures prefix { OnErr result (WritesPrefix (answer_line_bytes (answer_line pid (codes "TEXT") (status_words bytes.now))) (W.written out.old) (W.written out.new)) }
     ensures failed { OnErr result (Rose (W.failures out.old) (W.failures out.new)) }
     ensures quiet { OnOk result (W.failures out.new ≡ W.failures out.old) }
 {
@@ -94,7 +94,7 @@ fn write_status<W: Sink>(out: &mut W, pid: u32, bytes: &[u8]) -> Result<(), Fail
     line.write(out)
 }
 
-// The status that wait(2) tells: a code, or the signal.
+// The status that wait(2) reports: an exit code, or the signal.
 #[derive(Clone, Copy)]
 struct EndText(u32);
 
@@ -112,12 +112,12 @@ impl Fragment for EndText {
     }
 }
 
-// Writes the line of bytes that wait(2) gave.
+// Writes the line of bytes from wait(2).
 #[tactic(auto, unfolding(pv_model::specs::Trace::text_line))]
 fn write_ended<W: Sink>(out: &mut W, pid: u32, bytes: &[u8]) -> Result<(), Failed>
     requires { length bytes.now ≡ 4 }
     ensures whole { OnOk result (W.written out.new ≡ and_all (W.written out.old) (answer_line_bytes (answer_line pid (codes "TEXT") (ended_words (number_of bytes.now))))) }
-    ensures beginning { OnErr result (TellsBeginning (answer_line_bytes (answer_line pid (codes "TEXT") (ended_words (number_of bytes.now)))) (W.written out.old) (W.written out.new)) }
+    ensures prefix { OnErr result (WritesPrefix (answer_line_bytes (answer_line pid (codes "TEXT") (ended_words (number_of bytes.now)))) (W.written out.old) (W.written out.new)) }
     ensures failed { OnErr result (Rose (W.failures out.old) (W.failures out.new)) }
     ensures quiet { OnOk result (W.failures out.new ≡ W.failures out.old) }
 {
@@ -132,7 +132,7 @@ fn write_ended<W: Sink>(out: &mut W, pid: u32, bytes: &[u8]) -> Result<(), Faile
     line.write(out)
 }
 
-// The node of an open file, where there is one.
+// The node of an open file, if there is one.
 #[derive(Clone, Copy)]
 struct FileNode<'a> {
     parts: &'a Parts,
@@ -157,7 +157,7 @@ impl<'a> Fragment for FileNode<'a> {
     }
 }
 
-// Writes the line of bytes that were read or written, with the node that they are of.
+// Writes the line of bytes that were read or written, with their node.
 #[tactic(auto, unfolding(pv_model::specs::Trace::text_line))]
 fn write_content<W: Sink>(
     out: &mut W,
@@ -167,7 +167,7 @@ fn write_content<W: Sink>(
     bytes: &[u8],
 ) -> Result<(), Failed>
     ensures whole { OnOk result (W.written out.new ≡ and_all (W.written out.old) (answer_line_bytes (answer_line pid (codes "TEXT") (quote bytes.now ++ node_text parts.now (file_at parts.now file))))) }
-    ensures beginning { OnErr result (TellsBeginning (answer_line_bytes (answer_line pid (codes "TEXT") (quote bytes.now ++ node_text parts.now (file_at parts.now file)))) (W.written out.old) (W.written out.new)) }
+    ensures prefix { OnErr result (WritesPrefix (answer_line_bytes (answer_line pid (codes "TEXT") (quote bytes.now ++ node_text parts.now (file_at parts.now file)))) (W.written out.old) (W.written out.new)) }
     ensures failed { OnErr result (Rose (W.failures out.old) (W.failures out.new)) }
     ensures quiet { OnOk result (W.failures out.new ≡ W.failures out.old) }
 {
@@ -183,7 +183,7 @@ fn write_content<W: Sink>(
 #[tactic(auto, unfolding(pv_model::specs::Trace::text_line))]
 fn write_text<W: Sink>(out: &mut W, pid: u32, bytes: &[u8]) -> Result<(), Failed>
     ensures whole { OnOk result (W.written out.new ≡ and_all (W.written out.old) (answer_line_bytes (answer_line pid (codes "TEXT") (quote bytes.now)))) }
-    ensures beginning { OnErr result (TellsBeginning (answer_line_bytes (answer_line pid (codes "TEXT") (quote bytes.now))) (W.written out.old) (W.written out.new)) }
+    ensures prefix { OnErr result (WritesPrefix (answer_line_bytes (answer_line pid (codes "TEXT") (quote bytes.now))) (W.written out.old) (W.written out.new)) }
     ensures failed { OnErr result (Rose (W.failures out.old) (W.failures out.new)) }
     ensures quiet { OnOk result (W.failures out.new ≡ W.failures out.old) }
 {
@@ -195,7 +195,7 @@ fn write_text<W: Sink>(out: &mut W, pid: u32, bytes: &[u8]) -> Result<(), Failed
     line.write(out)
 }
 
-// Writes the line of what bytes are that a call moved.
+// Writes the line with the meaning of bytes that a call moved.
 fn write_moved<W: Sink>(
     out: &mut W,
     pid: u32,
@@ -206,7 +206,7 @@ fn write_moved<W: Sink>(
 ) -> Result<(), Failed>
     requires { HasSize (call_of call) bytes.now }
     ensures whole { OnOk result (W.written out.new ≡ and_all (W.written out.old) (answer_line_bytes (answer_line pid (codes "TEXT") (moved_by_call parts.now file (call_of call.entry) bytes.now)))) }
-    ensures beginning { OnErr result (TellsBeginning (answer_line_bytes (answer_line pid (codes "TEXT") (moved_by_call parts.now file (call_of call.entry) bytes.now))) (W.written out.old) (W.written out.new)) }
+    ensures prefix { OnErr result (WritesPrefix (answer_line_bytes (answer_line pid (codes "TEXT") (moved_by_call parts.now file (call_of call.entry) bytes.now))) (W.written out.old) (W.written out.new)) }
     ensures failed { OnErr result (Rose (W.failures out.old) (W.failures out.new)) }
     ensures quiet { OnOk result (W.failures out.new ≡ W.failures out.old) }
 {
@@ -218,13 +218,13 @@ fn write_moved<W: Sink>(
     }
 }
 
-/// Writes the line of bytes that a call moved, and what they are, where there are some. `file` is the open file that it read or
-/// wrote.
+/// Writes the GIO line of the bytes that a call moved and the line with their meaning, if there are bytes. `file` is
+/// the open file that the call read or wrote.
 ///
 /// # Errors
 ///
-/// `Failed` where a write failed: the sink was given a beginning of the lines.
-#[tactic(auto, using(pv_streams::proofs::Telling::written_both, pv_streams::proofs::Telling::begins_first, pv_streams::proofs::Telling::begins_then, pv_streams::proofs::Telling::written_none))]
+/// `Failed`, if a write failed. The sink received a prefix of the lines.
+#[tactic(auto, using(pv_streams::proofs::Reporting::written_both, pv_streams::proofs::Reporting::begins_first, pv_streams::proofs::Reporting::begins_then, pv_streams::proofs::Reporting::written_none))]
 pub(crate) fn write_moved_part<W: Sink>(
     out: &mut W,
     line_buffer: &mut LineBuffer,
@@ -232,21 +232,21 @@ pub(crate) fn write_moved_part<W: Sink>(
     parts: &Parts,
     file: Option<usize>,
     call: CallRef<'_>,
-    told: Option<(Way, &[u8])>,
+    reported: Option<(Direction, &[u8])>,
 ) -> Result<(), Failed>
-    requires few { IfSome told (λ moved. length moved.1.now ≤ BUFFER) }
-    requires sizes { IfSome told (λ moved. IsMoved (call_of call) moved.1.now) }
-    ensures whole { OnOk result (W.written out.new ≡ and_all (W.written out.old) (answer_bytes (flat_map (moved_part pid parts.now file (call_of call.entry)) (moved_words_of (option_map (λ moved. (moved.0, moved.1.now)) told.entry))))) }
-    ensures beginning { OnErr result (TellsBeginning (answer_bytes (flat_map (moved_part pid parts.now file (call_of call.entry)) (moved_words_of (option_map (λ moved. (moved.0, moved.1.now)) told.entry)))) (W.written out.old) (W.written out.new)) }
+    requires few { IfSome reported (λ moved. length moved.1.now ≤ BUFFER) }
+    requires sizes { IfSome reported (λ moved. IsMoved (call_of call) moved.1.now) }
+    ensures whole { OnOk result (W.written out.new ≡ and_all (W.written out.old) (answer_bytes (flat_map (moved_part pid parts.now file (call_of call.entry)) (moved_words_of (option_map (λ moved. (moved.0, moved.1.now)) reported.entry))))) }
+    ensures prefix { OnErr result (WritesPrefix (answer_bytes (flat_map (moved_part pid parts.now file (call_of call.entry)) (moved_words_of (option_map (λ moved. (moved.0, moved.1.now)) reported.entry)))) (W.written out.old) (W.written out.new)) }
     ensures failed { OnErr result (Rose (W.failures out.old) (W.failures out.new)) }
     ensures quiet { OnOk result (W.failures out.new ≡ W.failures out.old) }
 {
-    let Some((way, bytes)) = told else {
+    let Some((direction, bytes)) = reported else {
         return Ok(());
     };
     let line = Line {
         pid,
-        word: Word::Gio(way, bytes),
+        word: Word::Gio(direction, bytes),
     };
     write_line_on(out, line_buffer, &line)?;
     if bytes.is_empty() {

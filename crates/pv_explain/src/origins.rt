@@ -1,4 +1,4 @@
-//! At which line each entry of a table was set.
+//! The lines at which table entries were set.
 ghost use Rattle.std.specs.Prelude.{◌≡◌, ◌<◌, ◌≤◌, ◌&&◌, ◌==◌, not, map, filter, find as first_where, is_some, length, option_copied, slice_set, IfOk, IfSome, [], vec_capacity};
 ghost use Rattle.std.specs.FinMap.Entries.{put};
 ghost use Rattle.std.specs.Ordering.{nat_cmp};
@@ -7,7 +7,7 @@ ghost use Rattle.pv_model.specs.Answers.Settings.{settings_of, set_at, after_exe
 ghost use Rattle.pv_model.specs.CallRef.{call_of};
 ghost use Rattle.pv_model.specs.State.{process_at};
 ghost use Rattle.pv_procs.specs.ProcessTable.{process_in};
-ghost use Rattle.pv_explain.specs.Keeping.{aged, all_of, setting_of, settings_in, settings_told, Agree};
+ghost use Rattle.pv_explain.specs.Keeping.{aged, all_of, setting_of, settings_in, reported_settings, Agree};
 
 use arrayvec::ArrayVec;
 use pv_calls_state::Parts;
@@ -17,16 +17,16 @@ use pv_procs::Processes;
 use std::alloc::{AllocError, Global};
 use std::marker::Model;
 
-/// Where an entry of an unveil table was set.
+/// The origin of an unveil entry.
 #[derive(Clone, Copy, Debug, PartialEq, Eq)]
 pub struct Origin {
-    /// The line at which the process that made the unveil(2) stood, from 1.
+    /// The line of the process that called unveil(2), from 1.
     pub line: u16,
-    /// Whether an execve(2) kept the table since.
+    /// Whether the table was kept over an execve(2) since then.
     pub earlier: bool,
 }
 
-/// A blank for the unused places of a row: line 0 is no program's.
+/// A filler for the unused elements of an array. Line 0 is not a line of any program.
 impl Default for Origin {
     ghost use Rattle.std.specs.Prelude.{◌≡◌, false};
 
@@ -40,17 +40,17 @@ impl Default for Origin {
     }
 }
 
-/// Those of the entries of one process, by the entries' numbers.
+/// The origins of one process's entries, by entry number.
 pub type EntryOrigins = ArrayVec<Origin, UNVEILS>;
 
-// Those of a process.
+// The origins of one process's entries, with its number.
 #[derive(Drop)]
-struct Kept {
+struct ProcessOrigins {
     pid: u32,
     origins: EntryOrigins,
 }
 
-// Another origin of an entry that has one.
+// Replaces the origin of an entry.
 fn replace(origins: &mut EntryOrigins, entry: u8, origin: Origin)
     requires { entry < length origins.old.items }
     ensures { origins.new.items ≡ slice_set origins.old.items entry origin }
@@ -58,7 +58,7 @@ fn replace(origins: &mut EntryOrigins, entry: u8, origin: Origin)
     origins.as_mut_slice()[entry as usize] = origin;
 }
 
-// Another origin of an entry, which may be the next.
+// Sets the origin of an entry, which may be one past the last.
 fn set(origins: &mut EntryOrigins, entry: u8, origin: Origin)
     requires { entry < UNVEILS }
     ensures { settings_in origins.new.items ≡ set_at (settings_in origins.old.items) entry (setting_of origin) }
@@ -70,7 +70,7 @@ fn set(origins: &mut EntryOrigins, entry: u8, origin: Origin)
     }
 }
 
-// The same, of an earlier program.
+// Returns the same origin, marked as of an earlier program.
 fn aged(origin: Origin) -> Origin
     ensures { result ≡ aged origin }
 {
@@ -80,7 +80,7 @@ fn aged(origin: Origin) -> Origin
     }
 }
 
-// All are of an earlier program.
+// Marks all origins as of an earlier program.
 fn age(origins: &mut EntryOrigins)
     ensures { origins.new.items ≡ map aged origins.old.items }
 {
@@ -91,37 +91,38 @@ fn age(origins: &mut EntryOrigins)
     }
 }
 
-// What is kept of a process.
-fn kept_of(kept: &[Kept], pid: u32) -> Option<&Kept>
-    ensures { option_copied result ≡ first_where (λ one. pid == one.pid) kept.now }
+// Returns the record of a process, if there is one.
+fn origins_of_process(preserved: &[ProcessOrigins], pid: u32) -> Option<&ProcessOrigins>
+    ensures { option_copied result ≡ first_where (λ one. pid == one.pid) preserved.now }
 {
-    kept.iter().find(|one| pid == one.pid)
+    preserved.iter().find(|one| pid == one.pid)
 }
 
-// Those of a process, where some are kept of it.
-fn find(kept: &[Kept], pid: u32) -> &[Origin]
-    ensures value { settings_in result.now ≡ settings_of (all_of kept.now) pid }
+// Returns the origins of a process, or none if there is no record of it.
+fn find(preserved: &[ProcessOrigins], pid: u32) -> &[Origin]
+    ensures value { settings_in result.now ≡ settings_of (all_of preserved.now) pid }
     ensures few { length result.now ≤ UNVEILS }
 {
-    match kept_of(kept, pid) {
+    match origins_of_process(preserved, pid) {
         Some(one) => one.origins.as_slice(),
         None => &[],
     }
 }
 
-// Keeps what is of other processes that are live.
-fn keep_others(kept: &mut Vec<Kept>, processes: &Processes, pid: u32)
-    ensures others { kept.new.items ≡ filter (λ one. not (one.pid == pid) && is_some (process_in processes.now one.pid)) kept.old.items }
-    ensures room { vec_capacity kept.new ≡ vec_capacity kept.old }
+// Keeps only the records of other processes that are live.
+fn keep_others(preserved: &mut Vec<ProcessOrigins>, processes: &Processes, pid: u32)
+    ensures others { preserved.new.items ≡ filter (λ one. not (one.pid == pid) && is_some (process_in processes.now one.pid)) preserved.old.items }
+    ensures room { vec_capacity preserved.new ≡ vec_capacity preserved.old }
 {
-    kept.retain(|one| one.pid != pid && processes.live(one.pid));
+    preserved.retain(|one| one.pid != pid && processes.live(one.pid));
 }
 
-/// The line at which each entry of each table was set, of the processes that are live, and whether in an earlier program.
+/// The origin of each table entry of the live processes: the line at which it was set, and whether an earlier program
+/// set it.
 #[derive(Drop)]
 pub struct Origins {
-    // What is kept of a process that has ended goes before another comes.
-    kept: Vec<Kept>,
+    // The record of a process that has ended is removed before another is added.
+    preserved: Vec<ProcessOrigins>,
 }
 
 impl Model for Origins {
@@ -133,34 +134,34 @@ impl Model for Origins {
     ghost use Rattle.pv_model.specs.declared.limits.TheConstants.{PROCESSES};
     ghost use Rattle.pv_explain.specs.Keeping.{all_of, is_once};
 
-    ghost view = { λ o. all_of o.kept.items };
+    ghost view = { λ o. all_of o.preserved.items };
 
-    ghost invariant = { λ o. (is_once (all_of o.kept.items) ≡ true) × (PROCESSES ≤ vec_capacity o.kept) };
+    ghost invariant = { λ o. (is_once (all_of o.preserved.items) ≡ true) × (PROCESSES ≤ vec_capacity o.preserved) };
 }
 
 impl Origins {
-    /// Nothing is kept of any process.
+    /// Returns an empty set of records.
     ///
     /// # Errors
     ///
-    /// Where there is no memory for what is kept of 32 processes. No other call of `Origins` asks for any.
+    /// `AllocError`, if there is no memory for the records of 32 processes. No other method of `Origins` allocates.
     pub fn new(alloc: Global) -> Result<Origins, AllocError>
         ensures { IfOk result (λ origins. origins ≡ []) }
     {
         Ok(Origins {
-            kept: Vec::with_capacity(alloc, PROCESSES)?,
+            preserved: Vec::with_capacity(alloc, PROCESSES)?,
         })
     }
 
-    /// Those of the entries of a process, by the entries' numbers: none where nothing is kept of it.
+    /// Returns the origins of a process's entries, by entry number, or none if there is no record of the process.
     pub fn of(&self, pid: u32) -> &[Origin]
         ensures value { settings_in result.now ≡ settings_of self.now pid }
         ensures few { length result.now ≤ UNVEILS }
     {
-        find(self.kept.as_slice(), pid)
+        find(self.preserved.as_slice(), pid)
     }
 
-    // A copy of those of a process.
+    // Returns a copy of the origins of a process.
     fn copy_of(&self, pid: u32) -> EntryOrigins
         ensures { settings_in result.items ≡ settings_of self.now pid }
     {
@@ -169,7 +170,8 @@ impl Origins {
         copy
     }
 
-    // Those of a process that has executed a program: of a table that was kept they are of an earlier one.
+    // Returns the origins of a process after it has executed a program. If the table was kept, they are marked as of an
+    // earlier program.
     fn after_execve(&self, parts: &Parts, pid: u32) -> EntryOrigins
         ensures { settings_in result.items ≡ after_execve (process_at parts.now pid) (settings_of self.now pid) }
     {
@@ -184,21 +186,22 @@ impl Origins {
         origins
     }
 
-    // Keeps these of a process, where it is live.
+    // Records the origins of a process, if it is live.
     fn put(&mut self, parts: &Parts, pid: u32, origins: EntryOrigins)
         ensures { Agree parts.now self.new (put nat_cmp pid (settings_in origins.items) self.old) }
     {
         let processes = parts.processes();
         if processes.live(pid) {
             processes.invariant();
-            keep_others(&mut self.kept, processes, pid);
-            self.kept.push_reserved(Kept { pid, origins });
+            keep_others(&mut self.preserved, processes, pid);
+            self.preserved
+                .push_reserved(ProcessOrigins { pid, origins });
         }
     }
 
-    /// What a call of a process leaves, which has been made: `line` is where the process stood before it, and `given` the
-    /// entry to which it gave permissions, if it was an unveil(2) that succeeded.
-    #[tactic(auto, unfolding(crate::specs::Keeping::settings_told))]
+    /// Updates the records after a call of a process. `line` is the line of the process before the call. `given` is the
+    /// entry whose permissions the call set, if it was a successful unveil(2).
+    #[tactic(auto, unfolding(crate::specs::Keeping::reported_settings))]
     pub fn follow(
         &mut self,
         parts: &Parts,
@@ -209,7 +212,7 @@ impl Origins {
         given: Option<u8>,
     )
         requires { IfSome given (λ k. k < UNVEILS) }
-        ensures { Agree parts.now self.new (settings_told pid line (process_at parts.now pid) given self.old (call_of call.entry) outcome) }
+        ensures { Agree parts.now self.new (reported_settings pid line (process_at parts.now pid) given self.old (call_of call.entry) outcome) }
     {
         match (call, outcome) {
             (CallRef::Fork, Outcome::Value(child)) => {

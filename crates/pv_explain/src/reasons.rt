@@ -1,4 +1,4 @@
-//! Why a promise or a table decided.
+//! The reasons for the decision of a promise or a table.
 ghost use Rattle.std.specs.Prelude.{◌≡◌, codes, flat_map, map, IfSome, IsTrue, OnOk, OnErr, Some, option_copied};
 ghost use Rattle.std.specs.Result.{is_err};
 ghost use Rattle.pv_explain.specs.Basis.{set_of, sets_of, table_of};
@@ -11,8 +11,8 @@ ghost use Rattle.pv_model.specs.Promises.{is_lenient, narrow_promises};
 ghost use Rattle.pv_model.specs.Stream.{Rose};
 ghost use Rattle.pv_model.specs.Tree.{is_directory_at};
 ghost use Rattle.pv_promises.specs.Pledge.{bits_of};
-ghost use Rattle.pv_streams.specs.Sinks.{and_all, TellsBeginning};
-ghost use Rattle.pv_trace.specs.Told.{promise_words_of, unveil_words_of};
+ghost use Rattle.pv_streams.specs.Sinks.{and_all, WritesPrefix};
+ghost use Rattle.pv_trace.specs.Reported.{promise_words_of, unveil_words_of};
 ghost use Rattle.pv_trace.specs.Words.{promise_verdict_of, unveil_verdict_of};
 ghost use Rattle.pv_unveil.specs.Up.{directory_of};
 
@@ -25,7 +25,7 @@ use pv_trace::{
     Line, LineBuffer, PromiseVerdict, UnveilVerdict, Word, write_call_name, write_line_on,
 };
 
-// The promises that an open needs, as a keyword list.
+// Returns the promises that an open needs, as a keyword list.
 fn needs_of_open(flags: OpenFlags) -> &'static [u8]
     ensures { result.now ≡ keyword_list (map need_text (needs_of_open flags)) }
 {
@@ -39,7 +39,7 @@ fn needs_of_open(flags: OpenFlags) -> &'static [u8]
     }
 }
 
-// The promises that a call needs, as a keyword list: `rpath|wpath` where one of the two would do.
+// Returns the promises that a call needs, as a keyword list, with `rpath|wpath` if either of the two is enough.
 #[tactic(auto, unfolding(pv_model::specs::Needs::needs))]
 fn needs_of(call: CallRef<'_>) -> &'static [u8]
     ensures { result.now ≡ keyword_list (map need_text (needs (call_of call.entry))) }
@@ -74,7 +74,7 @@ fn needs_of(call: CallRef<'_>) -> &'static [u8]
     }
 }
 
-// The set that a text asks for, where it asks for one.
+// Returns the set of promises that a text asks for, if there is a text.
 fn asked(text: Option<&Text>) -> Option<Promises>
     ensures { bits_of result ≡ asked_set (option_copied text.entry) }
 {
@@ -84,7 +84,7 @@ fn asked(text: Option<&Text>) -> Option<Promises>
     }
 }
 
-// Whether the first value of a pledge is refused.
+// Returns whether the first value of a pledge(2) is refused.
 fn is_first_refused(pledge: Pledge, asked: Option<Promises>) -> bool
     ensures { result ≡ is_err (narrow_promises (is_lenient pledge.promises) pledge.promises (bits_of asked)) }
 {
@@ -107,7 +107,7 @@ impl<'a> Fragment for CallName<'a> {
     }
 }
 
-// Writes the line of what a call needs and what is held.
+// Writes the line of the promises that a call needs and the promises held.
 #[tactic(auto, unfolding(pv_model::specs::Trace::text_line))]
 fn write_lack<W: Sink>(
     out: &mut W,
@@ -116,7 +116,7 @@ fn write_lack<W: Sink>(
     held: Option<Promises>,
 ) -> Result<(), Failed>
     ensures whole { OnOk result (W.written out.new ≡ and_all (W.written out.old) (answer_line_bytes (why pid (lack_text (call_of call.entry) (bits_of held))))) }
-    ensures beginning { OnErr result (TellsBeginning (answer_line_bytes (why pid (lack_text (call_of call.entry) (bits_of held)))) (W.written out.old) (W.written out.new)) }
+    ensures prefix { OnErr result (WritesPrefix (answer_line_bytes (why pid (lack_text (call_of call.entry) (bits_of held)))) (W.written out.old) (W.written out.new)) }
     ensures failed { OnErr result (Rose (W.failures out.old) (W.failures out.new)) }
     ensures quiet { OnOk result (W.failures out.new ≡ W.failures out.old) }
 {
@@ -134,7 +134,7 @@ fn write_lack<W: Sink>(
     line.write(out)
 }
 
-// Writes the line of what was asked for one of two values, and what it was.
+// Writes the line of one of two values: what was requested and what was held.
 #[tactic(auto, unfolding(pv_model::specs::Trace::text_line))]
 fn write_value<W: Sink>(
     out: &mut W,
@@ -144,7 +144,7 @@ fn write_value<W: Sink>(
     held: Option<Promises>,
 ) -> Result<(), Failed>
     ensures whole { OnOk result (W.written out.new ≡ and_all (W.written out.old) (answer_line_bytes (why pid (increase_text what.now (bits_of asked) (bits_of held))))) }
-    ensures beginning { OnErr result (TellsBeginning (answer_line_bytes (why pid (increase_text what.now (bits_of asked) (bits_of held)))) (W.written out.old) (W.written out.new)) }
+    ensures prefix { OnErr result (WritesPrefix (answer_line_bytes (why pid (increase_text what.now (bits_of asked) (bits_of held)))) (W.written out.old) (W.written out.new)) }
     ensures failed { OnErr result (Rose (W.failures out.old) (W.failures out.new)) }
     ensures quiet { OnOk result (W.failures out.new ≡ W.failures out.old) }
 {
@@ -162,7 +162,7 @@ fn write_value<W: Sink>(
     line.write(out)
 }
 
-// What a pledge asks for, for itself and for what it executes: None of another call.
+// Returns the promises and execpromises that a pledge(2) requests, or `None` for another call.
 fn values_asked(call: CallRef<'_>) -> Option<(Option<Promises>, Option<Promises>)>
     ensures { sets_of result ≡ values_asked (call_of call.entry) }
 {
@@ -172,7 +172,7 @@ fn values_asked(call: CallRef<'_>) -> Option<(Option<Promises>, Option<Promises>
     }
 }
 
-// Writes the line of which value of a pledge was refused, and why.
+// Writes the line of the value of a pledge(2) that was refused, and the reason.
 #[tactic(auto, unfolding(pv_model::specs::Trace::text_line))]
 fn write_increase<W: Sink>(
     out: &mut W,
@@ -181,7 +181,7 @@ fn write_increase<W: Sink>(
     asked: Option<(Option<Promises>, Option<Promises>)>,
 ) -> Result<(), Failed>
     ensures whole { OnOk result (W.written out.new ≡ and_all (W.written out.old) (answer_line_bytes (why pid (increase_by pledge (sets_of asked))))) }
-    ensures beginning { OnErr result (TellsBeginning (answer_line_bytes (why pid (increase_by pledge (sets_of asked)))) (W.written out.old) (W.written out.new)) }
+    ensures prefix { OnErr result (WritesPrefix (answer_line_bytes (why pid (increase_by pledge (sets_of asked)))) (W.written out.old) (W.written out.new)) }
     ensures failed { OnErr result (Rose (W.failures out.old) (W.failures out.new)) }
     ensures quiet { OnOk result (W.failures out.new ≡ W.failures out.old) }
 {
@@ -206,7 +206,7 @@ fn write_increase<W: Sink>(
     }
 }
 
-// Writes the line of why a promise decided.
+// Writes the line with the reason why a promise decided.
 fn write_promise_line<W: Sink>(
     out: &mut W,
     pid: u32,
@@ -215,7 +215,7 @@ fn write_promise_line<W: Sink>(
     verdict: PromiseVerdict,
 ) -> Result<(), Failed>
     ensures whole { OnOk result (W.written out.new ≡ and_all (W.written out.old) (answer_line_bytes (why pid (promise_reason_by pledge (call_of call.entry) (promise_verdict_of verdict))))) }
-    ensures beginning { OnErr result (TellsBeginning (answer_line_bytes (why pid (promise_reason_by pledge (call_of call.entry) (promise_verdict_of verdict)))) (W.written out.old) (W.written out.new)) }
+    ensures prefix { OnErr result (WritesPrefix (answer_line_bytes (why pid (promise_reason_by pledge (call_of call.entry) (promise_verdict_of verdict)))) (W.written out.old) (W.written out.new)) }
     ensures failed { OnErr result (Rose (W.failures out.old) (W.failures out.new)) }
     ensures quiet { OnOk result (W.failures out.new ≡ W.failures out.old) }
 {
@@ -227,27 +227,27 @@ fn write_promise_line<W: Sink>(
     }
 }
 
-/// Writes the line of a promise that decided a call, and the reason: what the call needs and what was held, or what was asked
-/// and what was held. `pledge` is what the process had promised before the call.
+/// Writes the PLDG line of a promise that decided a call, and the reason: the promises that the call needs, or that it
+/// requests, and those held. `pledge` has the promises of the process before the call.
 ///
 /// # Errors
 ///
-/// `Failed` where a write failed: the sink was given a beginning of the lines.
-#[tactic(auto, using(pv_streams::proofs::Telling::written_both, pv_streams::proofs::Telling::begins_first, pv_streams::proofs::Telling::begins_then, pv_streams::proofs::Telling::written_none))]
+/// `Failed`, if a write failed. The sink received a prefix of the lines.
+#[tactic(auto, using(pv_streams::proofs::Reporting::written_both, pv_streams::proofs::Reporting::begins_first, pv_streams::proofs::Reporting::begins_then, pv_streams::proofs::Reporting::written_none))]
 pub(crate) fn write_promise_part<W: Sink>(
     out: &mut W,
     line_buffer: &mut LineBuffer,
     pid: u32,
     pledge: Pledge,
     call: CallRef<'_>,
-    told: Option<(Promise, PromiseVerdict)>,
+    reported: Option<(Promise, PromiseVerdict)>,
 ) -> Result<(), Failed>
-    ensures whole { OnOk result (W.written out.new ≡ and_all (W.written out.old) (answer_bytes (flat_map (promise_part pid pledge (call_of call.entry)) (promise_words_of (call_of call.entry) told)))) }
-    ensures beginning { OnErr result (TellsBeginning (answer_bytes (flat_map (promise_part pid pledge (call_of call.entry)) (promise_words_of (call_of call.entry) told))) (W.written out.old) (W.written out.new)) }
+    ensures whole { OnOk result (W.written out.new ≡ and_all (W.written out.old) (answer_bytes (flat_map (promise_part pid pledge (call_of call.entry)) (promise_words_of (call_of call.entry) reported)))) }
+    ensures prefix { OnErr result (WritesPrefix (answer_bytes (flat_map (promise_part pid pledge (call_of call.entry)) (promise_words_of (call_of call.entry) reported))) (W.written out.old) (W.written out.new)) }
     ensures failed { OnErr result (Rose (W.failures out.old) (W.failures out.new)) }
     ensures quiet { OnOk result (W.failures out.new ≡ W.failures out.old) }
 {
-    let Some((promise, verdict)) = told else {
+    let Some((promise, verdict)) = reported else {
         return Ok(());
     };
     let line = Line {
@@ -258,7 +258,7 @@ pub(crate) fn write_promise_part<W: Sink>(
     write_promise_line(out, pid, pledge, call, verdict)
 }
 
-// Writes the line of an unveil that would widen an entry.
+// Writes the line of an unveil(2) that would widen an entry.
 #[tactic(auto, unfolding(pv_model::specs::Trace::text_line))]
 fn write_widening<W: Sink>(
     out: &mut W,
@@ -267,7 +267,7 @@ fn write_widening<W: Sink>(
     asked: Perms,
 ) -> Result<(), Failed>
     ensures whole { OnOk result (W.written out.new ≡ and_all (W.written out.old) (answer_line_bytes (why basis.now.pid (widening_by (table_of basis.now) (set_of basis.now) entry asked)))) }
-    ensures beginning { OnErr result (TellsBeginning (answer_line_bytes (why basis.now.pid (widening_by (table_of basis.now) (set_of basis.now) entry asked))) (W.written out.old) (W.written out.new)) }
+    ensures prefix { OnErr result (WritesPrefix (answer_line_bytes (why basis.now.pid (widening_by (table_of basis.now) (set_of basis.now) entry asked))) (W.written out.old) (W.written out.new)) }
     ensures failed { OnErr result (Rose (W.failures out.old) (W.failures out.new)) }
     ensures quiet { OnOk result (W.failures out.new ≡ W.failures out.old) }
 {
@@ -291,7 +291,7 @@ fn write_widening<W: Sink>(
 #[tactic(auto, unfolding(pv_model::specs::Trace::text_line))]
 fn write_locked<W: Sink>(out: &mut W, pid: u32) -> Result<(), Failed>
     ensures whole { OnOk result (W.written out.new ≡ and_all (W.written out.old) (answer_line_bytes (why pid (codes "the table is locked")))) }
-    ensures beginning { OnErr result (TellsBeginning (answer_line_bytes (why pid (codes "the table is locked"))) (W.written out.old) (W.written out.new)) }
+    ensures prefix { OnErr result (WritesPrefix (answer_line_bytes (why pid (codes "the table is locked"))) (W.written out.old) (W.written out.new)) }
     ensures failed { OnErr result (Rose (W.failures out.old) (W.failures out.new)) }
     ensures quiet { OnOk result (W.failures out.new ≡ W.failures out.old) }
 {
@@ -303,8 +303,8 @@ fn write_locked<W: Sink>(out: &mut W, pid: u32) -> Result<(), Failed>
     line.write(out)
 }
 
-// The lines of how the judgement of a place came about, where there is one.
-#[tactic(auto, using(pv_streams::proofs::Telling::written_none))]
+// Writes the lines of the derivation of a table's decision on a place, if there is a place.
+#[tactic(auto, using(pv_streams::proofs::Reporting::written_none))]
 fn write_judgement<W: Sink>(
     out: &mut W,
     basis: &Basis<'_>,
@@ -313,7 +313,7 @@ fn write_judgement<W: Sink>(
 ) -> Result<(), Failed>
     requires { IfSome place (λ place. IsTrue (is_directory_at basis.now.tree.now.tree (directory_of place.now))) }
     ensures whole { OnOk result (W.written out.new ≡ and_all (W.written out.old) (answer_bytes (judgement_lines basis.now.tree.now.tree (table_of basis.now) (set_of basis.now) basis.now.pid asked (option_copied place.entry)))) }
-    ensures beginning { OnErr result (TellsBeginning (answer_bytes (judgement_lines basis.now.tree.now.tree (table_of basis.now) (set_of basis.now) basis.now.pid asked (option_copied place.entry))) (W.written out.old) (W.written out.new)) }
+    ensures prefix { OnErr result (WritesPrefix (answer_bytes (judgement_lines basis.now.tree.now.tree (table_of basis.now) (set_of basis.now) basis.now.pid asked (option_copied place.entry))) (W.written out.old) (W.written out.new)) }
     ensures failed { OnErr result (Rose (W.failures out.old) (W.failures out.new)) }
     ensures quiet { OnOk result (W.failures out.new ≡ W.failures out.old) }
 {
@@ -323,7 +323,7 @@ fn write_judgement<W: Sink>(
     }
 }
 
-// The lines of why a table decided.
+// Writes the lines with the reason why a table decided.
 fn write_table_reasons<W: Sink>(
     out: &mut W,
     basis: &Basis<'_>,
@@ -333,7 +333,7 @@ fn write_table_reasons<W: Sink>(
 ) -> Result<(), Failed>
     requires { IfSome place (λ place. IsTrue (is_directory_at basis.now.tree.now.tree (directory_of place.now))) }
     ensures whole { OnOk result (W.written out.new ≡ and_all (W.written out.old) (answer_bytes (table_reasons basis.now.tree.now.tree (table_of basis.now) (set_of basis.now) basis.now.pid (call_of call.entry) (option_copied place.entry) (unveil_verdict_of verdict)))) }
-    ensures beginning { OnErr result (TellsBeginning (answer_bytes (table_reasons basis.now.tree.now.tree (table_of basis.now) (set_of basis.now) basis.now.pid (call_of call.entry) (option_copied place.entry) (unveil_verdict_of verdict))) (W.written out.old) (W.written out.new)) }
+    ensures prefix { OnErr result (WritesPrefix (answer_bytes (table_reasons basis.now.tree.now.tree (table_of basis.now) (set_of basis.now) basis.now.pid (call_of call.entry) (option_copied place.entry) (unveil_verdict_of verdict))) (W.written out.old) (W.written out.new)) }
     ensures failed { OnErr result (Rose (W.failures out.old) (W.failures out.new)) }
     ensures quiet { OnOk result (W.failures out.new ≡ W.failures out.old) }
 {
@@ -348,13 +348,13 @@ fn write_table_reasons<W: Sink>(
     }
 }
 
-/// Writes the line of a table that decided a call, and the reason: that it is locked, the entry that an unveil would widen, or
-/// how the judgement of the place of the call's last walk came about.
+/// Writes the UNVL line of a table that decided a call, and the reason: the lock, the entry that an unveil(2) would
+/// widen, or the derivation of the decision on the place of the call's last walk.
 ///
 /// # Errors
 ///
-/// `Failed` where a write failed: the sink was given a beginning of the lines.
-#[tactic(auto, using(pv_streams::proofs::Telling::written_both, pv_streams::proofs::Telling::begins_first, pv_streams::proofs::Telling::begins_then, pv_streams::proofs::Telling::written_none))]
+/// `Failed`, if a write failed. The sink received a prefix of the lines.
+#[tactic(auto, using(pv_streams::proofs::Reporting::written_both, pv_streams::proofs::Reporting::begins_first, pv_streams::proofs::Reporting::begins_then, pv_streams::proofs::Reporting::written_none))]
 pub(crate) fn write_table_part<W: Sink>(
     out: &mut W,
     line_buffer: &mut LineBuffer,
@@ -365,7 +365,7 @@ pub(crate) fn write_table_part<W: Sink>(
 ) -> Result<(), Failed>
     requires { IfSome place (λ place. IsTrue (is_directory_at basis.now.tree.now.tree (directory_of place.now))) }
     ensures whole { OnOk result (W.written out.new ≡ and_all (W.written out.old) (answer_bytes (flat_map (table_part basis.now.tree.now.tree (table_of basis.now) (set_of basis.now) basis.now.pid (call_of call.entry) (option_copied place.entry)) (unveil_words_of (Some verdict))))) }
-    ensures beginning { OnErr result (TellsBeginning (answer_bytes (flat_map (table_part basis.now.tree.now.tree (table_of basis.now) (set_of basis.now) basis.now.pid (call_of call.entry) (option_copied place.entry)) (unveil_words_of (Some verdict)))) (W.written out.old) (W.written out.new)) }
+    ensures prefix { OnErr result (WritesPrefix (answer_bytes (flat_map (table_part basis.now.tree.now.tree (table_of basis.now) (set_of basis.now) basis.now.pid (call_of call.entry) (option_copied place.entry)) (unveil_words_of (Some verdict)))) (W.written out.old) (W.written out.new)) }
     ensures failed { OnErr result (Rose (W.failures out.old) (W.failures out.new)) }
     ensures quiet { OnOk result (W.failures out.new ≡ W.failures out.old) }
 {

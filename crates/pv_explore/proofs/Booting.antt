@@ -1,10 +1,10 @@
--- A machine that is made anew.
+-- The rebuilt machine.
 use Rattle.std.proofs.Common.{◌≡◌, ◌∙◌, sym, ap, subst, [], ◌++◌, Some}
 use Rattle.std.specs.Prelude.{IfOk, Result, Ok, Err}
-use Rattle.pv_explore.specs.Beginnings.{first_of, first_on, state_or}
+use Rattle.pv_explore.specs.FirstMachines.{first_of, first_on, state_or}
 use Rattle.pv_image.proofs.Named.{named_tree-all}
-use Rattle.pv_laws_images.specs.Mounts.{MountsImages}
-use Rattle.pv_laws_trees.specs.Kept.{EachIsNamed}
+use Rattle.pv_laws_trees.specs.Mounts.{MountsImages}
+use Rattle.pv_laws_trees.specs.Preserved.{EachIsNamed}
 use Rattle.pv_model.specs.declared.kernel_fault.BootFault.{BootFault}
 use Rattle.pv_model.specs.Bytes.{Bytes}
 use Rattle.pv_model.specs.Held.{named_tree}
@@ -18,7 +18,7 @@ pub if-ok : {T E : Type 0} {P Q : T → Type 0} (r : Result T E) → ((x : T) �
 if-ok (Ok x) f p = f x p
 if-ok (Err e) f p = tt
 
--- the bytes that are written of a tree mount as it
+-- the image written for a tree mounts as the same tree
 pub mounts-again : (image : Bytes) (t u : Tree) → MountsImages → IsWrittenImageOf image (named_tree u) → u ≡ t → EachIsNamed t → mounted image ≡ Ok t
 mounts-again image t u law as_written same named =
     (law image t).1 (subst (IsWrittenImageOf image) (ap named_tree same ∙ named_tree-all t named) as_written).is_image
@@ -28,7 +28,7 @@ pub boots-again : (image : Bytes) (store : Tree) (session now : State) → mount
 unfolding first_of
 boots-again image store session now mounts boots is = sym (ap first_on mounts ∙ ap (state_or store) boots) ∙ is
 
--- it gave one number
+-- it has given one process number
 pub first-number : (t : Tree) (session : State) → booted t ≡ Ok session → session.last_process ≡ 1
 unfolding booted
 first-number t session is = by (program_in (init_of t)) is

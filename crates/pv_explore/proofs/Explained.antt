@@ -1,4 +1,4 @@
--- The lines of a step of a graph.
+-- The lines of a step in the state graph.
 use Rattle.std.proofs.Common.{◌≡◌, ◌∙◌, ap, ap₂, ℕ, bytes_eq, List, [], ◌++◌, codes, Option, refl}
 use Rattle.std.specs.Prelude.{position}
 use Rattle.pv_explain.specs.Made.{IsMade, made_lines}
@@ -9,19 +9,19 @@ use Rattle.pv_explain.proofs.MadeLines.{made-is}
 use Rattle.pv_explore.specs.Plan.{state_key}
 use Rattle.pv_explore.specs.Vertices.{step_of}
 use Rattle.pv_model.specs.Answers.Explain.{explained_step}
-use Rattle.pv_model.specs.Answers.Graph.{leads_to_text, untold}
+use Rattle.pv_model.specs.Answers.Graph.{leads_to_text, unreported}
 use Rattle.pv_model.specs.Answers.Lines.{answer_bytes, answer_line, answer_line_bytes}
 use Rattle.pv_model.specs.Bytes.{Bytes}
 use Rattle.pv_model.specs.Grammar.Programs.{program_of}
 use Rattle.pv_model.specs.State.{State}
-use Rattle.pv_spelling.specs.Groups.{joined, state_groups}
-use Rattle.pv_spelling.proofs.Grouping.{state-joined}
+use Rattle.pv_state_encoding.specs.Groups.{joined, state_groups}
+use Rattle.pv_state_encoding.proofs.Grouping.{state-joined}
 
--- nothing is said of where an entry was set
-untold-is : (s : State) (pid : ℕ) → explained_step program_of (source_of []) s pid ≡ explained_step program_of untold s pid
-untold-is s pid =
-    let same : (k : ℕ) → source_of [] k ≡ untold k = λ k. refl in
-    let none : source_of [] ≡ untold = λ i k. same k i in
+-- the lines omit the origins of entries
+unreported-is : (s : State) (pid : ℕ) → explained_step program_of (source_of []) s pid ≡ explained_step program_of unreported s pid
+unreported-is s pid =
+    let same : (k : ℕ) → source_of [] k ≡ unreported k = λ k. refl in
+    let none : source_of [] ≡ unreported = λ i k. same k i in
     ap (λ (source : ℕ → Bytes). explained_step program_of source s pid) none
 
 pub step-bytes : (keys : List Bytes) (s : State) (pid : ℕ) (made : MadeStep) (after : State) (groups : List (List Bytes)) (found : Option ℕ) → IsMade s pid made after → groups ≡ state_groups after → found ≡ position (bytes_eq (joined groups)) keys
@@ -29,4 +29,4 @@ pub step-bytes : (keys : List Bytes) (s : State) (pid : ℕ) (made : MadeStep) (
 step-bytes keys s pid made after groups found is groups_is found_is =
     ap₂ (λ (a b : Bytes). a ++ b)
     (ap (λ (o : Option ℕ). answer_line_bytes (answer_line pid (codes "STEP") (leads_to_text o))) (found_is ∙ ap (λ (k : Bytes). position (bytes_eq k) keys) (ap joined groups_is ∙ state-joined after ∙ ap state_key (left-by s pid made after is))))
-    (ap answer_bytes (made-is s pid [] made after is ∙ untold-is s pid))
+    (ap answer_bytes (made-is s pid [] made after is ∙ unreported-is s pid))

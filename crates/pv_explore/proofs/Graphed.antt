@@ -1,4 +1,4 @@
--- What a graph tells, state by state, is how the states hang together.
+-- The lines of the states, one state at a time, are those of the state graph.
 use Rattle.std.proofs.Common.{◌≡◌, ◌∙◌, sym, ap, ap₂, subst, ℕ, zero, suc, ◌+◌, ◌<◌, ◌≤◌, Bool, bytes_eq, true, false, List, [], ◌∷◌, ◌++◌, map, flat_map, length, drop, get_or, slice_get, Option, None, Some, refl, add-one, codes}
 use Rattle.std.specs.Prelude.{position}
 use Rattle.std.specs.Fmt.{decimal}
@@ -6,13 +6,13 @@ use Rattle.std.specs.List.{AllByRecursion}
 use Rattle.std.proofs.lemmas.Grind.{flat_map-append}
 use Rattle.std.proofs.lemmas.List.{drop_all, length-map}
 use Rattle.std.proofs.Math.Seq.{drop-cons}
-use Rattle.pv_explore.specs.Plan.{Kept, first_kept, kept_from, state_key, state_at, live_at, told_from}
+use Rattle.pv_explore.specs.Plan.{Visited, first_visited, visited_from, state_key, state_at, live_at, reported_from}
 use Rattle.pv_explore.specs.Vertices.{found_lines, listed_bytes, step_of, steps_at, vertex_at, vertices_from}
 use Rattle.pv_explore.proofs.KeyLists.{position-mapped}
-use Rattle.pv_explore.proofs.Planned.{Finds, plan-finds, same-known, state_of_found, way_of_found}
+use Rattle.pv_explore.proofs.Planned.{Finds, plan-finds, same-known, state_of_found, witness_of_found}
 use Rattle.pv_model.specs.Answers.Explore.{Found, move, states_found, states_line}
 use Rattle.pv_model.specs.Answers.Explain.{explained_step}
-use Rattle.pv_model.specs.Answers.Graph.{graph_lines, leads_to_text, listing_lines, number_found, step_lines, tree_lines, untold, vertex_lines}
+use Rattle.pv_model.specs.Answers.Graph.{graph_lines, leads_to_text, listing_lines, number_found, step_lines, tree_lines, unreported, vertex_lines}
 use Rattle.pv_model.specs.Answers.Lines.{AnswerLine, answer_bytes, answer_line, answer_line_bytes, counted_from}
 use Rattle.pv_model.specs.Answers.Numbers.{same_state}
 use Rattle.pv_model.specs.Answers.ProcessRecord.{state_lines}
@@ -34,7 +34,7 @@ number-of t found = position-mapped state_of_found (bytes_eq (state_key t)) foun
 module _ (found : List Found) (keys : List Bytes) (same : keys ≡ map state_of_found found) where
   step-is : (f : Found) (pid : ℕ) → step_of keys f.state pid ≡ step_lines program_of found f (move program_of f pid)
   step-is f pid =
-      ap (λ (o : Option ℕ). answer_line pid (codes "STEP") (leads_to_text o) ∷ explained_step program_of untold f.state pid)
+      ap (λ (o : Option ℕ). answer_line pid (codes "STEP") (leads_to_text o) ∷ explained_step program_of unreported f.state pid)
       (ap (position (bytes_eq (state_key (stepped f.state pid).after))) same ∙ number-of (stepped f.state pid).after found)
 
   steps-are : (f : Found) (ps : List (ℕ × Process)) → flat_map (step_of keys f.state) (map (λ p. p.0) ps) ≡ flat_map (step_lines program_of found f) (map (λ p. move program_of f p.0) ps)
@@ -46,17 +46,17 @@ module _ (found : List Found) (keys : List Bytes) (same : keys ≡ map state_of_
     vertex_in number t =
         answer_line 0 (codes "AT") (decimal number) ∷ state_lines t ++ tree_lines trees t ++ flat_map (step_of keys t) (map (λ p. p.0) (live_processes t.processes))
 
-    vertex-is : (number : ℕ) (f : Found) → f.state ≡ state_at program_of s f.way → vertex_at keys s trees number f.way ≡ vertex_lines program_of trees found (number, f)
+    vertex-is : (number : ℕ) (f : Found) → f.state ≡ state_at program_of s f.witness → vertex_at keys s trees number f.witness ≡ vertex_lines program_of trees found (number, f)
     vertex-is number f sound =
         ap (vertex_in number) (sym sound)
         ∙ ap (λ (ls : List AnswerLine). answer_line 0 (codes "AT") (decimal number) ∷ state_lines f.state ++ tree_lines trees f.state ++ ls) (steps-are f (live_processes f.state.processes))
 
-    pub vertices-are : (fs : List Found) (number : ℕ) → AllByRecursion (λ f. f.state ≡ state_at program_of s f.way) fs
-        → vertices_from keys s trees number (map way_of_found fs) ≡ flat_map (vertex_lines program_of trees found) (counted_from number fs)
+    pub vertices-are : (fs : List Found) (number : ℕ) → AllByRecursion (λ f. f.state ≡ state_at program_of s f.witness) fs
+        → vertices_from keys s trees number (map witness_of_found fs) ≡ flat_map (vertex_lines program_of trees found) (counted_from number fs)
     vertices-are [] number sound = refl
     vertices-are (f ∷ fs) number sound = ap₂ (λ (a b : List AnswerLine). a ++ b) (vertex-is number f sound.0) (vertices-are fs (number + 1) sound.1)
 
--- ---- one state after the other
+-- ---- one state at a time
 
 drop-get : {X : Type 0} (xs : List X) (i : ℕ) (x : X) → slice_get xs i ≡ Some x → drop i xs ≡ x ∷ drop (suc i) xs
 drop-get [] i x is = cc
@@ -69,33 +69,33 @@ drop-none [] (suc i) is = refl
 drop-none (y ∷ xs) zero is = cc
 drop-none (y ∷ xs) (suc i) is = drop-none xs i is
 
-module _ (keys : List Bytes) (s : State) (trees : Bool) (ways : List (List ℕ)) where
+module _ (keys : List Bytes) (s : State) (trees : Bool) (witnesses : List (List ℕ)) where
   abbrev pub vertices_left : ℕ → Bytes
-  vertices_left number = answer_bytes (vertices_from keys s trees number (drop number ways))
+  vertices_left number = answer_bytes (vertices_from keys s trees number (drop number witnesses))
 
-  pub vertices-next : (number : ℕ) (way : List ℕ) → slice_get ways number ≡ Some way → vertices_left number ≡ answer_bytes (vertex_at keys s trees number way) ++ vertices_left (number + 1)
-  vertices-next number way is =
-      ap (λ ws. answer_bytes (vertices_from keys s trees number ws)) (drop-get ways number way is ∙ ap (λ k. way ∷ drop k ways) (sym (add-one number)))
-      ∙ flat_map-append answer_line_bytes (vertex_at keys s trees number way) (vertices_from keys s trees (number + 1) (drop (number + 1) ways))
+  pub vertices-next : (number : ℕ) (witness : List ℕ) → slice_get witnesses number ≡ Some witness → vertices_left number ≡ answer_bytes (vertex_at keys s trees number witness) ++ vertices_left (number + 1)
+  vertices-next number witness is =
+      ap (λ ws. answer_bytes (vertices_from keys s trees number ws)) (drop-get witnesses number witness is ∙ ap (λ k. witness ∷ drop k witnesses) (sym (add-one number)))
+      ∙ flat_map-append answer_line_bytes (vertex_at keys s trees number witness) (vertices_from keys s trees (number + 1) (drop (number + 1) witnesses))
 
-  pub vertices-none : (number : ℕ) → slice_get ways number ≡ None → vertices_left number ≡ []
-  vertices-none number is = ap (λ ws. answer_bytes (vertices_from keys s trees number ws)) (drop-none ways number is)
+  pub vertices-none : (number : ℕ) → slice_get witnesses number ≡ None → vertices_left number ≡ []
+  vertices-none number is = ap (λ ws. answer_bytes (vertices_from keys s trees number ws)) (drop-none witnesses number is)
 
-  pub vertices-past : (number : ℕ) → length ways ≤ number → vertices_left number ≡ []
-  vertices-past number past = ap (λ ws. answer_bytes (vertices_from keys s trees number ws)) (drop_all number ways past)
+  pub vertices-past : (number : ℕ) → length witnesses ≤ number → vertices_left number ≡ []
+  vertices-past number past = ap (λ ws. answer_bytes (vertices_from keys s trees number ws)) (drop_all number witnesses past)
 
--- ---- the whole
+-- ---- the graph
 
-module _ (limit : ℕ) (s : State) (trees : Bool) (lines : List AnswerLine) (kept : Kept) (it : Finds program_of limit s lines kept) where
-  pub as-many : length kept.ways ≡ length kept.keys
-  as-many = ap length it.keeps.ways ∙ length-map (states_found program_of limit s) way_of_found ∙ sym (ap length it.keeps.keys ∙ length-map (states_found program_of limit s) state_of_found)
+module _ (limit : ℕ) (s : State) (trees : Bool) (lines : List AnswerLine) (visited : Visited) (it : Finds program_of limit s lines visited) where
+  pub as-many : length visited.witnesses ≡ length visited.keys
+  as-many = ap length it.keeps.witnesses ∙ length-map (states_found program_of limit s) witness_of_found ∙ sym (ap length it.keeps.keys ∙ length-map (states_found program_of limit s) state_of_found)
 
-  pub graph-are : vertices_from kept.keys s trees 0 kept.ways ++ states_line (length kept.keys) kept.complete ∷ [] ≡ graph_lines program_of limit trees s
+  pub graph-are : vertices_from visited.keys s trees 0 visited.witnesses ++ states_line (length visited.keys) visited.complete ∷ [] ≡ graph_lines program_of limit trees s
   unfolding graph_lines
   graph-are =
       let found = states_found program_of limit s in
       ap₂ (λ (a b : List AnswerLine). a ++ b)
-      (ap (vertices_from kept.keys s trees 0) it.keeps.ways ∙ vertices-are found kept.keys it.keeps.keys s trees found 0 it.sound)
+      (ap (vertices_from visited.keys s trees 0) it.keeps.witnesses ∙ vertices-are found visited.keys it.keeps.keys s trees found 0 it.sound)
       (ap₂ (λ n b. states_line n b ∷ []) (ap length it.keeps.keys ∙ length-map found state_of_found) it.keeps.complete)
 
 -- ---- parts of a state
@@ -103,8 +103,8 @@ module _ (limit : ℕ) (s : State) (trees : Bool) (lines : List AnswerLine) (kep
 pub tree-none : (trees : Bool) (s : State) → trees ≡ false → [] ≡ answer_bytes (tree_lines trees s)
 tree-none trees s is = sym (ap (λ b. answer_bytes (tree_lines b s)) is)
 
-pub tree-told : (trees : Bool) (s : State) → trees ≡ true → listed_bytes (lines_of (listing s.tree)) ++ answer_bytes (reach_lines s) ≡ answer_bytes (tree_lines trees s)
-tree-told trees s is = sym (ap (λ b. answer_bytes (tree_lines b s)) is ∙ flat_map-append answer_line_bytes (listing_lines s.tree) (reach_lines s))
+pub tree-reported : (trees : Bool) (s : State) → trees ≡ true → listed_bytes (lines_of (listing s.tree)) ++ answer_bytes (reach_lines s) ≡ answer_bytes (tree_lines trees s)
+tree-reported trees s is = sym (ap (λ b. answer_bytes (tree_lines b s)) is ∙ flat_map-append answer_line_bytes (listing_lines s.tree) (reach_lines s))
 
 pub listed-next : (text line : Bytes) (following : List Bytes) → lines_of text ≡ line ∷ following → listed_bytes (lines_of text) ≡ answer_line_bytes (answer_line 0 (codes "LS") line) ++ listed_bytes following
 listed-next text line following is = ap listed_bytes is
@@ -112,35 +112,35 @@ listed-next text line following is = ap listed_bytes is
 pub listed-none : (text : Bytes) → lines_of text ≡ [] → listed_bytes (lines_of text) ≡ []
 listed-none text is = ap listed_bytes is
 
-module _ (keys : List Bytes) (s : State) (way : List ℕ) where
+module _ (keys : List Bytes) (s : State) (witness : List ℕ) where
   abbrev pub steps_left_at : List ℕ → Bytes
-  steps_left_at pids = answer_bytes (steps_at keys s way pids)
+  steps_left_at pids = answer_bytes (steps_at keys s witness pids)
 
-  pub graph-step : (xs : List ℕ) (i : ℕ) (t : State) → i < length xs → t ≡ state_at program_of s way → steps_left_at (drop i xs) ≡ answer_bytes (step_of keys t (get_or xs i 0)) ++ steps_left_at (drop (i + 1) xs)
+  pub graph-step : (xs : List ℕ) (i : ℕ) (t : State) → i < length xs → t ≡ state_at program_of s witness → steps_left_at (drop i xs) ≡ answer_bytes (step_of keys t (get_or xs i 0)) ++ steps_left_at (drop (i + 1) xs)
   graph-step xs i t within at =
       ap steps_left_at (drop-cons xs i 0 within ∙ ap (λ k. get_or xs i 0 ∷ drop k xs) (sym (add-one i)))
-      ∙ flat_map-append answer_line_bytes (step_of keys (state_at program_of s way) (get_or xs i 0)) (steps_at keys s way (drop (i + 1) xs))
+      ∙ flat_map-append answer_line_bytes (step_of keys (state_at program_of s witness) (get_or xs i 0)) (steps_at keys s witness (drop (i + 1) xs))
       ∙ ap (λ (u : State). answer_bytes (step_of keys u (get_or xs i 0)) ++ steps_left_at (drop (i + 1) xs)) (sym at)
 
-  pub vertex-bytes : (trees : Bool) (number : ℕ) (t : State) → t ≡ state_at program_of s way
-      → answer_line_bytes (answer_line 0 (codes "AT") (decimal number)) ++ ((answer_bytes (state_lines t) ++ answer_bytes (tree_lines trees t)) ++ steps_left_at (live_at program_of s way))
-      ≡ answer_bytes (vertex_at keys s trees number way)
+  pub vertex-bytes : (trees : Bool) (number : ℕ) (t : State) → t ≡ state_at program_of s witness
+      → answer_line_bytes (answer_line 0 (codes "AT") (decimal number)) ++ ((answer_bytes (state_lines t) ++ answer_bytes (tree_lines trees t)) ++ steps_left_at (live_at program_of s witness))
+      ≡ answer_bytes (vertex_at keys s trees number witness)
   vertex-bytes trees number t at =
-      let u : State = state_at program_of s way in
+      let u : State = state_at program_of s witness in
       let front : Bytes = answer_line_bytes (answer_line 0 (codes "AT") (decimal number)) in
-      ap (λ (x : State). front ++ ((answer_bytes (state_lines x) ++ answer_bytes (tree_lines trees x)) ++ steps_left_at (live_at program_of s way))) at
+      ap (λ (x : State). front ++ ((answer_bytes (state_lines x) ++ answer_bytes (tree_lines trees x)) ++ steps_left_at (live_at program_of s witness))) at
       ∙ ap (λ bs. front ++ bs)
-      (ap (λ bs. bs ++ steps_left_at (live_at program_of s way)) (sym (flat_map-append answer_line_bytes (state_lines u) (tree_lines trees u)))
-      ∙ sym (flat_map-append answer_line_bytes (state_lines u ++ tree_lines trees u) (steps_at keys s way (live_at program_of s way))))
+      (ap (λ bs. bs ++ steps_left_at (live_at program_of s witness)) (sym (flat_map-append answer_line_bytes (state_lines u) (tree_lines trees u)))
+      ∙ sym (flat_map-append answer_line_bytes (state_lines u ++ tree_lines trees u) (steps_at keys s witness (live_at program_of s witness))))
 
--- ---- all of it, as bytes
+-- ---- the whole output, as bytes
 
-module _ (limit : ℕ) (s : State) (trees : Bool) (kept : Kept) (some : 1 ≤ limit) (is : kept ≡ kept_from limit program_of s limit 0 (first_kept limit program_of s)) where
-  found-kept : Finds program_of limit s (told_from limit program_of s limit 0 (first_kept limit program_of s)) kept
-  found-kept = subst (Finds program_of limit s (told_from limit program_of s limit 0 (first_kept limit program_of s))) (sym is) (plan-finds program_of limit s some)
+module _ (limit : ℕ) (s : State) (trees : Bool) (visited : Visited) (some : 1 ≤ limit) (is : visited ≡ visited_from limit program_of s limit 0 (first_visited limit program_of s)) where
+  found-visited : Finds program_of limit s (reported_from limit program_of s limit 0 (first_visited limit program_of s)) visited
+  found-visited = subst (Finds program_of limit s (reported_from limit program_of s limit 0 (first_visited limit program_of s))) (sym is) (plan-finds program_of limit s some)
 
-  pub graph-many : length kept.ways ≡ length kept.keys
-  graph-many = as-many limit s trees (told_from limit program_of s limit 0 (first_kept limit program_of s)) kept found-kept
+  pub graph-many : length visited.witnesses ≡ length visited.keys
+  graph-many = as-many limit s trees (reported_from limit program_of s limit 0 (first_visited limit program_of s)) visited found-visited
 
-  pub graph-bytes : answer_bytes (found_lines kept s trees) ≡ answer_bytes (graph_lines program_of limit trees s)
-  graph-bytes = ap answer_bytes (graph-are limit s trees (told_from limit program_of s limit 0 (first_kept limit program_of s)) kept found-kept)
+  pub graph-bytes : answer_bytes (found_lines visited s trees) ≡ answer_bytes (graph_lines program_of limit trees s)
+  graph-bytes = ap answer_bytes (graph-are limit s trees (reported_from limit program_of s limit 0 (first_visited limit program_of s)) visited found-visited)

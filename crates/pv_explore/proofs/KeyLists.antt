@@ -1,4 +1,4 @@
--- Byte strings among those that are kept.
+-- Byte strings in a table.
 use Rattle.std.proofs.Common.{◌≡◌, ◌∙◌, sym, ap, ap₂, ℕ, ◌+◌, ◌≤◌, Bool, true, false, ◌||◌, cond, if◌then◌else◌, nat_lt, not, bytes_eq, List, [], ◌∷◌, ◌++◌, map, length, Option, None, Some, refl, arith}
 use Rattle.std.specs.Prelude.{position}
 use Rattle.std.specs.List.{list_any, position_or_len}
@@ -36,7 +36,7 @@ added-among f x xs new now is same =
 pub there-among : {X : Type 0} (f : X → Bytes) (key : Bytes) (xs : List X) (now : List Bytes) (b : Bool) → b ≡ list_any (λ x. bytes_eq key (f x)) xs → map f xs ≡ now → b ≡ list_any (bytes_eq key) now
 there-among f key xs now b is same = is ∙ sym (any-mapped f (bytes_eq key) xs) ∙ ap (list_any (bytes_eq key)) same
 
--- the number of a byte string, or how many there are where it is none of them
+-- the index of a byte string, or the number of byte strings if it is not in the table
 module _ {X : Type 0} (p : X → Bool) where
   at-most : (xs : List X) → position_or_len p xs ≤ length xs
   at-most [] = omega arith

@@ -1,4 +1,4 @@
--- The last number given to a process, and who is live.
+-- The last process number given, and the live processes.
 use Rattle.std.proofs.Common.{◌≡◌, inl, inr, ⊎_elim, ◌∙◌, sym, ap, subst, ℕ, suc, ◌+◌, ◌≤◌, true, false, pos, negsuc, Option, None, Some, is_some, IsSome, refl, add-one, arith}
 use Rattle.std.specs.FinMap.Entries.{find}
 use Rattle.std.specs.Ordering.{nat_cmp}
@@ -12,18 +12,18 @@ use Rattle.pv_model.specs.Calls.Processes.{child, end_process, with_result}
 use Rattle.pv_model.specs.Effect.{Effect, Reply, returns, returns_bytes, ends, waits}
 use Rattle.pv_model.specs.Errno.{errno_number}
 use Rattle.pv_model.specs.Grammar.Programs.{program_of}
-use Rattle.pv_model.specs.Held.{trim}
+use Rattle.pv_model.specs.Held.{collect}
 use Rattle.pv_model.specs.Program.{Next, calls_for, inside, next}
 use Rattle.pv_model.specs.State.{Process, State, live_process, process_at}
 use Rattle.pv_model.specs.Step.{step, step_by, step_of}
 use Rattle.pv_laws_access.proofs.EffectByCall.{does-effect}
-use Rattle.pv_laws_access.proofs.Ends.{process_at-trim, update-live, update-other, whole-in_order}
+use Rattle.pv_laws_access.proofs.Ends.{process_at-collect, update-live, update-other, whole-in_order}
 use Rattle.pv_laws_access.proofs.HasEffect.{Did, HasEffect, stays, restrains, begins, closes, copies, forks, reaps, moves, cuts, writes_bytes, makes, links, unlinks, renames, opens, creates, ends-stays}
-use Rattle.pv_laws_states.specs.States.{IsWhole}
+use Rattle.pv_laws_states.specs.States.{IsValid}
 use Rattle.pv_laws_states.proofs.Attempts.{Leads}
 use Rattle.pv_laws_states.proofs.Outcomes.{at_call, by_answer}
 use Rattle.pv_laws_states.proofs.Processes.{last_process-update, process_at-same}
-use Rattle.pv_explore.specs.Beginnings.{GaveNumber}
+use Rattle.pv_explore.specs.FirstMachines.{GaveNumber}
 
 gave-effect : (s : State) (pid : ℕ) (me : Process) (call : Call) (after : State) (r : Reply) → HasEffect s pid me call after r → GaveNumber after s.last_process
 gave-effect s pid me call _ _ (stays r waiting) = inl refl
@@ -50,14 +50,14 @@ still-live s pid f k is = ⊎_elim (λ same. by same (process_at s pid) refl) (�
     by same None none = let gone : is_some (process_at s k) ≡ false = ap (λ n. is_some (process_at s n)) same ∙ ap is_some none in cc
     by same (Some p) at = ap (λ n. is_some (process_at (update s pid f) n)) same ∙ ap is_some (update-live s pid f p at)
 
-last-trim : (s : State) → (trim s).last_process ≡ s.last_process
-unfolding trim
-last-trim s = refl
+last-collect : (s : State) → (collect s).last_process ≡ s.last_process
+unfolding collect
+last-collect s = refl
 
-gave-told : (after : State) (pid : ℕ) (f : Process → Process) (known : ℕ) → GaveNumber after known → GaveNumber (trim (update after pid f)) known
-gave-told after pid f known (inl same) = inl (last-trim (update after pid f) ∙ last_process-update after pid f ∙ same)
-gave-told after pid f known (inr more) =
-    inr (last-trim (update after pid f) ∙ last_process-update after pid f ∙ more.0, ap is_some (process_at-trim (update after pid f) (suc known)) ∙ still-live after pid f (suc known) more.1)
+gave-reported : (after : State) (pid : ℕ) (f : Process → Process) (known : ℕ) → GaveNumber after known → GaveNumber (collect (update after pid f)) known
+gave-reported after pid f known (inl same) = inl (last-collect (update after pid f) ∙ last_process-update after pid f ∙ same)
+gave-reported after pid f known (inr more) =
+    inr (last-collect (update after pid f) ∙ last_process-update after pid f ∙ more.0, ap is_some (process_at-collect (update after pid f) (suc known)) ∙ still-live after pid f (suc known) more.1)
 
 last-end : (s : State) (pid : ℕ) (me : Process) (status : ℕ) → (end_process s pid me status).last_process ≡ s.last_process
 unfolding end_process
@@ -66,12 +66,12 @@ last-end s pid me status = refl
 gave-attempt : (before s : State) (pid : ℕ) (me : Process) (call : Call) (a : Attempt Effect) → before.last_process ≡ s.last_process → Leads (Did s pid me call) a
     → GaveNumber (answer_by_attempt before s pid me a).after before.last_process
 gave-attempt before s pid me call (done walks (after, returns n)) same did =
-    gave-told after pid (λ p. with_result p (pos n) 0) before.last_process (subst (GaveNumber after) (sym same) (gave-effect s pid me call after (returns n) did))
+    gave-reported after pid (λ p. with_result p (pos n) 0) before.last_process (subst (GaveNumber after) (sym same) (gave-effect s pid me call after (returns n) did))
 gave-attempt before s pid me call (done walks (after, returns_bytes n bytes)) same did =
-    gave-told after pid (λ p. with_front bytes (with_result p (pos n) 0)) before.last_process (subst (GaveNumber after) (sym same) (gave-effect s pid me call after (returns_bytes n bytes) did))
+    gave-reported after pid (λ p. with_front bytes (with_result p (pos n) 0)) before.last_process (subst (GaveNumber after) (sym same) (gave-effect s pid me call after (returns_bytes n bytes) did))
 gave-attempt before s pid me call (done walks (after, ends status)) same did =
     let stayed : after ≡ s = ends-stays s pid me call after (ends status) status did refl in
-    inl (last-trim (end_process after pid me status) ∙ last-end after pid me status ∙ ap (λ (t : State). t.last_process) stayed ∙ sym same)
+    inl (last-collect (end_process after pid me status) ∙ last-end after pid me status ∙ ap (λ (t : State). t.last_process) stayed ∙ sym same)
 gave-attempt before s pid me call (done walks (after, waits)) same did = inl refl
 gave-attempt before s pid me call (refused walks errno cause) same did = inl (last_process-update s pid (λ p. with_result p (negsuc 0) (errno_number errno)) ∙ sym same)
 
@@ -82,9 +82,9 @@ gave-answer s pid call =
     (λ me at met. gave-attempt s (at_call s pid me) pid (at_next_line me) call (effect program_of (at_call s pid me) pid (at_next_line me) call) refl
     (does-effect program_of (at_call s pid me) pid (at_next_line me) call))
     (λ me p at missing lenient. gave-attempt s (at_call s pid me) pid (at_next_line me) call (refused 0 ENOSYS (ByPromise p)) refl tt)
-    (λ me p at missing strict. inl (last-trim (end_process s pid (at_next_line me) 6) ∙ last-end s pid (at_next_line me) 6))
+    (λ me p at missing strict. inl (last-collect (end_process s pid (at_next_line me) 6) ∙ last-end s pid (at_next_line me) 6))
 
--- a step gives at most one number, and who got it is live
+-- a step gives at most one number, to a live process
 pub gave-step : (s : State) (pid : ℕ) → GaveNumber (step program_of s pid).after s.last_process
 unfolding step
 gave-step s pid = of (process_at s pid)
@@ -100,8 +100,8 @@ gave-step s pid = of (process_at s pid)
 pub gave-known : (s t : State) (pid known : ℕ) → known ≡ s.last_process → t ≡ (step program_of s pid).after → GaveNumber t known
 gave-known s t pid known is after = subst (λ u. GaveNumber u known) (sym after) (subst (GaveNumber (step program_of s pid).after) (sym is) (gave-step s pid))
 
--- the number above is live: it was given
-pub number-next : (s : State) (known : ℕ) → IsWhole s → GaveNumber s known → is_some (process_at s (known + 1)) ≡ true → known + 1 ≡ s.last_process
+-- the next number is live, so it was given
+pub number-next : (s : State) (known : ℕ) → IsValid s → GaveNumber s known → is_some (process_at s (known + 1)) ≡ true → known + 1 ≡ s.last_process
 number-next s known whole (inl same) is =
     let free : find nat_cmp (suc s.last_process) s.processes ≡ None = (whole-in_order s whole).next_is_free in
     let gone : is_some (process_at s (known + 1)) ≡ false =
@@ -109,12 +109,12 @@ number-next s known whole (inl same) is =
     cc
 number-next s known whole (inr more) is = add-one known ∙ sym more.0
 
--- it is not: none was
+-- the next number is not live, so it was not given
 pub number-same : (s : State) (known : ℕ) → GaveNumber s known → is_some (process_at s (known + 1)) ≡ false → known ≡ s.last_process
 number-same s known (inl same) is = sym same
 number-same s known (inr more) is = let there : is_some (process_at s (known + 1)) ≡ true = ap (λ n. is_some (process_at s n)) (add-one known) ∙ more.1 in cc
 
--- no number is above the last one there may be
+-- no number exceeds the maximum
 pub number-most : (s : State) (known most : ℕ) → GaveNumber s known → s.last_process ≤ most → most ≤ known → known ≡ s.last_process
 number-most s known most (inl same) low high = sym same
 number-most s known most (inr more) low high = let is = more.0 in absurd (omega arith)

@@ -1,9 +1,9 @@
--- Lemmas of the search: Planned (what it tells and keeps is what can happen), Turns (ways as turns), KeyLists (byte strings that are kept),
--- LastNumbers (the last number given to a process), LiveOnes (numbers of live processes, and the tree where none is live), Along (states along a way), Booting (a machine
--- made anew), Finding (how a search goes, step by step), Graphed (what a
--- graph tells), Explained (the lines of its steps), Rows (states as rows of
--- small numbers), KeptStates (what is kept of states, so that steps are not made twice), Followed (steps that are
--- followed, and the states at the ends of ways), LastSteps (ways that are kept by their last steps).
+-- Lemmas about the search: Planned (the search visits the states and writes the lines of the definitions), Turns
+-- (witnesses as turns), KeyLists (byte strings in tables), LastNumbers (the last process number given), LiveOnes (the
+-- numbers of live processes, and the tree without live processes), Along (states along a schedule), Booting (the
+-- rebuilt machine), Finding (the search, step by step), Graphed (the state graph), Explained (the lines of its steps),
+-- Rows (states as rows of small numbers), VisitedStates (the data stored with visited states), Followed (steps from the
+-- cache, and the states at the ends of witnesses), LastSteps (witnesses stored as their last steps).
 pub mod Planned
 pub mod Turns
 pub mod KeyLists
@@ -16,5 +16,5 @@ pub mod Followed
 pub mod Graphed
 pub mod Explained
 pub mod Rows
-pub mod KeptStates
+pub mod VisitedStates
 pub mod LastSteps

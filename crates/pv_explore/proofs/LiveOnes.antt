@@ -1,4 +1,4 @@
--- The numbers of live processes, and the tree where none is live.
+-- The numbers of live processes, and the tree without live processes.
 use Rattle.std.proofs.Common.{◌≡◌, ◌∙◌, sym, ap, ℕ, suc, true, List, [], ◌∷◌, ◌++◌, map, flat_map, append_assoc, append-nil, None, Some, is_some, refl}
 use Rattle.std.specs.FinMap.Entries.{find}
 use Rattle.std.specs.Ordering.{nat_cmp}
@@ -6,20 +6,20 @@ use Rattle.pv_answers.proofs.Following.{Recorded, IsNextRecord, all-after, none-
 use Rattle.pv_model.specs.Answers.Explore.{has_ended}
 use Rattle.pv_model.specs.Answers.Numbers.{tree_numbers}
 use Rattle.pv_model.specs.Bytes.{Bytes, is_empty}
-use Rattle.pv_model.specs.Held.{among, held_by_process, held_nodes, live_processes, named_tree, only_nodes, trim, trim_files, used_files}
+use Rattle.pv_model.specs.Held.{among, held_by_process, held_nodes, live_processes, named_tree, only_nodes, collect, collect_files, used_files}
 use Rattle.pv_model.specs.Numbered.{Numbered, keep, keep_from, present}
 use Rattle.pv_model.specs.State.{OpenFile, Process, ProcessRecord, live, ended_record, State, live_process}
 use Rattle.pv_model.specs.Tree.{named_numbers, root, Tree}
-use Rattle.pv_explore.specs.Beginnings.{one_if}
+use Rattle.pv_explore.specs.FirstMachines.{one_if}
 use Rattle.pv_explore.specs.Plan.{tree_key}
-use Rattle.pv_laws_states.specs.States.{IsWhole}
-use Rattle.pv_spelling.specs.Packed.{IsAdded, packed_all}
+use Rattle.pv_laws_states.specs.States.{IsValid}
+use Rattle.pv_state_encoding.specs.Packed.{IsAdded, packed_all}
 use Rattle.pv_procs.specs.ProcessTable.{ProcessTable, IsProcessTable, number_after}
 
 abbrev pub numbers_of : List Recorded → List ℕ
 numbers_of rs = map (λ p. p.0) (live_processes rs)
 
--- all but those after a number are there
+-- all numbers except those after a number are in the list
 pub record LeavesLive (rs : List Recorded) (last : ℕ) (pids : List ℕ) : Type 0 where
   pub is : pids ++ numbers_of (records_after last rs) ≡ numbers_of rs
 
@@ -42,11 +42,11 @@ live-next rs last pid pids next left = record {
 pub live-end : (rs : List Recorded) (last : ℕ) (pids : List ℕ) → number_after last rs ≡ None → LeavesLive rs last pids → pids ≡ numbers_of rs
 live-end rs last pids none left = sym (append-nil pids) ∙ ap (λ es. pids ++ numbers_of es) (sym (none-after last rs none)) ∙ left.is
 
--- ---- where none is live
+-- ---- without live processes
 
-none-kept : (k : ℕ) (files : Numbered OpenFile) → present (keep_from k (among []) files) ≡ []
-none-kept k [] = refl
-none-kept k (f ∷ files) = none-kept (suc k) files
+none-visited : (k : ℕ) (files : Numbered OpenFile) → present (keep_from k (among []) files) ≡ []
+none-visited k [] = refl
+none-visited k (f ∷ files) = none-visited (suc k) files
 
 nobody : (s : State) → has_ended s ≡ true → live_processes s.processes ≡ []
 nobody s is = by (live_processes s.processes) is
@@ -55,20 +55,20 @@ nobody s is = by (live_processes s.processes) is
     by [] is = refl
     by (p ∷ ps) is = cc
 
-none-held : (s : State) → has_ended s ≡ true → held_nodes (trim_files s) ≡ []
+none-held : (s : State) → has_ended s ≡ true → held_nodes (collect_files s) ≡ []
 none-held s is =
     ap (λ (ps : List (ℕ × Process)). flat_map (λ p. held_by_process p.1) ps ++ map (λ f. f.node) (present (keep (among (flat_map (λ p. used_files p.1) ps)) s.files))) (nobody s is)
-    ∙ ap (map (λ (f : OpenFile). f.node)) (none-kept 0 s.files)
+    ∙ ap (map (λ (f : OpenFile). f.node)) (none-visited 0 s.files)
 
--- nothing is held, so all is named
-pub ended-tree : (s : State) → trim s ≡ s → has_ended s ≡ true → named_tree s.tree ≡ s.tree
-unfolding trim
-ended-tree s trimmed is =
+-- there are no references, so every node has a name
+pub ended-tree : (s : State) → collect s ≡ s → has_ended s ≡ true → named_tree s.tree ≡ s.tree
+unfolding collect
+ended-tree s collected is =
     ap (only_nodes s.tree) (sym (append-nil (root ∷ named_numbers s.tree)))
     ∙ ap (λ ns. only_nodes s.tree (root ∷ named_numbers s.tree ++ ns)) (sym (none-held s is))
-    ∙ ap (λ (t : State). t.tree) trimmed
+    ∙ ap (λ (t : State). t.tree) collected
 
--- a list of numbers is empty where nobody is live
+-- the list of live numbers is empty exactly if no process is live
 pub ended-numbers : (s : State) (pids : List ℕ) → pids ≡ numbers_of s.processes → is_empty pids ≡ has_ended s
 ended-numbers s pids is = ap is_empty is ∙ by (live_processes s.processes)
   where
@@ -76,7 +76,7 @@ ended-numbers s pids is = ap is_empty is ∙ by (live_processes s.processes)
     by [] = refl
     by (p ∷ ps) = refl
 
--- the bytes of its tree are those of what is named
-pub end-key : (s : State) (t : Tree) (old new : Bytes) → IsWhole s → has_ended s ≡ true → t ≡ s.tree → old ≡ [] → IsAdded (tree_numbers t) old new → new ≡ tree_key (named_tree s.tree)
+-- the encoding of the tree is that of the named nodes
+pub end-key : (s : State) (t : Tree) (old new : Bytes) → IsValid s → has_ended s ≡ true → t ≡ s.tree → old ≡ [] → IsAdded (tree_numbers t) old new → new ≡ tree_key (named_tree s.tree)
 end-key s t old new whole ended same none added =
-    added.is ∙ ap (λ bs. bs ++ packed_all (tree_numbers t)) none ∙ ap (λ (u : Tree). tree_key u) (same ∙ sym (ended-tree s whole.trimmed ended))
+    added.is ∙ ap (λ bs. bs ++ packed_all (tree_numbers t)) none ∙ ap (λ (u : Tree). tree_key u) (same ∙ sym (ended-tree s whole.collected ended))

@@ -1,4 +1,4 @@
--- What a search writes, as it goes, is what can happen.
+-- The lines and data of the search are those of the definitions.
 use Rattle.std.proofs.Common.{◌≡◌, ◌∙◌, sym, ap, ap₂, subst, ℕ, zero, suc, ◌+◌, ◌<◌, ◌≤◌, Bool, true, false, ◌&&◌, ◌||◌, cond, if◌then◌else◌, nat_le, bytes_eq, List, [], ◌∷◌, ◌++◌, length, map, filter, flat_map, fold, take, append_assoc, append-nil, length-append, slice_get, Option, None, Some, option_map, ◌⊎◌, inl, inr, ⊎_elim, refl, arith}
 use Rattle.std.specs.List.{AllByRecursion, list_any, list_all}
 use Rattle.std.proofs.lemmas.Bool.{and_parts, and_from}
@@ -8,7 +8,7 @@ use Rattle.std.proofs.lemmas.List.{length-map, map-append, take_all}
 use Rattle.std.proofs.lemmas.List.Elements.{filter-append}
 use Rattle.std.proofs.lemmas.List.Folds.{list_any-append}
 use Rattle.std.proofs.lemmas.Option.{slice_get-map, slice_get_cases}
-use Rattle.pv_model.specs.Answers.Explore.{Found, Move, is_found, found_by, move, moves_of, with_move, found_after, found_from, states_found, moves, new_ones, move_text, told_moves, move_lines, has_ended, endings, done_line, explore_lines, states_line, endings_line}
+use Rattle.pv_model.specs.Answers.Explore.{Found, Move, is_found, found_by, move, moves_of, with_move, found_after, found_from, states_found, moves, new_ones, move_text, reported_moves, move_lines, has_ended, endings, done_line, explore_lines, states_line, endings_line}
 use Rattle.pv_model.specs.Answers.Lines.{AnswerLine}
 use Rattle.pv_model.specs.Answers.Numbers.{Numbers, same_state, state_numbers, tree_numbers}
 use Rattle.pv_model.specs.Bytes.{Bytes}
@@ -18,13 +18,13 @@ use Rattle.pv_model.specs.Step.{Run}
 use Rattle.pv_model.specs.Tree.{Tree}
 use Rattle.pv_model.proofs.Runs.{run-append}
 use Rattle.pv_laws_trees.proofs.Entries.{bytes_eq-same, bytes_eq-itself}
-use Rattle.pv_laws_explore.proofs.Complete.{there-found}
-use Rattle.pv_laws_explore.proofs.Lists.{among-right, each-append}
-use Rattle.pv_spelling.specs.Packed.{packed_all}
-use Rattle.pv_spelling.proofs.Apart.{packed-apart}
-use Rattle.pv_explore.specs.Plan.{state_key, tree_key, Kept, added_to, is_told, told_after, lines_at, endings_after, with_state, is_known, kept_after, state_at, move_at, steps_told, kept_after_steps, live_at, done_lines, and_tell, told_from, and_keep, kept_from, first_kept}
+use Rattle.pv_laws_answers.proofs.Complete.{there-found}
+use Rattle.pv_laws_answers.proofs.Lists.{among-right, each-append}
+use Rattle.pv_state_encoding.specs.Packed.{packed_all}
+use Rattle.pv_state_encoding.proofs.Apart.{packed-apart}
+use Rattle.pv_explore.specs.Plan.{state_key, tree_key, Visited, added_to, is_reported, reported_after, lines_at, endings_after, with_state, is_known, visited_after, state_at, move_at, reported_steps, visited_after_steps, live_at, done_lines, and_report, reported_from, and_visit, visited_from, first_visited}
 
--- ---- tests of bytes
+-- ---- comparison of bytes
 
 pub same-tests : (a b : Bool) → (a ≡ true → b ≡ true) → (b ≡ true → a ≡ true) → a ≡ b
 same-tests true true f g = refl
@@ -38,7 +38,7 @@ bytes_eq-turn a b =
     (λ is. subst (λ (c : Bytes). bytes_eq c a ≡ true) (bytes_eq-same a b is) (bytes_eq-itself a))
     (λ is. subst (λ (c : Bytes). bytes_eq c b ≡ true) (bytes_eq-same b a is) (bytes_eq-itself b))
 
--- numbers are the same where their bytes are
+-- numbers are equal exactly if their encodings are
 packed-test : (ns ms : Numbers) → bytes_eq (packed_all ns) (packed_all ms) ≡ bytes_eq ns ms
 packed-test ns ms =
     same-tests (bytes_eq (packed_all ns) (packed_all ms)) (bytes_eq ns ms)
@@ -50,7 +50,7 @@ module _ {X Y : Type 0} (f : X → Y) (p : Y → Bool) (q : X → Bool) where
   any-map same [] = refl
   any-map same (x ∷ xs) = ap₂ (λ a b. a || b) (same x) (any-map same xs)
 
--- a state is told by its bytes as by its numbers
+-- comparing the encodings of states compares the states
 pub same-known : (t : State) (f : Found) → bytes_eq (state_key t) (state_key f.state) ≡ same_state f.state t
 same-known t f = packed-test (state_numbers t) (state_numbers f.state) ∙ bytes_eq-turn (state_numbers t) (state_numbers f.state)
 
@@ -59,7 +59,7 @@ known-found t found =
     any-map (λ (f : Found). state_key f.state) (bytes_eq (state_key t)) (λ f. same_state f.state t)
     (same-known t) found
 
--- ---- one more of those that are like none before
+-- ---- one more element that differs from all earlier ones
 
 module _ {X : Type 0} (key : X → Numbers) where
   or-false : (a : Bool) → (a || false) ≡ a
@@ -93,33 +93,33 @@ module _ {X : Type 0} (key : X → Numbers) where
           ∙ ap (λ b. y ∷ (new_ones key (key y ∷ had) ys ++ one_or_none b x))
           (sym (or-between (bytes_eq (key x) (key y)) (list_any (bytes_eq (key x)) had) (list_any (bytes_eq (key x)) (map key (new_ones key (key y ∷ had) ys)))))
 
--- the steps told, with one more
-told-last : (made : List Move) (m : Move) → told_moves (made ++ m ∷ []) ≡ told_moves made ++ (if is_told (map move_text (told_moves made)) (move_text m) then [] else m ∷ [])
-told-last made m = new-last move_text ([] ∷ []) made m ∙ ap (λ b. told_moves made ++ (if b then [] else m ∷ [])) (shift (bytes_eq (move_text m) []) (list_any (bytes_eq (move_text m)) (map move_text (told_moves made))))
+-- the steps that are written, with one more
+reported-last : (made : List Move) (m : Move) → reported_moves (made ++ m ∷ []) ≡ reported_moves made ++ (if is_reported (map move_text (reported_moves made)) (move_text m) then [] else m ∷ [])
+reported-last made m = new-last move_text ([] ∷ []) made m ∙ ap (λ b. reported_moves made ++ (if b then [] else m ∷ [])) (shift (bytes_eq (move_text m) []) (list_any (bytes_eq (move_text m)) (map move_text (reported_moves made))))
   where
     shift : (a b : Bool) → ((a || false) || b) ≡ (a || b)
     shift true b = refl
     shift false b = refl
 
-first-states : (program_of : Bytes → Option Program) (limit : ℕ) (s : State) → found_from program_of limit limit 0 (record { way = []; state = s } ∷ []) ≡ states_found program_of limit s
+first-states : (program_of : Bytes → Option Program) (limit : ℕ) (s : State) → found_from program_of limit limit 0 (record { witness = []; state = s } ∷ []) ≡ states_found program_of limit s
 unfolding states_found
 first-states program_of limit s = refl
 
--- ---- what is kept of the states found and the steps made
+-- ---- the data of the visited states and the steps made
 
 abbrev pub state_of_found : Found → Bytes
 state_of_found f = state_key f.state
 
-abbrev pub way_of_found : Found → List ℕ
-way_of_found f = f.way
+abbrev pub witness_of_found : Found → List ℕ
+witness_of_found f = f.witness
 
-pub record Keeps (limit : ℕ) (found : List Found) (made : List Move) (kept : Kept) : Type 0 where
-  pub keys : kept.keys ≡ map state_of_found found
-  pub ways : kept.ways ≡ map way_of_found found
-  pub told : kept.told ≡ map move_text (told_moves made)
-  pub endings : kept.endings ≡ map tree_key (endings found)
-  pub complete : kept.complete ≡ list_all (λ m. is_found m.stepped.after found) made
-  pub full : (kept.complete ≡ true) ⊎ (limit ≤ length found)
+pub record Keeps (limit : ℕ) (found : List Found) (made : List Move) (visited : Visited) : Type 0 where
+  pub keys : visited.keys ≡ map state_of_found found
+  pub witnesses : visited.witnesses ≡ map witness_of_found found
+  pub reported : visited.reported ≡ map move_text (reported_moves made)
+  pub endings : visited.endings ≡ map tree_key (endings found)
+  pub complete : visited.complete ≡ list_all (λ m. is_found m.stepped.after found) made
+  pub full : (visited.complete ≡ true) ⊎ (limit ≤ length found)
 
 all-last : {X : Type 0} (p : X → Bool) (xs : List X) (x : X) → list_all p (xs ++ x ∷ []) ≡ (list_all p xs && p x)
 all-last p [] x = and-true (p x)
@@ -144,21 +144,21 @@ false-last : (a : Bool) → (a && false) ≡ false
 false-last true = refl
 false-last false = refl
 
--- what is told with one more step
-told-kept : (made : List Move) (m : Move) (told : List Bytes) → told ≡ map move_text (told_moves made) → told_after told (move_text m) ≡ map move_text (told_moves (made ++ m ∷ []))
-told-kept made m told is =
-    ap (λ ts. told_after ts (move_text m)) is
-    ∙ by (is_told (map move_text (told_moves made)) (move_text m))
-    ∙ sym (ap (map move_text) (told-last made m) ∙ map-append move_text (told_moves made) (if is_told (map move_text (told_moves made)) (move_text m) then [] else m ∷ []))
+-- the texts that were written, with one more step
+reported-visited : (made : List Move) (m : Move) (reported : List Bytes) → reported ≡ map move_text (reported_moves made) → reported_after reported (move_text m) ≡ map move_text (reported_moves (made ++ m ∷ []))
+reported-visited made m reported is =
+    ap (λ ts. reported_after ts (move_text m)) is
+    ∙ by (is_reported (map move_text (reported_moves made)) (move_text m))
+    ∙ sym (ap (map move_text) (reported-last made m) ∙ map-append move_text (reported_moves made) (if is_reported (map move_text (reported_moves made)) (move_text m) then [] else m ∷ []))
   where
-    by : (b : Bool) → (if b then map move_text (told_moves made) else map move_text (told_moves made) ++ move_text m ∷ [])
-        ≡ map move_text (told_moves made) ++ map move_text (if b then [] else m ∷ [])
-    by true = sym (append-nil (map move_text (told_moves made)))
+    by : (b : Bool) → (if b then map move_text (reported_moves made) else map move_text (reported_moves made) ++ move_text m ∷ [])
+        ≡ map move_text (reported_moves made) ++ map move_text (if b then [] else m ∷ [])
+    by true = sym (append-nil (map move_text (reported_moves made)))
     by false = refl
 
--- the trees at ends with one more state
-endings-kept : (found : List Found) (f : Found) (kept : List Bytes) → kept ≡ map tree_key (endings found) → endings_after kept f.state ≡ map tree_key (endings (found ++ f ∷ []))
-endings-kept found f kept is =
+-- the trees at ends, with one more state
+endings-visited : (found : List Found) (f : Found) (visited : List Bytes) → visited ≡ map tree_key (endings found) → endings_after visited f.state ≡ map tree_key (endings (found ++ f ∷ []))
+endings-visited found f visited is =
     ap (λ ks. endings_after ks f.state) is ∙ by (has_ended f.state)
     ∙ ap (λ ts. map tree_key (new_ones tree_numbers [] ts)) (sym (ap (map named) (filter-append ended found (f ∷ [])) ∙ map-append named (filter ended found) (filter ended (f ∷ []))))
   where
@@ -192,25 +192,25 @@ endings-kept found f kept is =
     by false = ap (λ ts. map tree_key (new_ones tree_numbers [] ts)) (sym (append-nil (map named (filter ended found))))
 
 module _ (program_of : Bytes → Option Program) (limit : ℕ) where
-  -- a step keeps it so
-  keeps-move : (found : List Found) (made : List Move) (kept : Kept) (m : Move) → Keeps limit found made kept
-      → Keeps limit (with_move program_of limit found m) (made ++ m ∷ []) (kept_after limit kept m)
-  keeps-move found made kept m it =
-      subst (λ (c : Bool). Keeps limit (with_move program_of limit found m) (made ++ m ∷ []) (after c (nat_le limit (length kept.keys)))) (sym known)
+  -- a step preserves the data
+  keeps-move : (found : List Found) (made : List Move) (visited : Visited) (m : Move) → Keeps limit found made visited
+      → Keeps limit (with_move program_of limit found m) (made ++ m ∷ []) (visited_after limit visited m)
+  keeps-move found made visited m it =
+      subst (λ (c : Bool). Keeps limit (with_move program_of limit found m) (made ++ m ∷ []) (after c (nat_le limit (length visited.keys)))) (sym known)
       (subst (λ (n : ℕ). Keeps limit (with_move program_of limit found m) (made ++ m ∷ []) (after (is_found m.stepped.after found) (nat_le limit n))) (sym long)
       (by (is_found m.stepped.after found) refl (nat_le limit (length found)) refl))
     where
-      known : is_known kept m.stepped.after ≡ is_found m.stepped.after found
+      known : is_known visited m.stepped.after ≡ is_found m.stepped.after found
       known = ap (list_any (bytes_eq (state_key m.stepped.after))) it.keys ∙ known-found m.stepped.after found
 
-      long : length kept.keys ≡ length found
+      long : length visited.keys ≡ length found
       long = ap length it.keys ∙ length-map found state_of_found
 
-      after : Bool → Bool → Kept
-      after a b = record (if a then kept else if b then record kept { complete = false } else with_state kept m) { told = told_after kept.told (move_text m) }
+      after : Bool → Bool → Visited
+      after a b = record (if a then visited else if b then record visited { complete = false } else with_state visited m) { reported = reported_after visited.reported (move_text m) }
 
-      told : told_after kept.told (move_text m) ≡ map move_text (told_moves (made ++ m ∷ []))
-      told = told-kept made m kept.told it.told
+      reported : reported_after visited.reported (move_text m) ≡ map move_text (reported_moves (made ++ m ∷ []))
+      reported = reported-visited made m visited.reported it.reported
 
       test : List Found → Move → Bool
       test fs n = is_found n.stepped.after fs
@@ -230,23 +230,23 @@ module _ (program_of : Bytes → Option Program) (limit : ℕ) where
       new : is_found m.stepped.after more ≡ true
       new = there-found m.stepped.after more (found_by m) (among-right (found_by m) found (found_by m ∷ []) (inl refl)) refl
 
-      complete-now : (limit ≤ length found → ⊥) → kept.complete ≡ true
+      complete-now : (limit ≤ length found → ⊥) → visited.complete ≡ true
       complete-now room = ⊎_elim (λ is. is) (λ full. absurd (room full)) it.full
 
       by : (a : Bool) → is_found m.stepped.after found ≡ a → (b : Bool) → nat_le limit (length found) ≡ b
           → Keeps limit (if a || b then found else more) (made ++ m ∷ []) (after a b)
       by true is b le = record {
         keys = it.keys;
-        ways = it.ways;
-        told = told;
+        witnesses = it.witnesses;
+        reported = reported;
         endings = it.endings;
         complete = it.complete ∙ sym (all-last (test found) made m ∙ and-with (list_all (test found) made) (test found m) true is ∙ true-last (list_all (test found) made));
         full = it.full;
       }
       by false is true le = record {
         keys = it.keys;
-        ways = it.ways;
-        told = told;
+        witnesses = it.witnesses;
+        reported = reported;
         endings = it.endings;
         complete = sym (all-last (test found) made m ∙ and-with (list_all (test found) made) (test found m) false is ∙ false-last (list_all (test found) made));
         full = inr (grind (arith, nat_tests, le));
@@ -255,9 +255,9 @@ module _ (program_of : Bytes → Option Program) (limit : ℕ) where
           let complete = complete-now (λ full. absurd (grind (arith, nat_tests, le, full))) in
           record {
             keys = ap (λ ks. ks ++ state_key m.stepped.after ∷ []) it.keys ∙ sym (map-append state_of_found found (found_by m ∷ []));
-            ways = ap (λ ws. ws ++ m.way ∷ []) it.ways ∙ sym (map-append way_of_found found (found_by m ∷ []));
-            told = told;
-            endings = endings-kept found (found_by m) kept.endings it.endings;
+            witnesses = ap (λ ws. ws ++ m.witness ∷ []) it.witnesses ∙ sym (map-append witness_of_found found (found_by m ∷ []));
+            reported = reported;
+            endings = endings-visited found (found_by m) visited.endings it.endings;
             complete =
                 complete
                 ∙ sym (all-last (test more) made m ∙ and-with (list_all (test more) made) (test more m) true new ∙ true-last (list_all (test more) made)
@@ -267,55 +267,55 @@ module _ (program_of : Bytes → Option Program) (limit : ℕ) where
 
   -- ---- the steps in a state
 
-  told-more : (made : List Move) (m : Move) (told : List Bytes) → told ≡ map move_text (told_moves made)
-      → flat_map move_lines (told_moves (made ++ m ∷ [])) ≡ flat_map move_lines (told_moves made) ++ lines_at told m
-  told-more made m told is =
-      ap (flat_map move_lines) (told-last made m)
-      ∙ flat_map-append move_lines (told_moves made) (if is_told (map move_text (told_moves made)) (move_text m) then [] else m ∷ [])
-      ∙ ap (λ ls. flat_map move_lines (told_moves made) ++ ls) (by (is_told (map move_text (told_moves made)) (move_text m)))
-      ∙ ap (λ ts. flat_map move_lines (told_moves made) ++ lines_at ts m) (sym is)
+  reported-more : (made : List Move) (m : Move) (reported : List Bytes) → reported ≡ map move_text (reported_moves made)
+      → flat_map move_lines (reported_moves (made ++ m ∷ [])) ≡ flat_map move_lines (reported_moves made) ++ lines_at reported m
+  reported-more made m reported is =
+      ap (flat_map move_lines) (reported-last made m)
+      ∙ flat_map-append move_lines (reported_moves made) (if is_reported (map move_text (reported_moves made)) (move_text m) then [] else m ∷ [])
+      ∙ ap (λ ls. flat_map move_lines (reported_moves made) ++ ls) (by (is_reported (map move_text (reported_moves made)) (move_text m)))
+      ∙ ap (λ ts. flat_map move_lines (reported_moves made) ++ lines_at ts m) (sym is)
     where
       by : (b : Bool) → flat_map move_lines (if b then [] else m ∷ []) ≡ (if b then [] else move_lines m)
       by true = refl
       by false = append-nil (move_lines m)
 
   module _ (s : State) where
-    -- what is found at the end of a way
+    -- the state at the end of a witness
     pub found_at : List ℕ → Found
-    found_at way = record { way = way; state = state_at program_of s way }
+    found_at witness = record { witness = witness; state = state_at program_of s witness }
 
     abbrev pub move_from : List ℕ → ℕ → Move
-    move_from way pid = move_at program_of s way pid
+    move_from witness pid = move_at program_of s witness pid
 
     abbrev pub moves_from : List ℕ → List ℕ → List Move
-    moves_from way pids = map (move_from way) pids
+    moves_from witness pids = map (move_from witness) pids
 
-    pub record StepsKept (way : List ℕ) (pids : List ℕ) (found : List Found) (made : List Move) (kept : Kept) : Type 0 where
-      pub keeps : Keeps limit (fold (with_move program_of limit) found (moves_from way pids)) (made ++ moves_from way pids) (kept_after_steps limit program_of s way pids kept)
-      pub lines : flat_map move_lines (told_moves (made ++ moves_from way pids)) ≡ flat_map move_lines (told_moves made) ++ steps_told limit program_of s way pids kept
+    pub record StepsCached (witness : List ℕ) (pids : List ℕ) (found : List Found) (made : List Move) (visited : Visited) : Type 0 where
+      pub keeps : Keeps limit (fold (with_move program_of limit) found (moves_from witness pids)) (made ++ moves_from witness pids) (visited_after_steps limit program_of s witness pids visited)
+      pub lines : flat_map move_lines (reported_moves (made ++ moves_from witness pids)) ≡ flat_map move_lines (reported_moves made) ++ reported_steps limit program_of s witness pids visited
 
-    steps-kept : (way pids : List ℕ) (found : List Found) (made : List Move) (kept : Kept) → Keeps limit found made kept → StepsKept way pids found made kept
-    steps-kept way [] found made kept it = record {
-      keeps = subst (λ (ms : List Move). Keeps limit found ms kept) (sym (append-nil made)) it;
-      lines = ap (λ ms. flat_map move_lines (told_moves ms)) (append-nil made) ∙ sym (append-nil (flat_map move_lines (told_moves made)));
+    steps-visited : (witness pids : List ℕ) (found : List Found) (made : List Move) (visited : Visited) → Keeps limit found made visited → StepsCached witness pids found made visited
+    steps-visited witness [] found made visited it = record {
+      keeps = subst (λ (ms : List Move). Keeps limit found ms visited) (sym (append-nil made)) it;
+      lines = ap (λ ms. flat_map move_lines (reported_moves ms)) (append-nil made) ∙ sym (append-nil (flat_map move_lines (reported_moves made)));
     }
-    steps-kept way (pid ∷ pids) found made kept it =
-        let m : Move = move_at program_of s way pid in
-        let rest = steps-kept way pids (with_move program_of limit found m) (made ++ m ∷ []) (kept_after limit kept m) (keeps-move found made kept m it) in
-        let ms : List Move = map (move_at program_of s way) pids in
+    steps-visited witness (pid ∷ pids) found made visited it =
+        let m : Move = move_at program_of s witness pid in
+        let rest = steps-visited witness pids (with_move program_of limit found m) (made ++ m ∷ []) (visited_after limit visited m) (keeps-move found made visited m it) in
+        let ms : List Move = map (move_at program_of s witness) pids in
         let join : (made ++ m ∷ []) ++ ms ≡ made ++ m ∷ ms = append_assoc made (m ∷ []) ms in
         record {
-          keeps = subst (λ (ns : List Move). Keeps limit (fold (with_move program_of limit) found (m ∷ ms)) ns (kept_after_steps limit program_of s way (pid ∷ pids) kept)) join rest.keeps;
+          keeps = subst (λ (ns : List Move). Keeps limit (fold (with_move program_of limit) found (m ∷ ms)) ns (visited_after_steps limit program_of s witness (pid ∷ pids) visited)) join rest.keeps;
           lines =
-              ap (λ ns. flat_map move_lines (told_moves ns)) (sym join) ∙ rest.lines
-              ∙ ap (λ ls. ls ++ steps_told limit program_of s way pids (kept_after limit kept m)) (told-more made m kept.told it.told)
-              ∙ append_assoc (flat_map move_lines (told_moves made)) (lines_at kept.told m) (steps_told limit program_of s way pids (kept_after limit kept m));
+              ap (λ ns. flat_map move_lines (reported_moves ns)) (sym join) ∙ rest.lines
+              ∙ ap (λ ls. ls ++ reported_steps limit program_of s witness pids (visited_after limit visited m)) (reported-more made m visited.reported it.reported)
+              ∙ append_assoc (flat_map move_lines (reported_moves made)) (lines_at visited.reported m) (reported_steps limit program_of s witness pids (visited_after limit visited m));
         }
 
     -- ---- all states
 
     abbrev pub IsSound : Found → Type 0
-    IsSound f = f.state ≡ state_at program_of s f.way
+    IsSound f = f.state ≡ state_at program_of s f.witness
 
     more-found : (ms : List Move) (found : List Found) → (new : List Found) × (fold (with_move program_of limit) found ms ≡ found ++ new)
     more-found [] found = ([], sym (append-nil found))
@@ -351,45 +351,45 @@ module _ (program_of : Bytes → Option Program) (limit : ℕ) where
             let room : length found < limit = grind (arith, nat_tests, le) in
             more (omega (arith, length-append found (found_by m ∷ [])))
 
-    sound-steps : (way pids : List ℕ) → AllByRecursion (λ m. IsSound (found_by m)) (moves_from way pids)
-    sound-steps way [] = tt
-    sound-steps way (pid ∷ pids) = (ap (λ (r : Run). r.final) (sym (run-append program_of way (pid ∷ []) s)), sound-steps way pids)
+    sound-steps : (witness pids : List ℕ) → AllByRecursion (λ m. IsSound (found_by m)) (moves_from witness pids)
+    sound-steps witness [] = tt
+    sound-steps witness (pid ∷ pids) = (ap (λ (r : Run). r.final) (sym (run-append program_of witness (pid ∷ []) s)), sound-steps witness pids)
 
-    moves-at : (f : Found) → IsSound f → moves_of program_of f ≡ moves_from f.way (live_at program_of s f.way)
+    moves-at : (f : Found) → IsSound f → moves_of program_of f ≡ moves_from f.witness (live_at program_of s f.witness)
     moves-at f sound =
-        ap (λ t. moves_of program_of (record { way = f.way; state = t })) sound
-        ∙ map-map (live_processes (state_at program_of s f.way).processes)
+        ap (λ t. moves_of program_of (record { witness = f.witness; state = t })) sound
+        ∙ map-map (live_processes (state_at program_of s f.witness).processes)
       where
-        map-map : (ps : List (ℕ × Process)) → map (λ p. move program_of (record { way = f.way; state = state_at program_of s f.way }) p.0) ps ≡ map (move_at program_of s f.way) (map (λ p. p.0) ps)
+        map-map : (ps : List (ℕ × Process)) → map (λ p. move program_of (record { witness = f.witness; state = state_at program_of s f.witness }) p.0) ps ≡ map (move_at program_of s f.witness) (map (λ p. p.0) ps)
         map-map [] = refl
-        map-map (p ∷ ps) = ap (λ ms. move program_of (record { way = f.way; state = state_at program_of s f.way }) p.0 ∷ ms) (map-map ps)
+        map-map (p ∷ ps) = ap (λ ms. move program_of (record { witness = f.witness; state = state_at program_of s f.witness }) p.0 ∷ ms) (map-map ps)
 
-    -- what a search has told and keeps at its end
-    pub record Finds (lines : List AnswerLine) (kept : Kept) : Type 0 where
-      pub keeps : Keeps limit (states_found program_of limit s) (moves program_of limit s) kept
+    -- the lines and the data at the end of the search
+    pub record Finds (lines : List AnswerLine) (visited : Visited) : Type 0 where
+      pub keeps : Keeps limit (states_found program_of limit s) (moves program_of limit s) visited
       pub sound : AllByRecursion IsSound (states_found program_of limit s)
-      pub lines_are : lines ≡ flat_map move_lines (told_moves (moves program_of limit s))
+      pub lines_are : lines ≡ flat_map move_lines (reported_moves (moves program_of limit s))
 
-    found-all : (found : List Found) (made : List Move) (kept : Kept) → Keeps limit found made kept → AllByRecursion IsSound found → found ≡ states_found program_of limit s → made ≡ moves program_of limit s
-        → Finds (flat_map move_lines (told_moves made) ++ []) kept
-    found-all found made kept it sound all every = record {
+    found-all : (found : List Found) (made : List Move) (visited : Visited) → Keeps limit found made visited → AllByRecursion IsSound found → found ≡ states_found program_of limit s → made ≡ moves program_of limit s
+        → Finds (flat_map move_lines (reported_moves made) ++ []) visited
+    found-all found made visited it sound all every = record {
       keeps =
-          subst (λ (fs : List Found). Keeps limit fs (moves program_of limit s) kept) all (subst (λ (ms : List Move). Keeps limit found ms kept) every it);
+          subst (λ (fs : List Found). Keeps limit fs (moves program_of limit s) visited) all (subst (λ (ms : List Move). Keeps limit found ms visited) every it);
       sound = subst (AllByRecursion IsSound) all sound;
-      lines_are = append-nil (flat_map move_lines (told_moves made)) ∙ ap (λ ms. flat_map move_lines (told_moves ms)) every;
+      lines_are = append-nil (flat_map move_lines (reported_moves made)) ∙ ap (λ ms. flat_map move_lines (reported_moves ms)) every;
     }
 
-    -- the states before a number
-    pub record Underway (k : ℕ) (found : List Found) (made : List Move) (kept : Kept) : Type 0 where
-      pub keeps : Keeps limit found made kept
+    -- the states before a number are done
+    pub record Underway (k : ℕ) (found : List Found) (made : List Move) (visited : Visited) : Type 0 where
+      pub keeps : Keeps limit found made visited
       pub sound : AllByRecursion IsSound found
       pub few : length found ≤ limit
       pub made_is : made ≡ flat_map (moves_of program_of) (take k found)
 
-    past-end : (k : ℕ) (found : List Found) (made : List Move) (kept : Kept) → Underway k found made kept → length found ≤ k → found ≡ states_found program_of limit s
-        → Finds (flat_map move_lines (told_moves made) ++ []) kept
-    past-end k found made kept it past all =
-        found-all found made kept it.keeps it.sound all (it.made_is ∙ ap (flat_map (moves_of program_of)) (take_all k found past ∙ all))
+    past-end : (k : ℕ) (found : List Found) (made : List Move) (visited : Visited) → Underway k found made visited → length found ≤ k → found ≡ states_found program_of limit s
+        → Finds (flat_map move_lines (reported_moves made) ++ []) visited
+    past-end k found made visited it past all =
+        found-all found made visited it.keeps it.sound all (it.made_is ∙ ap (flat_map (moves_of program_of)) (take_all k found past ∙ all))
 
     take-next : (k : ℕ) (found new : List Found) (f : Found) → slice_get found k ≡ Some f → take (suc k) (found ++ new) ≡ take k found ++ f ∷ []
     take-next k [] new f at = cc
@@ -401,73 +401,73 @@ module _ (program_of : Bytes → Option Program) (limit : ℕ) where
     sound-at zero (g ∷ gs) f all at = let same : g ≡ f = cc in subst IsSound same all.0
     sound-at (suc k) (g ∷ gs) f all at = sound-at k gs f all.1 at
 
-    -- from the state of a number on
-    abbrev TellsAll : ℕ → Type 0
-    TellsAll states =
-        (k : ℕ) (found : List Found) (made : List Move) (kept : Kept) → Underway k found made kept → limit ≤ states + k
+    -- the lines from state k on
+    abbrev ReportsAll : ℕ → Type 0
+    ReportsAll states =
+        (k : ℕ) (found : List Found) (made : List Move) (visited : Visited) → Underway k found made visited → limit ≤ states + k
         → found_from program_of limit states k found ≡ states_found program_of limit s
-        → Finds (flat_map move_lines (told_moves made) ++ told_from limit program_of s states k kept) (kept_from limit program_of s states k kept)
+        → Finds (flat_map move_lines (reported_moves made) ++ reported_from limit program_of s states k visited) (visited_from limit program_of s states k visited)
 
-    abbrev TellsThen : (states k : ℕ) (made : List Move) (kept : Kept) → Option (List ℕ) → Type 0
-    TellsThen states k made kept w =
-        Finds (flat_map move_lines (told_moves made) ++ and_tell limit program_of s (told_from limit program_of s states (suc k)) kept w)
-        (and_keep limit program_of s (kept_from limit program_of s states (suc k)) kept w)
+    abbrev ReportsThen : (states k : ℕ) (made : List Move) (visited : Visited) → Option (List ℕ) → Type 0
+    ReportsThen states k made visited w =
+        Finds (flat_map move_lines (reported_moves made) ++ and_report limit program_of s (reported_from limit program_of s states (suc k)) visited w)
+        (and_visit limit program_of s (visited_from limit program_of s states (suc k)) visited w)
 
-    next-state : (states k : ℕ) (found : List Found) (made : List Move) (kept : Kept) → TellsAll states → Underway k found made kept → limit ≤ suc states + k
+    next-state : (states k : ℕ) (found : List Found) (made : List Move) (visited : Visited) → ReportsAll states → Underway k found made visited → limit ≤ suc states + k
         → (f : Found) → slice_get found k ≡ Some f
         → found_from program_of limit states (suc k) (fold (with_move program_of limit) found (moves_of program_of f)) ≡ states_found program_of limit s
-        → TellsThen states k made kept (Some f.way)
-    next-state states k found made kept again it enough f at final =
-        let pids = live_at program_of s f.way in
-        let ms = moves_from f.way pids in
+        → ReportsThen states k made visited (Some f.witness)
+    next-state states k found made visited again it enough f at final =
+        let pids = live_at program_of s f.witness in
+        let ms = moves_from f.witness pids in
         let moves_is : moves_of program_of f ≡ ms = moves-at f (sound-at k found f it.sound at) in
-        let steps = steps-kept f.way pids found made kept it.keeps in
+        let steps = steps-visited f.witness pids found made visited it.keeps in
         let later : List Found = fold (with_move program_of limit) found ms in
         let more = more-found ms found in
-        let after : Kept = kept_after_steps limit program_of s f.way pids kept in
+        let after : Visited = visited_after_steps limit program_of s f.witness pids visited in
         let following : Underway (suc k) later (made ++ ms) after = record {
           keeps = steps.keeps;
-          sound = sound-found ms found (sound-steps f.way pids) it.sound;
+          sound = sound-found ms found (sound-steps f.witness pids) it.sound;
           few = few-found ms found it.few;
           made_is =
               ap₂ (λ (a b : List Move). a ++ b) it.made_is (sym moves_is ∙ sym (append-nil (moves_of program_of f)))
               ∙ sym (ap (flat_map (moves_of program_of)) (ap (take (suc k)) more.1 ∙ take-next k found more.0 f at) ∙ flat_map-append (moves_of program_of) (take k found) (f ∷ []));
         } in
-        let rest : List AnswerLine = told_from limit program_of s states (suc k) after in
-        let lines : flat_map move_lines (told_moves (made ++ ms)) ++ rest ≡ flat_map move_lines (told_moves made) ++ (steps_told limit program_of s f.way pids kept ++ rest) =
-        ap (λ ls. ls ++ rest) steps.lines ∙ append_assoc (flat_map move_lines (told_moves made)) (steps_told limit program_of s f.way pids kept) rest in
-        subst (λ (ls : List AnswerLine). Finds ls (kept_from limit program_of s states (suc k) after)) lines
+        let rest : List AnswerLine = reported_from limit program_of s states (suc k) after in
+        let lines : flat_map move_lines (reported_moves (made ++ ms)) ++ rest ≡ flat_map move_lines (reported_moves made) ++ (reported_steps limit program_of s f.witness pids visited ++ rest) =
+        ap (λ ls. ls ++ rest) steps.lines ∙ append_assoc (flat_map move_lines (reported_moves made)) (reported_steps limit program_of s f.witness pids visited) rest in
+        subst (λ (ls : List AnswerLine). Finds ls (visited_from limit program_of s states (suc k) after)) lines
         (again (suc k) later (made ++ ms) after following (omega arith)
         (ap (λ ns. found_from program_of limit states (suc k) (fold (with_move program_of limit) found ns)) (sym moves_is) ∙ final))
 
-    pub told-all : (states : ℕ) → TellsAll states
-    told-all zero k found made kept it enough final = past-end k found made kept it (let few = it.few in omega arith) final
-    told-all (suc states) k found made kept it enough final = by (next-state states k found made kept (told-all states) it enough) (slice_get found k) refl final
+    pub reported-all : (states : ℕ) → ReportsAll states
+    reported-all zero k found made visited it enough final = past-end k found made visited it (let few = it.few in omega arith) final
+    reported-all (suc states) k found made visited it enough final = by (next-state states k found made visited (reported-all states) it enough) (slice_get found k) refl final
       where
-        at-way : slice_get kept.ways k ≡ option_map way_of_found (slice_get found k)
-        at-way = ap (λ ws. slice_get ws k) it.keeps.ways ∙ slice_get-map way_of_found found k
+        at-witness : slice_get visited.witnesses k ≡ option_map witness_of_found (slice_get found k)
+        at-witness = ap (λ ws. slice_get ws k) it.keeps.witnesses ∙ slice_get-map witness_of_found found k
 
         stop : slice_get found k ≡ None → length found ≤ k
         stop none = ⊎_elim (λ there. let at = there.2 in cc) (λ past. past.0) (slice_get_cases found k).1
 
         by : ((f : Found) → slice_get found k ≡ Some f
-            → found_from program_of limit states (suc k) (fold (with_move program_of limit) found (moves_of program_of f)) ≡ states_found program_of limit s → TellsThen states k made kept (Some f.way))
+            → found_from program_of limit states (suc k) (fold (with_move program_of limit) found (moves_of program_of f)) ≡ states_found program_of limit s → ReportsThen states k made visited (Some f.witness))
             → (o : Option Found) → slice_get found k ≡ o → found_after program_of limit (found_from program_of limit states (suc k)) found o ≡ states_found program_of limit s
-            → TellsThen states k made kept (slice_get kept.ways k)
-        by on None none final = subst (TellsThen states k made kept) (sym (at-way ∙ ap (option_map way_of_found) none)) (past-end k found made kept it (stop none) final)
-        by on (Some f) at final = subst (TellsThen states k made kept) (sym (at-way ∙ ap (option_map way_of_found) at)) (on f at final)
+            → ReportsThen states k made visited (slice_get visited.witnesses k)
+        by on None none final = subst (ReportsThen states k made visited) (sym (at-witness ∙ ap (option_map witness_of_found) none)) (past-end k found made visited it (stop none) final)
+        by on (Some f) at final = subst (ReportsThen states k made visited) (sym (at-witness ∙ ap (option_map witness_of_found) at)) (on f at final)
 
-    -- what a search tells from its first state on, and keeps, is what can happen
-    pub plan-finds : 1 ≤ limit → Finds (told_from limit program_of s limit 0 (first_kept limit program_of s)) (kept_from limit program_of s limit 0 (first_kept limit program_of s))
+    -- the lines and data of the search from its first state are those of the definitions
+    pub plan-finds : 1 ≤ limit → Finds (reported_from limit program_of s limit 0 (first_visited limit program_of s)) (visited_from limit program_of s limit 0 (first_visited limit program_of s))
     plan-finds some =
-        let start : Found = record { way = []; state = s } in
-        told-all limit 0 (start ∷ []) [] (first_kept limit program_of s)
+        let start : Found = record { witness = []; state = s } in
+        reported-all limit 0 (start ∷ []) [] (first_visited limit program_of s)
         (record {
           keeps = record {
             keys = refl;
-            ways = refl;
-            told = refl;
-            endings = endings-kept [] start [] refl;
+            witnesses = refl;
+            reported = refl;
+            endings = endings-visited [] start [] refl;
             complete = refl;
             full = inl refl;
           };
@@ -476,14 +476,14 @@ module _ (program_of : Bytes → Option Program) (limit : ℕ) where
           made_is = refl;
         }) (omega arith) (first-states program_of limit s)
 
-    -- how the answer ends
-    pub done-are : (lines : List AnswerLine) (kept : Kept) → Finds lines kept
-        → done_lines kept ≡ done_line program_of limit s ∷ endings_line (length (endings (states_found program_of limit s))) ∷ []
-    done-are lines kept it =
+    -- the last lines
+    pub done-are : (lines : List AnswerLine) (visited : Visited) → Finds lines visited
+        → done_lines visited ≡ done_line program_of limit s ∷ endings_line (length (endings (states_found program_of limit s))) ∷ []
+    done-are lines visited it =
         ap₂ (λ (a b : AnswerLine). a ∷ b ∷ [])
         (ap₂ states_line (ap length it.keeps.keys ∙ length-map (states_found program_of limit s) state_of_found) it.keeps.complete)
         (ap endings_line (ap length it.keeps.endings ∙ length-map (endings (states_found program_of limit s)) tree_key))
 
-    pub explore-are : (lines : List AnswerLine) (kept : Kept) → Finds lines kept → lines ++ done_lines kept ≡ explore_lines program_of limit s
+    pub explore-are : (lines : List AnswerLine) (visited : Visited) → Finds lines visited → lines ++ done_lines visited ≡ explore_lines program_of limit s
     unfolding explore_lines
-    explore-are lines kept it = ap₂ (λ (a b : List AnswerLine). a ++ b) it.lines_are (done-are lines kept it)
+    explore-are lines visited it = ap₂ (λ (a b : List AnswerLine). a ++ b) it.lines_are (done-are lines visited it)

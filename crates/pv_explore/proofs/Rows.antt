@@ -1,4 +1,4 @@
--- Rows tell states apart, and stay as they are when more is kept.
+-- Rows distinguish states, and stay valid when more is stored.
 use Rattle.std.proofs.Common.{◌≡◌, ◌∙◌, sym, ap, ap₂, subst, ℕ, zero, suc, ◌+◌, ◌-◌, ◌*◌, ◌/◌, ◌%◌, ◌<◌, ◌≤◌, Bool, true, false, ◌||◌, cond, if◌then◌else◌, not, nat_lt, bytes_eq, List, [], ◌∷◌, ◌++◌, get_or, length, map, take, flat_map, append_assoc, append-nil, None, Some, mul_assoc, refl, arith}
 use Rattle.std.specs.Prelude.{position}
 use Rattle.std.specs.List.{AllByRecursion, list_any, position_or_len, take-map}
@@ -7,18 +7,18 @@ use Rattle.std.proofs.lemmas.List.{length-map, map-append, take_all, take_more}
 use Rattle.pv_model.specs.Answers.Numbers.{Numbers, state_numbers}
 use Rattle.pv_model.specs.Bytes.{Bytes}
 use Rattle.pv_model.specs.State.{State}
-use Rattle.pv_laws_explore.proofs.Lists.{each-append}
-use Rattle.pv_laws_explore.proofs.Reading.{same-state_numbers}
+use Rattle.pv_laws_answers.proofs.Lists.{each-append}
+use Rattle.pv_laws_answers.proofs.Reading.{same-state_numbers}
 use Rattle.pv_laws_trees.proofs.Entries.{bytes_eq-same, bytes_eq-itself}
-use Rattle.pv_spelling.specs.Groups.{joined, state_groups}
-use Rattle.pv_spelling.specs.Packed.{packed_in, packed_all, IsAdded}
-use Rattle.pv_spelling.proofs.Adding.{packed-append, packed-is, packed-small, packed-more}
-use Rattle.pv_spelling.proofs.Apart.{packed-apart}
-use Rattle.pv_spelling.proofs.Grouping.{state-joined}
-use Rattle.pv_explore.specs.Rows.{unpacked_from, unpacked, number_in, IsAmong, Grew, group_row, group_bytes, state_row, state_bytes, AreKept, IsRow}
+use Rattle.pv_state_encoding.specs.Groups.{joined, state_groups}
+use Rattle.pv_state_encoding.specs.Packed.{packed_in, packed_all, IsAdded}
+use Rattle.pv_state_encoding.proofs.Adding.{packed-append, packed-is, packed-small, packed-more}
+use Rattle.pv_state_encoding.proofs.Apart.{packed-apart}
+use Rattle.pv_state_encoding.proofs.Grouping.{state-joined}
+use Rattle.pv_explore.specs.Rows.{unpacked_from, unpacked, number_in, IsAmong, Grew, group_row, group_bytes, state_row, state_bytes, AreVisited, IsRow}
 use Rattle.pv_explore.proofs.Planned.{same-tests}
 
--- ---- numbers from their bytes
+-- ---- numbers from bytes
 
 weighed : (w low n : ℕ) → low + w * (128 + n % 128 - 128) + w * 128 * (n / 128) ≡ low + w * n
 weighed w low n =
@@ -152,41 +152,41 @@ module _ (parts groups : List Bytes) where
   abbrev number_of : List Bytes → ℕ
   number_of g = number_in groups (group_row parts g)
 
-  pub state-back : (gs : List (List Bytes)) → AreKept parts groups gs → state_bytes parts groups (state_row parts groups gs) ≡ joined gs
-  state-back gs kept = ap (flat_map (λ n. group_bytes parts (get_or groups n []))) (unpacked-packed (map number_of gs)) ∙ each gs kept
+  pub state-back : (gs : List (List Bytes)) → AreVisited parts groups gs → state_bytes parts groups (state_row parts groups gs) ≡ joined gs
+  state-back gs visited = ap (flat_map (λ n. group_bytes parts (get_or groups n []))) (unpacked-packed (map number_of gs)) ∙ each gs visited
     where
-      each : (gs : List (List Bytes)) → AreKept parts groups gs → flat_map (λ n. group_bytes parts (get_or groups n [])) (map number_of gs) ≡ joined gs
-      each [] kept = refl
-      each (g ∷ gs) kept = ap₂ (λ (x y : Bytes). x ++ y) (ap (group_bytes parts) (get-number groups (group_row parts g) kept.0.1) ∙ group-back parts g kept.0.0) (each gs kept.1)
+      each : (gs : List (List Bytes)) → AreVisited parts groups gs → flat_map (λ n. group_bytes parts (get_or groups n [])) (map number_of gs) ≡ joined gs
+      each [] visited = refl
+      each (g ∷ gs) visited = ap₂ (λ (x y : Bytes). x ++ y) (ap (group_bytes parts) (get-number groups (group_row parts g) visited.0.1) ∙ group-back parts g visited.0.0) (each gs visited.1)
 
-  pub same-rows : (gs hs : List (List Bytes)) → AreKept parts groups hs → state_row parts groups gs ≡ state_row parts groups hs → gs ≡ hs
-  same-rows gs hs kept same = each gs hs kept (packed-apart (map number_of gs) (map number_of hs) same)
+  pub same-rows : (gs hs : List (List Bytes)) → AreVisited parts groups hs → state_row parts groups gs ≡ state_row parts groups hs → gs ≡ hs
+  same-rows gs hs visited same = each gs hs visited (packed-apart (map number_of gs) (map number_of hs) same)
     where
-      each : (gs hs : List (List Bytes)) → AreKept parts groups hs → map number_of gs ≡ map number_of hs → gs ≡ hs
-      each [] [] kept same = refl
-      each [] (h ∷ hs) kept same = cc
-      each (g ∷ gs) [] kept same = cc
-      each (g ∷ gs) (h ∷ hs) kept same =
+      each : (gs hs : List (List Bytes)) → AreVisited parts groups hs → map number_of gs ≡ map number_of hs → gs ≡ hs
+      each [] [] visited same = refl
+      each [] (h ∷ hs) visited same = cc
+      each (g ∷ gs) [] visited same = cc
+      each (g ∷ gs) (h ∷ hs) visited same =
           let both = tail-is (number_of g) (number_of h) (map number_of gs) (map number_of hs) same in
-          let row = same-number groups (group_row parts g) (group_row parts h) kept.0.1 both.0 in
-          ap₂ (λ (x : List Bytes) (y : List (List Bytes)). x ∷ y) (same-numbers parts g h kept.0.0 (packed-apart (map (number_in parts) g) (map (number_in parts) h) row)) (each gs hs kept.1 both.1)
+          let row = same-number groups (group_row parts g) (group_row parts h) visited.0.1 both.0 in
+          ap₂ (λ (x : List Bytes) (y : List (List Bytes)). x ∷ y) (same-numbers parts g h visited.0.0 (packed-apart (map (number_in parts) g) (map (number_in parts) h) row)) (each gs hs visited.1 both.1)
 
-  -- a row that is kept is that of a state where its bytes are
+  -- a stored row is that of a state exactly if the encodings are equal
   row-test : (row : Bytes) → IsRow parts groups row → (s : State) → bytes_eq (state_row parts groups (state_groups s)) row ≡ bytes_eq (joined (state_groups s)) (state_bytes parts groups row)
   row-test row is s =
       let t = is.state in
-      let bytes : state_bytes parts groups row ≡ joined (state_groups t) = ap (state_bytes parts groups) is.is ∙ state-back (state_groups t) is.kept in
+      let bytes : state_bytes parts groups row ≡ joined (state_groups t) = ap (state_bytes parts groups) is.is ∙ state-back (state_groups t) is.visited in
       same-tests (bytes_eq (state_row parts groups (state_groups s)) row) (bytes_eq (joined (state_groups s)) (state_bytes parts groups row))
       (λ same.
       let rows : state_row parts groups (state_groups s) ≡ state_row parts groups (state_groups t) = bytes_eq-same (state_row parts groups (state_groups s)) row same ∙ is.is in
-      let groups_are = same-rows (state_groups s) (state_groups t) is.kept rows in
+      let groups_are = same-rows (state_groups s) (state_groups t) is.visited rows in
       subst (λ (b : Bytes). bytes_eq (joined (state_groups s)) b ≡ true) (ap joined groups_are ∙ sym bytes) (bytes_eq-itself (joined (state_groups s))))
       (λ same.
       let numbers : packed_all (state_numbers s) ≡ packed_all (state_numbers t) = sym (state-joined s) ∙ bytes_eq-same (joined (state_groups s)) (state_bytes parts groups row) same ∙ bytes ∙ state-joined t in
       let states : s ≡ t = same-state_numbers s t (packed-apart (state_numbers s) (state_numbers t) numbers) in
       subst (λ (b : Bytes). bytes_eq (state_row parts groups (state_groups s)) b ≡ true) (ap (λ (u : State). state_row parts groups (state_groups u)) states ∙ sym is.is) (bytes_eq-itself (state_row parts groups (state_groups s))))
 
-  -- so among rows, too
+  -- the same for the list of rows
   module _ (s : State) where
     abbrev row_of : Bytes
     row_of = state_row parts groups (state_groups s)
@@ -205,30 +205,30 @@ module _ (parts groups : List Bytes) where
     pub position-row : (rows : List Bytes) → AllByRecursion (IsRow parts groups) rows → position (bytes_eq row_of) rows ≡ position (bytes_eq bytes_of) (map (state_bytes parts groups) rows)
     position-row rows all = ap₂ (λ n m. cond (nat_lt n m) (Some n) None) (first-row rows all) (sym (length-map rows (state_bytes parts groups)))
 
--- ---- when more is kept
+-- ---- when more is stored
 
 module _ (parts groups parts_now groups_now : List Bytes) (parts_grew : Grew parts parts_now) (groups_grew : Grew groups groups_now) where
   row-grew : (g : List Bytes) → AllByRecursion (IsAmong parts) g → group_row parts_now g ≡ group_row parts g
   row-grew g all = ap (λ (table : List Bytes). group_row table g) parts_grew.is ∙ ap packed_all (numbers-later parts parts_grew.more g all)
 
-  pub kept-grew : (gs : List (List Bytes)) → AreKept parts groups gs → AreKept parts_now groups_now gs
-  kept-grew [] kept = tt
-  kept-grew (g ∷ gs) kept =
-      let among : IsAmong groups_now (group_row parts g) = subst (λ (table : List Bytes). IsAmong table (group_row parts g)) (sym groups_grew.is) (among-later groups groups_grew.more (group_row parts g) kept.0.1) in
-      ((all-grew parts parts_now g parts_grew kept.0.0, subst (IsAmong groups_now) (sym (row-grew g kept.0.0)) among), kept-grew gs kept.1)
+  pub visited-grew : (gs : List (List Bytes)) → AreVisited parts groups gs → AreVisited parts_now groups_now gs
+  visited-grew [] visited = tt
+  visited-grew (g ∷ gs) visited =
+      let among : IsAmong groups_now (group_row parts g) = subst (λ (table : List Bytes). IsAmong table (group_row parts g)) (sym groups_grew.is) (among-later groups groups_grew.more (group_row parts g) visited.0.1) in
+      ((all-grew parts parts_now g parts_grew visited.0.0, subst (IsAmong groups_now) (sym (row-grew g visited.0.0)) among), visited-grew gs visited.1)
 
-  pub numbers-grew : (gs : List (List Bytes)) → AreKept parts groups gs → map (λ g. number_in groups_now (group_row parts_now g)) gs ≡ map (λ g. number_in groups (group_row parts g)) gs
-  numbers-grew [] kept = refl
-  numbers-grew (g ∷ gs) kept =
+  pub numbers-grew : (gs : List (List Bytes)) → AreVisited parts groups gs → map (λ g. number_in groups_now (group_row parts_now g)) gs ≡ map (λ g. number_in groups (group_row parts g)) gs
+  numbers-grew [] visited = refl
+  numbers-grew (g ∷ gs) visited =
       ap₂ (λ (n : ℕ) (ns : Numbers). n ∷ ns)
-      (ap (number_in groups_now) (row-grew g kept.0.0) ∙ ap (λ (table : List Bytes). number_in table (group_row parts g)) groups_grew.is ∙ number-later groups groups_grew.more (group_row parts g) kept.0.1)
-      (numbers-grew gs kept.1)
+      (ap (number_in groups_now) (row-grew g visited.0.0) ∙ ap (λ (table : List Bytes). number_in table (group_row parts g)) groups_grew.is ∙ number-later groups groups_grew.more (group_row parts g) visited.0.1)
+      (numbers-grew gs visited.1)
 
   is-row-grew : (row : Bytes) → IsRow parts groups row → IsRow parts_now groups_now row
   is-row-grew row is = record {
     state = is.state;
-    is = is.is ∙ ap packed_all (sym (numbers-grew (state_groups is.state) is.kept));
-    kept = kept-grew (state_groups is.state) is.kept;
+    is = is.is ∙ ap packed_all (sym (numbers-grew (state_groups is.state) is.visited));
+    visited = visited-grew (state_groups is.state) is.visited;
   }
 
   pub rows-grew : (rows : List Bytes) → AllByRecursion (IsRow parts groups) rows → AllByRecursion (IsRow parts_now groups_now) rows
@@ -239,8 +239,8 @@ module _ (parts groups parts_now groups_now : List Bytes) (parts_grew : Grew par
   unfolding is-row-grew
   bytes-grew row is =
       let later = is-row-grew row is in
-      ap (state_bytes parts_now groups_now) later.is ∙ state-back parts_now groups_now (state_groups is.state) later.kept
-      ∙ sym (ap (state_bytes parts groups) is.is ∙ state-back parts groups (state_groups is.state) is.kept)
+      ap (state_bytes parts_now groups_now) later.is ∙ state-back parts_now groups_now (state_groups is.state) later.visited
+      ∙ sym (ap (state_bytes parts groups) is.is ∙ state-back parts groups (state_groups is.state) is.visited)
 
   pub states-grew : (rows : List Bytes) → AllByRecursion (IsRow parts groups) rows → map (state_bytes parts_now groups_now) rows ≡ map (state_bytes parts groups) rows
   states-grew [] all = refl
@@ -255,7 +255,7 @@ grew-then a b c first second = record {
   is = second.is ∙ ap (λ (table : List Bytes). table ++ second.more) first.is ∙ append_assoc a first.more second.more;
 }
 
--- a byte string that is learnt
+-- a byte string was added
 pub learnt-grew : (old new : List Bytes) (b : Bytes) → new ≡ (if list_any (bytes_eq b) old then old else old ++ b ∷ []) → Grew old new
 learnt-grew old new b is = by (list_any (bytes_eq b) old) is
   where
@@ -270,7 +270,7 @@ learnt-among old new b is = by (list_any (bytes_eq b) old) refl is
     by true there is = subst (λ (table : List Bytes). IsAmong table b) (sym is) (record { is = there })
     by false there is = subst (λ (table : List Bytes). IsAmong table b) (sym is) (among-last old b)
 
--- ---- as far as a loop has come
+-- ---- in a loop
 
 module _ {X Y : Type 0} (h : X → Y) (xs : List X) (i : ℕ) (d : X) where
   pub taken-more : i < length xs → take (i + 1) (map h xs) ≡ take i (map h xs) ++ h (get_or xs i d) ∷ []
@@ -295,7 +295,7 @@ module _ {X Y : Type 0} (h : X → Y) (xs : List X) (i : ℕ) (d : X) where
   pub all-end : (P : Y → Type 0) → length xs ≤ i → AllByRecursion P (take i (map h xs)) → AllByRecursion P (map h xs)
   all-end P past all = subst (AllByRecursion P) (taken-all past) all
 
--- with another number, of a table that has grown
+-- the numbers of stored byte strings stay in a grown table
 pub numbers-now : (old new g : List Bytes) → Grew old new → AllByRecursion (IsAmong old) g → map (number_in new) g ≡ map (number_in old) g
 numbers-now old new g grew all = ap (λ (table : List Bytes). map (number_in table) g) grew.is ∙ numbers-later old grew.more g all
 
@@ -304,15 +304,15 @@ pub row-learnt : {X : Type 0} (h : X → Bytes) (xs : List X) (i : ℕ) (d : X) 
 row-learnt h xs i d old new n row row_now grew within all is so_far added =
     row-next h xs i d (number_in new) n row row_now within is (so_far ∙ ap packed_all (sym (numbers-now old new (take i (map h xs)) grew all))) added
 
--- ---- a state more
+-- ---- one more state
 
 pub all-more : {X : Type 0} (P : X → Type 0) (xs new : List X) (x : X) → new ≡ xs ++ x ∷ [] → AllByRecursion P xs → P x → AllByRecursion P new
 all-more P xs new x is all one = subst (AllByRecursion P) (sym is) (each-append P xs (x ∷ []) all (one, tt))
 
--- what is there when a state is added whose groups are all kept
-module _ (parts groups rows : List Bytes) (all : AllByRecursion (IsRow parts groups) rows) (gs : List (List Bytes)) (s : State) (gs_is : gs ≡ state_groups s) (kept : AreKept parts groups gs) where
+-- the rows after a state is added whose groups are all stored
+module _ (parts groups rows : List Bytes) (all : AllByRecursion (IsRow parts groups) rows) (gs : List (List Bytes)) (s : State) (gs_is : gs ≡ state_groups s) (visited : AreVisited parts groups gs) where
   row-is : IsRow parts groups (state_row parts groups gs)
-  row-is = record { state = s; is = ap (state_row parts groups) gs_is; kept = subst (AreKept parts groups) gs_is kept }
+  row-is = record { state = s; is = ap (state_row parts groups) gs_is; visited = subst (AreVisited parts groups) gs_is visited }
 
   pub new-rows : (new : List Bytes) → list_any (bytes_eq (joined gs)) (map (state_bytes parts groups) rows) ≡ false → new ≡ (if list_any (bytes_eq (state_row parts groups gs)) rows then rows else rows ++ state_row parts groups gs ∷ [])
       → new ≡ rows ++ state_row parts groups gs ∷ []
@@ -327,4 +327,4 @@ module _ (parts groups rows : List Bytes) (all : AllByRecursion (IsRow parts gro
   pub states-added : (new : List Bytes) → new ≡ rows ++ state_row parts groups gs ∷ [] → map (state_bytes parts groups) new ≡ map (state_bytes parts groups) rows ++ joined gs ∷ []
   states-added new is =
       ap (map (state_bytes parts groups)) is ∙ map-append (state_bytes parts groups) rows (state_row parts groups gs ∷ [])
-      ∙ ap (λ b. map (state_bytes parts groups) rows ++ b ∷ []) (state-back parts groups gs kept)
+      ∙ ap (λ b. map (state_bytes parts groups) rows ++ b ∷ []) (state-back parts groups gs visited)

@@ -1,7 +1,7 @@
-pub mod Beginnings
+pub mod FirstMachines
 pub mod Plan
 pub mod Rows
 pub mod Searches
 pub mod Vertices
-pub mod KeptStates
-pub mod Ways
+pub mod VisitedStates
+pub mod Witnesses

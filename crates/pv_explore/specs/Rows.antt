@@ -1,16 +1,18 @@
--- States as rows of small numbers: parts are kept once, groups of parts are rows of the numbers of parts, and states rows of the numbers of groups.
+-- States as rows of small numbers. Each part is stored once; a group is a row of part numbers, and a state is a row of
+-- group numbers.
 use Rattle.std.specs.Prelude.{◌≡◌, ℕ, zero, suc, ◌+◌, ◌-◌, ◌*◌, true, if◌then◌else◌, nat_lt, List, [], ◌∷◌, ◌++◌, get_or, map, flat_map, bytes_eq}
 use Rattle.std.specs.Global.{Vec}
 use Rattle.std.specs.List.{AllByRecursion, list_any, position_or_len}
 use Rattle.pv_model.specs.Answers.Numbers.{Numbers}
 use Rattle.pv_model.specs.Bytes.{Bytes}
 use Rattle.pv_model.specs.State.{State}
-use Rattle.pv_spelling.specs.Groups.{state_groups}
-use Rattle.pv_spelling.specs.Packed.{packed_all}
+use Rattle.pv_state_encoding.specs.Groups.{state_groups}
+use Rattle.pv_state_encoding.specs.Packed.{packed_all}
 
--- ---- bytes as numbers again
+-- ---- bytes as numbers
 
--- with so many bytes left of a number, the weight of the next one, and what those before it come to
+-- the numbers in bytes, given how many bytes of the current number can still follow, the weight of the next byte, and
+-- the value of the earlier ones
 abbrev pub unpacked_from : Bytes → ℕ → ℕ → ℕ → Numbers
 unpacked_from [] left weight low = []
 unpacked_from (b ∷ bs) zero weight low = (low + weight * b) ∷ unpacked_from bs 9 1 0
@@ -21,19 +23,19 @@ unpacked bs = unpacked_from bs 9 1 0
 
 -- ---- tables
 
--- the number of a byte string, or how many there are where it is none of them
+-- the index of a byte string, or the number of byte strings if it is not in the table
 abbrev pub number_in : List Bytes → Bytes → ℕ
 number_in table b = position_or_len (bytes_eq b) table
 
 pub record IsAmong (table : List Bytes) (b : Bytes) : Type 0 where
   pub is : list_any (bytes_eq b) table ≡ true
 
--- others came after those that were there
+-- entries were appended
 pub record Grew (old new : List Bytes) : Type 0 where
   pub more : List Bytes
   pub is : new ≡ old ++ more
 
--- the parts of a group that the code has
+-- the parts of a group of the code
 abbrev pub parts_in : List (Vec ℕ) → List Bytes
 parts_in group = map (λ p. p.items) group
 
@@ -43,7 +45,7 @@ module _ (parts : List Bytes) where
   abbrev pub group_row : List Bytes → Bytes
   group_row g = packed_all (map (number_in parts) g)
 
-  -- and back
+  -- the group of a row
   abbrev pub group_bytes : Bytes → Bytes
   group_bytes row = flat_map (λ n. get_or parts n []) (unpacked row)
 
@@ -54,19 +56,19 @@ module _ (parts : List Bytes) where
     abbrev pub state_bytes : Bytes → Bytes
     state_bytes row = flat_map (λ n. group_bytes (get_or groups n [])) (unpacked row)
 
-    -- all that these are made of is kept
-    abbrev pub IsGroupKept : List Bytes → Type 0
-    IsGroupKept g = AllByRecursion (IsAmong parts) g × IsAmong groups (group_row g)
+    -- all parts of a group, or all groups of a state, are stored
+    abbrev pub IsGroupVisited : List Bytes → Type 0
+    IsGroupVisited g = AllByRecursion (IsAmong parts) g × IsAmong groups (group_row g)
 
-    abbrev pub AreKept : List (List Bytes) → Type 0
-    AreKept gs = AllByRecursion IsGroupKept gs
+    abbrev pub AreVisited : List (List Bytes) → Type 0
+    AreVisited gs = AllByRecursion IsGroupVisited gs
 
-    -- a row is that of a state
+    -- the row is that of a state
     pub record IsRow (row : Bytes) : Type 0 where
       pub state : State
       pub is : row ≡ state_row (state_groups state)
-      pub kept : AreKept (state_groups state)
+      pub visited : AreVisited (state_groups state)
 
--- groups are those of a state
+-- the groups are those of a state
 abbrev pub AreOfState : List (List Bytes) → Type 0
 AreOfState gs = (s : State) × (gs ≡ state_groups s)

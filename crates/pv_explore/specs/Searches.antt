@@ -1,45 +1,45 @@
--- What is kept of a search, and the bytes of a step that is told.
+-- The data of a search, and the bytes of a step that is written.
 use Rattle.std.specs.Prelude.{◌≡◌, ℕ, false, if◌then◌else◌, List, [], ◌∷◌, ◌++◌, get_or, map, codes}
 use Rattle.pv_explore.specs.declared.search.Search.{Search}
-use Rattle.pv_explore.specs.declared.states.Found.{Found}
-use Rattle.pv_explore.specs.declared.states.Found.TheVariants.{Known, Full, New}
-use Rattle.pv_explore.specs.Plan.{Kept, endings_after, is_told, state_at, state_key}
-use Rattle.pv_model.specs.Answers.Explore.{Move, way_text}
+use Rattle.pv_explore.specs.declared.states.Visit.{Visit}
+use Rattle.pv_explore.specs.declared.states.Visit.TheVariants.{Known, Full, New}
+use Rattle.pv_explore.specs.Plan.{Visited, endings_after, is_reported, state_at, state_key}
+use Rattle.pv_model.specs.Answers.Explore.{Move, witness_text}
 use Rattle.pv_model.specs.Bytes.{Bytes}
 use Rattle.pv_model.specs.Grammar.Programs.{program_of}
 use Rattle.pv_model.specs.State.{State}
 use Rattle.pv_model.specs.Trace.{text_line}
 use Rattle.pv_session.specs.Running.{stepped}
 
-abbrev pub kept_of : Search → Kept
-kept_of s = record { keys = s.states; ways = s.ways; told = s.told; endings = s.endings; complete = s.complete }
+abbrev pub visited_of : Search → Visited
+visited_of s = record { keys = s.states; witnesses = s.witnesses; reported = s.reported; endings = s.endings; complete = s.complete }
 
--- the step of a process in a state, to which a way leads
+-- the step of a process in the state at the end of a witness
 abbrev pub move_of : List ℕ → ℕ → State → Move
-move_of way pid s = record { way = way; pid = pid; stepped = stepped s pid }
+move_of witness pid s = record { witness = witness; pid = pid; stepped = stepped s pid }
 
 abbrev pub move_bytes : ℕ → List ℕ → Bytes → Bytes
-move_bytes pid way text = text_line pid (codes "BY") (way_text way) ++ text
+move_bytes pid witness text = text_line pid (codes "BY") (witness_text witness) ++ text
 
-abbrev pub told_bytes : List Bytes → ℕ → List ℕ → Bytes → Bytes
-told_bytes told pid way text = if is_told told text then [] else move_bytes pid way text
+abbrev pub reported_bytes : List Bytes → ℕ → List ℕ → Bytes → Bytes
+reported_bytes reported pid witness text = if is_reported reported text then [] else move_bytes pid witness text
 
--- the way to the state of a number
-abbrev pub way_at : Kept → ℕ → List ℕ
-way_at kept number = get_or kept.ways number []
+-- the witness of state `number`
+abbrev pub witness_at : Visited → ℕ → List ℕ
+witness_at visited number = get_or visited.witnesses number []
 
--- each state found is the one at the end of its way
-abbrev pub AreAt : State → Kept → Type 0
-AreAt s kept = kept.keys ≡ map (λ way. state_key (state_at program_of s way)) kept.ways
+-- each visited state is the one at the end of its witness
+abbrev pub AreAt : State → Visited → Type 0
+AreAt s visited = visited.keys ≡ map (λ witness. state_key (state_at program_of s witness)) visited.witnesses
 
--- the trees at ends, where a state that was looked for was added
-abbrev pub endings_found : Found → List Bytes → State → List Bytes
+-- the trees at ends after a visit: the tree is added if the state was added
+abbrev pub endings_found : Visit → List Bytes → State → List Bytes
 endings_found Known endings t = endings
 endings_found Full endings t = endings
 endings_found New endings t = endings_after endings t
 
--- with the way to a state that was looked for, where that was added
-abbrev pub with_way : Found → List ℕ → Kept → Kept
-with_way Known way kept = kept
-with_way Full way kept = record kept { complete = false }
-with_way New way kept = record kept { ways = kept.ways ++ way ∷ [] }
+-- the data after a visit: the witness is added if the state was added
+abbrev pub with_witness : Visit → List ℕ → Visited → Visited
+with_witness Known witness visited = visited
+with_witness Full witness visited = record visited { complete = false }
+with_witness New witness visited = record visited { witnesses = visited.witnesses ++ witness ∷ [] }

@@ -1,10 +1,10 @@
--- A state of a search with its steps, by what is kept of it.
+-- A visited state with its steps, from the data of the search.
 use Rattle.std.specs.Prelude.{ℕ, Bool, List, [], ◌∷◌, ◌++◌, map, flat_map, codes, bytes_eq, length, position}
 use Rattle.std.specs.Fmt.{decimal}
-use Rattle.pv_explore.specs.Plan.{Kept, state_key, state_at, live_at}
+use Rattle.pv_explore.specs.Plan.{Visited, state_key, state_at, live_at}
 use Rattle.pv_model.specs.Answers.Explain.{explained_step}
 use Rattle.pv_model.specs.Answers.Explore.{states_line}
-use Rattle.pv_model.specs.Answers.Graph.{leads_to_text, tree_lines, untold}
+use Rattle.pv_model.specs.Answers.Graph.{leads_to_text, tree_lines, unreported}
 use Rattle.pv_model.specs.Answers.Lines.{AnswerLine, answer_bytes, answer_line, counted_from}
 use Rattle.pv_model.specs.Answers.ProcessRecord.{state_lines}
 use Rattle.pv_model.specs.Bytes.{Bytes}
@@ -17,26 +17,26 @@ abbrev pub listed_bytes : List Bytes → Bytes
 listed_bytes lines = answer_bytes (map (answer_line 0 (codes "LS")) lines)
 
 module _ (keys : List Bytes) where
-  -- a step in a state: where it leads, and its lines explained
+  -- a step in a state: the number of the state after it, and its explained lines
   abbrev pub step_of : State → ℕ → List AnswerLine
   step_of t pid =
-      answer_line pid (codes "STEP") (leads_to_text (position (bytes_eq (state_key (stepped t pid).after)) keys)) ∷ explained_step program_of untold t pid
+      answer_line pid (codes "STEP") (leads_to_text (position (bytes_eq (state_key (stepped t pid).after)) keys)) ∷ explained_step program_of unreported t pid
 
   module _ (s : State) where
-    -- the steps at the end of a way
+    -- the steps at the end of a witness
     abbrev pub steps_at : List ℕ → List ℕ → List AnswerLine
-    steps_at way pids = flat_map (step_of (state_at program_of s way)) pids
+    steps_at witness pids = flat_map (step_of (state_at program_of s witness)) pids
 
-    -- the state there, by its number, with its steps
+    -- the state at the end of a witness, with its number and its steps
     abbrev pub vertex_at : Bool → ℕ → List ℕ → List AnswerLine
-    vertex_at trees number way =
-        answer_line 0 (codes "AT") (decimal number) ∷ state_lines (state_at program_of s way) ++ tree_lines trees (state_at program_of s way)
-        ++ steps_at way (live_at program_of s way)
+    vertex_at trees number witness =
+        answer_line 0 (codes "AT") (decimal number) ∷ state_lines (state_at program_of s witness) ++ tree_lines trees (state_at program_of s witness)
+        ++ steps_at witness (live_at program_of s witness)
 
-    -- those from a number on
+    -- the states from a number on
     abbrev pub vertices_from : Bool → ℕ → List (List ℕ) → List AnswerLine
-    vertices_from trees number ways = flat_map (λ e. vertex_at trees e.0 e.1) (counted_from number ways)
+    vertices_from trees number witnesses = flat_map (λ e. vertex_at trees e.0 e.1) (counted_from number witnesses)
 
--- the lines of the states that a search found, from the first state on, and the last line
-abbrev pub found_lines : Kept → State → Bool → List AnswerLine
-found_lines kept s trees = vertices_from kept.keys s trees 0 kept.ways ++ states_line (length kept.keys) kept.complete ∷ []
+-- the lines of the visited states, from the first state on, and the last line
+abbrev pub found_lines : Visited → State → Bool → List AnswerLine
+found_lines visited s trees = vertices_from visited.keys s trees 0 visited.witnesses ++ states_line (length visited.keys) visited.complete ∷ []

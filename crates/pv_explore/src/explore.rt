@@ -1,24 +1,24 @@
-//! What can happen from a machine's first state on.
+//! The search of all states, and its answer: what can happen under any schedule.
 ghost use Rattle.std.specs.Prelude.{◌≡◌, ◌≤◌, IfErr, OnErr, OnOk};
-ghost use Rattle.pv_explore.specs.Plan.{done_lines, first_kept};
-ghost use Rattle.pv_explore.specs.Searches.{kept_of};
+ghost use Rattle.pv_explore.specs.Plan.{done_lines, first_visited};
+ghost use Rattle.pv_explore.specs.Searches.{visited_of};
 ghost use Rattle.pv_model.specs.Answers.Explore.{completeness_text, endings_line, explore_lines, states_line};
 ghost use Rattle.pv_model.specs.Answers.Lines.{answer_bytes, answer_line_bytes};
 ghost use Rattle.pv_model.specs.Grammar.Programs.{program_of};
 ghost use Rattle.pv_model.specs.Stream.{Rose};
 ghost use Rattle.pv_session.specs.Running.{FailsBy};
-ghost use Rattle.pv_streams.specs.Sinks.{and_all, TellsBeginning};
+ghost use Rattle.pv_streams.specs.Sinks.{and_all, WritesPrefix};
 
-use crate::beginning::Beginning;
+use crate::first_machine::FirstMachine;
 use crate::progress::Progress;
 use crate::search::Search;
-use crate::way::Count;
+use crate::witness::Count;
 use pv_answers::{Fragment, Line, Plain};
 use pv_session::Stop;
 use pv_streams::{Failed, Sink};
 use std::alloc::Global;
 
-// Whether no state was left out, in words.
+// Returns in words whether the search visited all states.
 fn completeness(complete: bool) -> &'static [u8]
     ensures { result.now ≡ completeness_text complete }
 {
@@ -29,11 +29,11 @@ fn completeness(complete: bool) -> &'static [u8]
     }
 }
 
-// Writes how many states were found, and whether that is all.
+// Writes the number of visited states, and whether these are all.
 #[tactic(auto, unfolding(pv_model::specs::Trace::text_line))]
 pub(crate) fn write_states<W: Sink>(out: &mut W, count: usize, complete: bool) -> Result<(), Failed>
     ensures whole { OnOk result (W.written out.new ≡ and_all (W.written out.old) (answer_line_bytes (states_line count complete))) }
-    ensures beginning { OnErr result (TellsBeginning (answer_line_bytes (states_line count complete)) (W.written out.old) (W.written out.new)) }
+    ensures prefix { OnErr result (WritesPrefix (answer_line_bytes (states_line count complete)) (W.written out.old) (W.written out.new)) }
     ensures failed { OnErr result (Rose (W.failures out.old) (W.failures out.new)) }
     ensures quiet { OnOk result (W.failures out.new ≡ W.failures out.old) }
 {
@@ -46,11 +46,11 @@ pub(crate) fn write_states<W: Sink>(out: &mut W, count: usize, complete: bool) -
     line.write(out)
 }
 
-// Writes in how many trees it ends.
+// Writes the number of different trees at the ends of schedules.
 #[tactic(auto, unfolding(pv_model::specs::Trace::text_line))]
 fn write_endings<W: Sink>(out: &mut W, count: usize) -> Result<(), Failed>
     ensures whole { OnOk result (W.written out.new ≡ and_all (W.written out.old) (answer_line_bytes (endings_line count))) }
-    ensures beginning { OnErr result (TellsBeginning (answer_line_bytes (endings_line count)) (W.written out.old) (W.written out.new)) }
+    ensures prefix { OnErr result (WritesPrefix (answer_line_bytes (endings_line count)) (W.written out.old) (W.written out.new)) }
     ensures failed { OnErr result (Rose (W.failures out.old) (W.failures out.new)) }
     ensures quiet { OnOk result (W.failures out.new ≡ W.failures out.old) }
 {
@@ -62,10 +62,10 @@ fn write_endings<W: Sink>(out: &mut W, count: usize) -> Result<(), Failed>
     line.write(out)
 }
 
-// Writes how a search ended.
+// Writes the result of a search.
 fn write_done<W: Sink>(out: &mut W, search: &Search) -> Result<(), Failed>
-    ensures whole { OnOk result (W.written out.new ≡ and_all (W.written out.old) (answer_bytes (done_lines (kept_of search.now)))) }
-    ensures beginning { OnErr result (TellsBeginning (answer_bytes (done_lines (kept_of search.now))) (W.written out.old) (W.written out.new)) }
+    ensures whole { OnOk result (W.written out.new ≡ and_all (W.written out.old) (answer_bytes (done_lines (visited_of search.now)))) }
+    ensures prefix { OnErr result (WritesPrefix (answer_bytes (done_lines (visited_of search.now))) (W.written out.old) (W.written out.new)) }
     ensures failed { OnErr result (Rose (W.failures out.old) (W.failures out.new)) }
     ensures quiet { OnOk result (W.failures out.new ≡ W.failures out.old) }
 {
@@ -73,53 +73,55 @@ fn write_done<W: Sink>(out: &mut W, search: &Search) -> Result<(), Failed>
     write_endings(out, search.endings.len())
 }
 
-// Searches from the first state on, and writes what that tells, and how it ended.
+// Searches from the first state, and writes the step texts and the result.
 fn write_search<W: Sink, P: Progress>(
     alloc: Global,
-    beginning: &Beginning,
+    first_machine: &FirstMachine,
     states: u32,
     search: &mut Search,
     progress: &mut P,
     out: &mut W,
 ) -> Result<(), Stop>
     requires states { 1 ≤ states }
-    requires first { kept_of search.old ≡ first_kept states program_of beginning.now }
-    ensures whole { OnOk result (W.written out.new ≡ and_all (W.written out.old) (answer_bytes (explore_lines program_of states beginning.now))) }
-    ensures beginning { OnErr result (TellsBeginning (answer_bytes (explore_lines program_of states beginning.now)) (W.written out.old) (W.written out.new)) }
+    requires first { visited_of search.old ≡ first_visited states program_of first_machine.now }
+    ensures whole { OnOk result (W.written out.new ≡ and_all (W.written out.old) (answer_bytes (explore_lines program_of states first_machine.now))) }
+    ensures prefix { OnErr result (WritesPrefix (answer_bytes (explore_lines program_of states first_machine.now)) (W.written out.old) (W.written out.new)) }
     ensures failed { IfErr result (λ stop. FailsBy stop (W.failures out.old) (W.failures out.new)) }
     ensures quiet { OnOk result (W.failures out.new ≡ W.failures out.old) }
 {
-    let end = search.search(alloc, beginning, states, progress, out);
+    let end = search.search(alloc, first_machine, states, progress, out);
     progress.end();
     end?;
     Ok(write_done(out, search)?)
 }
 
-/// Writes what can happen under any schedule: of the states that steps reach from a machine's first state, at most `states`, in
-/// breadth first order, what their steps tell. For each text of a step that no step before it had there is a line BY with a
-/// shortest way to it, and the text. The last two lines, DONE, have how many states were found and whether that is all, and how
-/// many different trees there are in which no process is live.
+/// Writes what can happen under any schedule. The search visits at most `states` states, in breadth-first order from
+/// the first state of a machine. For each step text that no earlier step had, it writes a BY line with a shortest
+/// witness, that is, a schedule that leads to this step, and then the text. The last two lines, DONE, have the number
+/// of visited states, whether these are all, and the number of different trees in which no process is live.
 ///
-/// Where that is all, the text of each step of a live process in each schedule is among those told: see `pv_laws_explore`.
+/// If the visited states are all states, the text of each step of a live process in each schedule is among the texts
+/// written: see `pv_laws_explore`.
 ///
-/// Meanwhile `progress` shows how far the search is, which ends before the last two lines, also where it stops by a fault.
+/// `progress` shows the state of the search. It ends before the last two lines, also if the search fails.
 ///
 /// # Errors
 ///
-/// `Memory` where memory was refused, `Write` where a write failed: the sink was given a beginning of the lines.
+/// - `Memory`, if there is no memory.
+/// - `Write`, if a write failed. The sink received a prefix of the lines.
 pub fn write_explore<W: Sink, P: Progress>(
     alloc: Global,
-    beginning: &Beginning,
+    first_machine: &FirstMachine,
     states: u32,
     progress: &mut P,
     out: &mut W,
 ) -> Result<(), Stop>
     requires { 1 ≤ states }
-    ensures whole { OnOk result (W.written out.new ≡ and_all (W.written out.old) (answer_bytes (explore_lines program_of states beginning.now))) }
-    ensures beginning { OnErr result (TellsBeginning (answer_bytes (explore_lines program_of states beginning.now)) (W.written out.old) (W.written out.new)) }
+    ensures whole { OnOk result (W.written out.new ≡ and_all (W.written out.old) (answer_bytes (explore_lines program_of states first_machine.now))) }
+    ensures prefix { OnErr result (WritesPrefix (answer_bytes (explore_lines program_of states first_machine.now)) (W.written out.old) (W.written out.new)) }
     ensures failed { IfErr result (λ stop. FailsBy stop (W.failures out.old) (W.failures out.new)) }
     ensures quiet { OnOk result (W.failures out.new ≡ W.failures out.old) }
 {
-    let mut search = Search::new(alloc, states, beginning)?;
-    write_search(alloc, beginning, states, &mut search, progress, out)
+    let mut search = Search::new(alloc, states, first_machine)?;
+    write_search(alloc, first_machine, states, &mut search, progress, out)
 }

@@ -1,4 +1,4 @@
-//! Different byte strings, in the order in which they came.
+//! A set of byte strings in insertion order.
 ghost use Rattle.std.specs.Prelude.{◌≡◌, ◌==◌, ◌++◌, ◌∷◌, [], length, position, bytes_eq, if◌then◌else◌, IfOk, OnOk, OnErr};
 ghost use Rattle.std.specs.List.{list_any, position_or_len};
 
@@ -6,7 +6,7 @@ use indexmap::IndexSet;
 use std::alloc::{AllocError, Global};
 use std::marker::Model;
 
-/// Different byte strings, in the order in which they came: a contract sees their list.
+/// A set of byte strings in insertion order. A contract sees the list of them.
 #[derive(Drop)]
 pub struct Keys {
     set: IndexSet<Vec<u8>>,
@@ -21,7 +21,7 @@ impl Model for Keys {
     ghost view = { λ k. map (λ v. v.items) k.set.keys };
 }
 
-// The same bytes, in no more room than they take.
+// Returns a copy of bytes, without spare capacity.
 fn copy_of(alloc: Global, bytes: &[u8]) -> Result<Vec<u8>, AllocError>
     ensures { IfOk result (λ copy. copy.items ≡ bytes.now) }
 {
@@ -31,7 +31,7 @@ fn copy_of(alloc: Global, bytes: &[u8]) -> Result<Vec<u8>, AllocError>
 }
 
 impl Keys {
-    /// None.
+    /// Returns an empty set.
     pub fn new(alloc: Global) -> Keys
         ensures { result ≡ [] }
     {
@@ -40,39 +40,39 @@ impl Keys {
         }
     }
 
-    /// How many they are.
+    /// Returns the number of byte strings.
     pub fn len(&self) -> usize
         ensures { result ≡ length self.now }
     {
         self.set.len()
     }
 
-    /// Whether there are none.
+    /// Returns whether the set is empty.
     pub fn is_empty(&self) -> bool
         ensures { result ≡ (length self.now == 0) }
     {
         self.set.is_empty()
     }
 
-    /// Whether a byte string is one of them.
+    /// Returns whether the set contains a byte string.
     pub fn contains(&self, key: &[u8]) -> bool
         ensures { result ≡ list_any (bytes_eq key.now) self.now }
     {
         self.set.contains(key)
     }
 
-    /// The number of a byte string, from 0, where it is one of them.
+    /// Returns the index of a byte string, if the set contains it.
     pub fn find(&self, key: &[u8]) -> Option<usize>
         ensures { result ≡ position (bytes_eq key.now) self.now }
     {
         self.set.get_index_of(key)
     }
 
-    /// Adds a byte string, if it is not there: it then comes last.
+    /// Appends a byte string if the set does not contain it.
     ///
     /// # Errors
     ///
-    /// Where memory was refused; nothing has then changed.
+    /// `AllocError`, if there is no memory. The set is then unchanged.
     pub fn add(&mut self, key: Vec<u8>) -> Result<(), AllocError>
         ensures added { OnOk result (self.new ≡ (if list_any (bytes_eq key.items) self.old then self.old else self.old ++ key.items ∷ [])) }
         ensures unchanged { OnErr result (self.new ≡ self.old) }
@@ -81,7 +81,7 @@ impl Keys {
         Ok(())
     }
 
-    /// The number of a byte string, from 0, or how many they are where it is none of them.
+    /// Returns the index of a byte string, or the number of byte strings if the set does not contain it.
     pub fn find_or_len(&self, key: &[u8]) -> usize
         ensures { result ≡ position_or_len (bytes_eq key.now) self.now }
     {
@@ -91,11 +91,11 @@ impl Keys {
         }
     }
 
-    /// The number of a byte string, from 0, of which a copy is added, if it is not there: it then comes last.
+    /// Returns the index of a byte string, and appends a copy of it first if the set does not contain it.
     ///
     /// # Errors
     ///
-    /// Where memory was refused; nothing has then changed.
+    /// `AllocError`, if there is no memory. The set is then unchanged.
     pub fn number(&mut self, alloc: Global, key: &[u8]) -> Result<usize, AllocError>
         ensures added { OnOk result (self.new ≡ (if list_any (bytes_eq key.now) self.old then self.old else self.old ++ key.now ∷ [])) }
         ensures number { IfOk result (λ number. number ≡ position_or_len (bytes_eq key.now) self.new) }
@@ -109,11 +109,11 @@ impl Keys {
         Ok(self.find_or_len(key))
     }
 
-    /// Adds a copy of a byte string, if it is not there: it then comes last.
+    /// Appends a copy of a byte string if the set does not contain it.
     ///
     /// # Errors
     ///
-    /// Where memory was refused; nothing has then changed.
+    /// `AllocError`, if there is no memory. The set is then unchanged.
     pub fn learn(&mut self, alloc: Global, key: &[u8]) -> Result<(), AllocError>
         ensures added { OnOk result (self.new ≡ (if list_any (bytes_eq key.now) self.old then self.old else self.old ++ key.now ∷ [])) }
         ensures unchanged { OnErr result (self.new ≡ self.old) }

@@ -1,22 +1,17 @@
-//! What can happen under any schedule: the search of all states, and how they hang together.
+//! Exhaustive search of all schedules, and the state graph.
 //!
-//! `beginning` has a machine before its first step, which can be made anew, and `position` a machine at the end of a way, a list
-//! of process numbers. `search` keeps what a search finds: `states`, each as a row of the numbers that its parts have in tables, and
-//! the way to each, in `ways` by its last step. `keys` has different byte strings in the order in which they came. `ahead` keeps what
-//! steps give before the search comes to them. `explore` writes what the steps of all states tell, each text once with a way to it,
-//! and `graph` each state with its steps and where they lead. `way` writes a way, `unheard` is a sink for what nobody reads, and
-//! `progress` is where a search says how far it is.
-//!
-//! What a step gave is kept, and a step in a state that is alike in all that it depends on is followed by that. For each other step a
-//! machine is made anew, which then goes on ahead: it makes steps that are not kept, and keeps what they give.
-//!
-//! A clause sees the texts as the definitions have them. `specs/Plan` says how a search goes, and `proofs/Planned` that it finds
-//! and tells what the definitions do.
+//! `first_machine` has a machine before its first step, which can be rebuilt; `position` has a machine at the end of a
+//! schedule. `search` visits the states: `states` stores each as a row of indices into tables of its parts (`keys`),
+//! and `witnesses` stores the schedule that leads to each. A step whose transition is in the cache is not made. For any
+//! other step a machine is rebuilt, and `ahead` lets it make a few more steps to fill the cache. `explore` writes each
+//! step text with a witness, and `graph` writes each state with its transitions. `witness` writes a schedule, `unheard`
+//! is a sink that discards, and `progress` is the trait for progress reports. `specs/Plan` specifies the search, and
+//! `proofs/Planned` proves that it visits the states and writes the lines of the definitions.
 #![tactic(auto)]
 
 mod ahead;
-mod beginning;
 mod explore;
+mod first_machine;
 mod graph;
 mod keys;
 mod position;
@@ -24,10 +19,10 @@ mod progress;
 mod search;
 mod states;
 mod unheard;
-mod way;
-mod ways;
+mod witness;
+mod witnesses;
 
-pub use beginning::Beginning;
 pub use explore::write_explore;
+pub use first_machine::FirstMachine;
 pub use graph::write_graph;
 pub use progress::{Progress, Unshown};

@@ -1,25 +1,25 @@
-//! A machine at the end of a way.
+//! Machines at the end of a schedule.
 ghost use Rattle.std.specs.Prelude.{◌≡◌, ◌+◌, ◌++◌, ◌∷◌, [], true, codes, map, is_some, Some, IfErr, IfOk, OnErr, OnOk};
-ghost use Rattle.pv_explore.specs.Beginnings.{GaveNumber, one_if};
+ghost use Rattle.pv_explore.specs.FirstMachines.{GaveNumber, one_if};
 ghost use Rattle.pv_procs.specs.ProcessTable.{process_in};
 ghost use Rattle.pv_explore.specs.Plan.{state_at, tree_key};
 ghost use Rattle.pv_explore.specs.Vertices.{step_of};
 ghost use Rattle.pv_model.specs.Answers.Graph.{leads_to_text};
 ghost use Rattle.pv_model.specs.Answers.Lines.{answer_bytes, answer_line, answer_line_bytes};
 ghost use Rattle.pv_model.specs.Stream.{Rose};
-ghost use Rattle.pv_laws_states.specs.States.{IsWhole};
+ghost use Rattle.pv_laws_states.specs.States.{IsValid};
 ghost use Rattle.pv_model.specs.Answers.Explore.{has_ended};
 ghost use Rattle.pv_model.specs.Grammar.Programs.{program_of};
 ghost use Rattle.pv_model.specs.Held.{live_processes, named_tree};
 ghost use Rattle.pv_model.specs.Trace.{trace_bytes};
 ghost use Rattle.pv_session.specs.Running.{FailsBy, stepped};
-ghost use Rattle.pv_spelling.specs.Groups.{groups_of, state_groups};
-ghost use Rattle.pv_spelling.specs.Spelled.{spelled, spelled_all};
-ghost use Rattle.pv_streams.specs.Sinks.{and_all, TellsBeginning};
+ghost use Rattle.pv_state_encoding.specs.Groups.{groups_of, state_groups};
+ghost use Rattle.pv_state_encoding.specs.Encoded.{encoded, encoded_all};
+ghost use Rattle.pv_streams.specs.Sinks.{and_all, WritesPrefix};
 
-use crate::beginning::Beginning;
+use crate::first_machine::FirstMachine;
 use crate::states::States;
-use crate::way::Count;
+use crate::witness::Count;
 use pv_answers::{Fragment, Line, Plain};
 use pv_calls_state::Parts;
 use pv_explain::{make_step, write_made};
@@ -28,13 +28,13 @@ use pv_model::limits::LAST_PROCESS;
 use pv_procs::Processes;
 use pv_script::CallTexts;
 use pv_session::{Session, Stop};
-use pv_spelling::{SpelledGroup, push_tree, spelled_state, state_groups};
+use pv_state_encoding::{EncodedGroup, encoded_state, push_tree, state_groups};
 use pv_streams::{Failed, Gathered, Sink};
 use pv_trace::LineBuffer;
 use std::alloc::Global;
 use std::marker::Model;
 
-/// A machine at the end of a way, with the last number that it gave to a process: a contract sees its state.
+/// A machine at the end of a schedule, with the last process number that it has given. A contract sees its state.
 #[derive(Drop)]
 pub(crate) struct Position {
     session: Session,
@@ -52,7 +52,7 @@ impl Model for Position {
     ghost invariant = { λ p. p.last ≡ p.session.last_process };
 }
 
-// Makes a step of a process, and gathers its lines.
+// Makes a step of a process, and appends its lines to `text`.
 fn trace_into(
     alloc: Global,
     session: &mut Session,
@@ -68,10 +68,10 @@ fn trace_into(
     }
 }
 
-// The last number that a state gave to a process, where it was one that is known, or a process got the next.
+// Returns the last process number that a state has given. `known` is that number before the last step.
 fn last_number(parts: &Parts, known: u32) -> u32
     requires gave { GaveNumber parts.now known }
-    requires whole { IsWhole parts.now }
+    requires whole { IsValid parts.now }
     ensures { result ≡ parts.now.last_process }
 {
     parts.invariant();
@@ -85,7 +85,7 @@ fn last_number(parts: &Parts, known: u32) -> u32
     }
 }
 
-// Adds the number of a process.
+// Appends a process number.
 pub(crate) fn push_number(pids: &mut Vec<u32>, pid: u32) -> Result<(), StepFault>
     ensures { OnOk result (pids.new.items ≡ pids.old.items ++ pid ∷ []) }
 {
@@ -95,7 +95,7 @@ pub(crate) fn push_number(pids: &mut Vec<u32>, pid: u32) -> Result<(), StepFault
     }
 }
 
-// Adds the number of a process, where it is live.
+// Appends a process number if the process is live.
 fn push_live(pids: &mut Vec<u32>, processes: &Processes, pid: u32) -> Result<(), StepFault>
     ensures { OnOk result (pids.new.items ≡ pids.old.items ++ one_if (is_some (process_in processes.now pid)) pid) }
 {
@@ -105,7 +105,7 @@ fn push_live(pids: &mut Vec<u32>, processes: &Processes, pid: u32) -> Result<(),
     Ok(())
 }
 
-// The numbers of the processes that are live, ascending.
+// Returns the numbers of the live processes in ascending order.
 fn live_numbers(alloc: Global, processes: &Processes) -> Result<Vec<u32>, StepFault>
     ensures { IfOk result (λ pids. pids.items ≡ map (λ p. p.0) (live_processes processes.now.processes)) }
 {
@@ -119,16 +119,16 @@ fn live_numbers(alloc: Global, processes: &Processes) -> Result<Vec<u32>, StepFa
     Ok(pids)
 }
 
-// The groups of the parts of a state, where the last number given was one that is known, or a process got the next.
+// Returns the groups of a state's encoding. `known` is the last process number given before the last step.
 fn groups_after(alloc: Global, parts: &Parts, known: u32) -> Result<Vec<Vec<Vec<u8>>>, StepFault>
     requires gave { GaveNumber parts.now known }
-    requires whole { IsWhole parts.now }
+    requires whole { IsValid parts.now }
     ensures { IfOk result (λ groups. groups_of groups.items ≡ state_groups parts.now) }
 {
     Ok(state_groups(alloc, parts, last_number(parts, known))?)
 }
 
-// Where a step leads.
+// The number of the state after a step, or `left out`.
 #[derive(Clone, Copy)]
 struct Leads(Option<usize>);
 
@@ -145,11 +145,11 @@ impl Fragment for Leads {
     }
 }
 
-// Writes the line of a step: where it leads.
+// Writes the STEP line of a step: the number of the state after it.
 #[tactic(auto, unfolding(pv_model::specs::Trace::text_line))]
 fn write_leads<W: Sink>(out: &mut W, pid: u32, number: Option<usize>) -> Result<(), Failed>
     ensures whole { OnOk result (W.written out.new ≡ and_all (W.written out.old) (answer_line_bytes (answer_line pid (codes "STEP") (leads_to_text number)))) }
-    ensures beginning { OnErr result (TellsBeginning (answer_line_bytes (answer_line pid (codes "STEP") (leads_to_text number))) (W.written out.old) (W.written out.new)) }
+    ensures prefix { OnErr result (WritesPrefix (answer_line_bytes (answer_line pid (codes "STEP") (leads_to_text number))) (W.written out.old) (W.written out.new)) }
     ensures failed { OnErr result (Rose (W.failures out.old) (W.failures out.new)) }
     ensures quiet { OnOk result (W.failures out.new ≡ W.failures out.old) }
 {
@@ -162,16 +162,16 @@ fn write_leads<W: Sink>(out: &mut W, pid: u32, number: Option<usize>) -> Result<
 }
 
 impl Position {
-    /// The machine before its first step.
+    /// Returns the machine before its first step.
     ///
     /// # Errors
     ///
-    /// `NoMemory` where memory was refused.
-    pub(crate) fn start(alloc: Global, beginning: &Beginning) -> Result<Position, StepFault>
-        ensures { IfOk result (λ position. position ≡ beginning.now) }
+    /// `NoMemory`, if there is no memory.
+    pub(crate) fn start(alloc: Global, first_machine: &FirstMachine) -> Result<Position, StepFault>
+        ensures { IfOk result (λ position. position ≡ first_machine.now) }
     {
         Ok(Position {
-            session: beginning.session(alloc)?,
+            session: first_machine.session(alloc)?,
             last: 1,
         })
     }
@@ -180,7 +180,7 @@ impl Position {
     ///
     /// # Errors
     ///
-    /// `NoMemory` where memory was refused; nothing has then changed.
+    /// `NoMemory`, if there is no memory. The state is then unchanged.
     pub(crate) fn step(&mut self, alloc: Global, pid: u32) -> Result<(), StepFault>
         ensures { OnOk result (self.new ≡ (stepped self.old pid).after) }
     {
@@ -190,30 +190,30 @@ impl Position {
         Ok(())
     }
 
-    /// The machine at the end of a way.
+    /// Returns the machine at the end of a schedule.
     ///
     /// # Errors
     ///
-    /// `NoMemory` where memory was refused.
+    /// `NoMemory`, if there is no memory.
     pub(crate) fn at(
         alloc: Global,
-        beginning: &Beginning,
-        way: &[u32],
+        first_machine: &FirstMachine,
+        witness: &[u32],
     ) -> Result<Position, StepFault>
-        ensures { IfOk result (λ position. position ≡ state_at program_of beginning.now way.now) }
+        ensures { IfOk result (λ position. position ≡ state_at program_of first_machine.now witness.now) }
     {
-        let mut position = Position::start(alloc, beginning)?;
-        for pid in way {
+        let mut position = Position::start(alloc, first_machine)?;
+        for pid in witness {
             position.step(alloc, *pid)?;
         }
         Ok(position)
     }
 
-    /// Makes a step of a process: the machine after it, and its lines as a trace has them.
+    /// Makes a step of a process. Returns the machine after it, and its trace lines.
     ///
     /// # Errors
     ///
-    /// `NoMemory` where memory was refused.
+    /// `NoMemory`, if there is no memory.
     pub(crate) fn trace(self, alloc: Global, pid: u32) -> Result<(Position, Vec<u8>), StepFault>
         ensures after { IfOk result (λ made. made.0 ≡ (stepped self pid).after) }
         ensures text { IfOk result (λ made. made.1.items ≡ trace_bytes (stepped self pid).lines) }
@@ -226,30 +226,30 @@ impl Position {
         Ok((Position { session, last }, text.bytes))
     }
 
-    /// The parts of the system.
+    /// Returns the state.
     pub(crate) fn parts(&self) -> &Parts
         ensures value { result.now ≡ self.now }
-        ensures whole { IsWhole self.now }
+        ensures whole { IsValid self.now }
     {
         self.session.parts()
     }
 
-    /// The groups of its state, and of each live process what the steps of others depend on.
+    /// Returns the groups of the state's encoding, each with its owner and, for a live process, its outside view.
     ///
     /// # Errors
     ///
-    /// `NoMemory` where memory was refused.
-    pub(crate) fn spelled(&self, alloc: Global) -> Result<Vec<SpelledGroup>, StepFault>
-        ensures { IfOk result (λ groups. spelled_all groups.items ≡ spelled self.now) }
+    /// `NoMemory`, if there is no memory.
+    pub(crate) fn encoded(&self, alloc: Global) -> Result<Vec<EncodedGroup>, StepFault>
+        ensures { IfOk result (λ groups. encoded_all groups.items ≡ encoded self.now) }
     {
-        Ok(spelled_state(alloc, self.session.parts(), self.last)?)
+        Ok(encoded_state(alloc, self.session.parts(), self.last)?)
     }
 
-    /// The bytes by which its tree is known, where no process is live.
+    /// Returns the encoding of the tree. No process may be live.
     ///
     /// # Errors
     ///
-    /// `NoMemory` where memory was refused.
+    /// `NoMemory`, if there is no memory.
     pub(crate) fn tree_key(&self, alloc: Global) -> Result<Vec<u8>, StepFault>
         requires { has_ended self.now ≡ true }
         ensures { IfOk result (λ key. key.items ≡ tree_key (named_tree self.now.tree)) }
@@ -259,34 +259,35 @@ impl Position {
         Ok(key)
     }
 
-    /// The numbers of the processes that are live, ascending.
+    /// Returns the numbers of the live processes in ascending order.
     ///
     /// # Errors
     ///
-    /// `NoMemory` where memory was refused.
+    /// `NoMemory`, if there is no memory.
     pub(crate) fn live(&self, alloc: Global) -> Result<Vec<u32>, StepFault>
         ensures { IfOk result (λ pids. pids.items ≡ map (λ p. p.0) (live_processes self.now.processes)) }
     {
         live_numbers(alloc, self.session.parts().processes())
     }
 
-    /// Whether no process is live.
+    /// Returns whether no process is live.
     ///
     /// # Errors
     ///
-    /// `NoMemory` where memory was refused.
+    /// `NoMemory`, if there is no memory.
     pub(crate) fn has_ended(&self, alloc: Global) -> Result<bool, StepFault>
         ensures { IfOk result (λ ended. ended ≡ has_ended self.now) }
     {
         Ok(self.live(alloc)?.is_empty())
     }
 
-    /// Makes a step of a process, and writes where it leads, by the number that its state has among those that were found, and its lines
-    /// explained, but for where an entry was set.
+    /// Makes a step of a process. Writes the number of the state after it among the visited states, and the explained
+    /// lines of the step, without the lines at which entries were set.
     ///
     /// # Errors
     ///
-    /// `Memory` where memory was refused, `Write` where a write failed: the sink was given a beginning of the lines.
+    /// - `Memory`, if there is no memory.
+    /// - `Write`, if a write failed. The sink received a prefix of the lines.
     pub(crate) fn write_step<W: Sink>(
         self,
         alloc: Global,
@@ -296,7 +297,7 @@ impl Position {
         out: &mut W,
     ) -> Result<(), Stop>
         ensures whole { OnOk result (W.written out.new ≡ and_all (W.written out.old) (answer_bytes (step_of states.now self pid))) }
-        ensures beginning { OnErr result (TellsBeginning (answer_bytes (step_of states.now self pid)) (W.written out.old) (W.written out.new)) }
+        ensures prefix { OnErr result (WritesPrefix (answer_bytes (step_of states.now self pid)) (W.written out.old) (W.written out.new)) }
         ensures failed { IfErr result (λ stop. FailsBy stop (W.failures out.old) (W.failures out.new)) }
         ensures quiet { OnOk result (W.failures out.new ≡ W.failures out.old) }
     {

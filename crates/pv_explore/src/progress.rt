@@ -1,16 +1,16 @@
-//! Where a search says how far it is.
+//! Progress reports of a search.
 
-/// Where a search says how far it is. What it shows is no part of an answer, so no clause speaks of it: where it can not be shown, the
-/// search goes on.
+/// A receiver of progress reports. The reports are not part of an answer, so no contract mentions them. If a report
+/// cannot be shown, the search continues.
 pub trait Progress {
-    /// So many states were found, and the steps of so many of them are still to be made.
+    /// Shows that `found` states were visited, and that the steps of `left` of them are still to be made.
     fn show(&mut self, found: usize, left: usize);
 
-    /// The search ended: what was shown is taken away.
+    /// Ends the report of a search, and erases what was shown.
     fn end(&mut self);
 }
 
-/// Shows nothing.
+/// A receiver that shows nothing.
 #[derive(Clone, Copy)]
 pub struct Unshown;
 

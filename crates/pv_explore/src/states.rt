@@ -1,60 +1,61 @@
-//! The states that a search found, each as a row of small numbers.
+//! The visited states, each as a row of small numbers.
 ghost use Rattle.std.specs.Prelude.{◌≡◌, ◌++◌, ◌∷◌, [], length, position, bytes_eq, IfOk, IfSome, OnErr, OnOk};
 ghost use Rattle.std.specs.List.{AllByRecursion};
-ghost use Rattle.pv_explore.specs.Rows.{AreOfState, Grew, IsAmong, IsGroupKept, group_row, number_in, parts_in, state_row};
-ghost use Rattle.pv_explore.specs.KeptStates.{AreCellsIn, AreLetGo, AreLiveAt, ArePlaced, ArePushed, AreSpelled, IsFoundBy, IsFoundIn, IsMade, IsRecalled, IsWholeAt, MayFollow, MayKeep, number_of};
-ghost use Rattle.pv_spelling.specs.Groups.{groups_of, joined};
-ghost use Rattle.pv_spelling.specs.Spelled.{spelled, spelled_all, spelled_of};
+ghost use Rattle.pv_explore.specs.Rows.{AreOfState, Grew, IsAmong, IsGroupVisited, group_row, number_in, parts_in, state_row};
+ghost use Rattle.pv_explore.specs.VisitedStates.{AreCellsIn, AreReleased, AreLiveAt, ArePlaced, ArePushed, AreEncoded, IsFoundBy, IsFoundIn, IsMade, IsRecalled, IsValidAt, MayFollow, MayKeep, number_of};
+ghost use Rattle.pv_state_encoding.specs.Groups.{groups_of, joined};
+ghost use Rattle.pv_state_encoding.specs.Encoded.{encoded, encoded_all, encoded_of};
 
 use crate::ahead::make_ahead;
 use crate::keys::Keys;
 use crate::position::Position;
-use pv_kept_steps::{Cell, KeptSteps, Recalled, has_owner, live_owners, row_of_cells};
 use pv_model::StepFault;
-use pv_spelling::{SpelledGroup, push_number};
+use pv_state_encoding::{EncodedGroup, push_number};
+use pv_step_cache::{CachedSteps, Cell, Recalled, has_owner, live_owners, row_of_cells};
 use std::alloc::{AllocError, Global};
 use std::marker::Model;
 
-/// Different states, in the order in which they were found: a contract sees the bytes of each.
+/// A set of states, in the order in which they were visited. A contract sees the encoding of each.
 ///
-/// A state is a row of the numbers of its groups, a group a row of the numbers of its parts, and each part, group and row is kept once.
+/// A state is stored as a row of the numbers of its groups, and a group as a row of the numbers of its parts. Each
+/// part, group and row is stored once.
 #[derive(Drop)]
 pub(crate) struct States {
-    // The bytes of parts.
+    // The encodings of parts.
     parts: Keys,
-    // Rows of the numbers of parts.
+    // Rows of part numbers.
     groups: Keys,
-    // Rows of the numbers of groups.
+    // Rows of group numbers.
     rows: Keys,
-    // The cells of each state whose steps were not made.
+    // The cells of each state whose steps are not all made yet.
     cells: Vec<Vec<Cell>>,
-    // What steps gave.
-    steps: KeptSteps,
+    // The cached transitions.
+    steps: CachedSteps,
 }
 
-/// How a state was looked for.
+/// The result of visiting a state.
 #[derive(Clone, Copy)]
-pub(crate) enum Found {
-    /// It was there.
+pub(crate) enum Visit {
+    /// The state was visited before.
     Known,
-    /// It was not there, and was one too many.
+    /// The state is new, but the limit is reached.
     Full,
-    /// It was not there, and was added.
+    /// The state is new and was added.
     New,
 }
 
-/// A step that was followed.
+/// The result of a step that was taken from the cache.
 #[derive(Drop)]
 pub(crate) struct Followed {
-    /// The lines that it tells, as a trace has them.
+    /// The trace lines of the step.
     pub(crate) text: Vec<u8>,
-    /// How the state that it leads to was looked for.
-    pub(crate) found: Found,
+    /// The result of visiting the state after the step.
+    pub(crate) found: Visit,
 }
 
 impl Model for States {
     ghost use Rattle.std.specs.Prelude.{List, map};
-    ghost use Rattle.pv_explore.specs.KeptStates.{IsFine};
+    ghost use Rattle.pv_explore.specs.VisitedStates.{IsFine};
     ghost use Rattle.pv_explore.specs.Rows.{state_bytes};
     ghost use Rattle.pv_model.specs.Bytes.{Bytes};
 
@@ -65,7 +66,7 @@ impl Model for States {
     ghost invariant = { λ s. IsFine s.parts s.groups s.rows s.cells.items s.steps.steps.items };
 }
 
-// The row of a group: the number of each part, or how many parts there are for one that is not kept.
+// Returns the row of a group: the number of each part. A part that is not stored has the number of stored parts.
 fn row_of_group(alloc: Global, parts: &Keys, group: &[Vec<u8>]) -> Result<Vec<u8>, AllocError>
     ensures { IfOk result (λ row. row.items ≡ group_row parts.now (parts_in group.now)) }
 {
@@ -76,7 +77,7 @@ fn row_of_group(alloc: Global, parts: &Keys, group: &[Vec<u8>]) -> Result<Vec<u8
     Ok(row)
 }
 
-// The number of a group, or how many there are for one that is not kept.
+// Returns the number of a group, or the number of stored groups if the group is not stored.
 fn number_of_group(
     alloc: Global,
     parts: &Keys,
@@ -89,17 +90,17 @@ fn number_of_group(
     Ok(groups.find_or_len(&row))
 }
 
-// The row of a state: the number of each group.
+// Returns the row of a state: the number of each group.
 fn row_of_state(
     alloc: Global,
     parts: &Keys,
     groups: &Keys,
-    spelled: &[Vec<Vec<u8>>],
+    encoded: &[Vec<Vec<u8>>],
 ) -> Result<Vec<u8>, AllocError>
-    ensures { IfOk result (λ row. row.items ≡ state_row parts.now groups.now (groups_of spelled.now)) }
+    ensures { IfOk result (λ row. row.items ≡ state_row parts.now groups.now (groups_of encoded.now)) }
 {
     let mut row = Vec::new(alloc);
-    for group in spelled {
+    for group in encoded {
         let number = number_of_group(alloc, parts, groups, group)?;
         push_number(&mut row, number as u64)?;
     }
@@ -108,10 +109,10 @@ fn row_of_state(
 
 // ---- cells
 
-// The row of a group: the number of each part, which is then kept.
+// Stores the parts of a group, and returns its row.
 fn learn_row(alloc: Global, parts: &mut Keys, group: &[Vec<u8>]) -> Result<Vec<u8>, AllocError>
     ensures grew { Grew parts.old parts.new }
-    ensures kept { OnOk result (AllByRecursion (IsAmong parts.new) (parts_in group.now)) }
+    ensures visited { OnOk result (AllByRecursion (IsAmong parts.new) (parts_in group.now)) }
     ensures row { IfOk result (λ row. row.items ≡ group_row parts.new (parts_in group.now)) }
 {
     let mut row = Vec::new(alloc);
@@ -122,7 +123,7 @@ fn learn_row(alloc: Global, parts: &mut Keys, group: &[Vec<u8>]) -> Result<Vec<u
     Ok(row)
 }
 
-// The number of a group, which is then kept, and so are its parts.
+// Stores a group and its parts, and returns its number.
 fn learn_group(
     alloc: Global,
     parts: &mut Keys,
@@ -131,26 +132,26 @@ fn learn_group(
 ) -> Result<usize, AllocError>
     ensures parts_grew { Grew parts.old parts.new }
     ensures groups_grew { Grew groups.old groups.new }
-    ensures kept { OnOk result (IsGroupKept parts.new groups.new (parts_in group.now)) }
+    ensures visited { OnOk result (IsGroupVisited parts.new groups.new (parts_in group.now)) }
     ensures number { IfOk result (λ number. number ≡ number_of parts.new groups.new (parts_in group.now)) }
 {
     let row = learn_row(alloc, parts, group)?;
     groups.number(alloc, &row)
 }
 
-// The cell of a group, which is then kept, and so is what the steps of others depend on of it.
+// Stores a group and its outside view, and returns its cell.
 fn learn_cell(
     alloc: Global,
     parts: &mut Keys,
     groups: &mut Keys,
-    group: &SpelledGroup,
+    group: &EncodedGroup,
 ) -> Result<Cell, AllocError>
     ensures parts_grew { Grew parts.old parts.new }
     ensures groups_grew { Grew groups.old groups.new }
-    ensures cell { IfOk result (λ cell. AreCellsIn parts.new groups.new (spelled_of group.now ∷ []) (cell ∷ [])) }
+    ensures cell { IfOk result (λ cell. AreCellsIn parts.new groups.new (encoded_of group.now ∷ []) (cell ∷ [])) }
 {
     match group {
-        SpelledGroup::Plain(all) => {
+        EncodedGroup::Plain(all) => {
             let number = learn_group(alloc, parts, groups, all)?;
             Ok(Cell {
                 number,
@@ -158,7 +159,7 @@ fn learn_cell(
                 outside: number,
             })
         }
-        SpelledGroup::Live(owner, all, outside) => {
+        EncodedGroup::Live(owner, all, outside) => {
             let number = learn_group(alloc, parts, groups, all)?;
             let outside = learn_group(alloc, parts, groups, outside)?;
             Ok(Cell {
@@ -170,19 +171,19 @@ fn learn_cell(
     }
 }
 
-// The cells of a state: the groups of it are then kept, and what the steps of others depend on of them.
+// Stores the groups of a state and their outside views, and returns the cells.
 pub(crate) fn learn_cells(
     alloc: Global,
     parts: &mut Keys,
     groups: &mut Keys,
-    spelled: &[SpelledGroup],
+    encoded: &[EncodedGroup],
 ) -> Result<Vec<Cell>, AllocError>
     ensures parts_grew { Grew parts.old parts.new }
     ensures groups_grew { Grew groups.old groups.new }
-    ensures cells { IfOk result (λ cells. AreCellsIn parts.new groups.new (spelled_all spelled.now) cells.items) }
+    ensures cells { IfOk result (λ cells. AreCellsIn parts.new groups.new (encoded_all encoded.now) cells.items) }
 {
     let mut cells = Vec::new(alloc);
-    for group in spelled {
+    for group in encoded {
         let cell = learn_cell(alloc, parts, groups, group)?;
         cells.push(cell)?;
     }
@@ -191,11 +192,11 @@ pub(crate) fn learn_cells(
 
 // ---- steps
 
-// What a step of a process in the state of a number gives, where that was kept, and some process is then live.
+// Returns the result of a process's step in state `number` if the transition is cached and leaves some process live.
 fn recalled(
     alloc: Global,
     cells: &[Vec<Cell>],
-    steps: &KeptSteps,
+    steps: &CachedSteps,
     number: usize,
     pid: u32,
 ) -> Result<Option<Recalled>, AllocError>
@@ -216,11 +217,11 @@ fn recalled(
     Ok(None)
 }
 
-// Keeps what a step of a process in the state of a number gave, where the cells of that are kept.
+// Caches the transition of a process's step in state `number`, if the cells of that state are stored.
 fn keep_made(
     alloc: Global,
     cells: &[Vec<Cell>],
-    steps: &mut KeptSteps,
+    steps: &mut CachedSteps,
     number: usize,
     pid: u32,
     after: &[Cell],
@@ -237,9 +238,9 @@ fn keep_made(
     steps.keep(alloc, before, after, pid, text)
 }
 
-// Lets go of the cells of the state of a number.
+// Releases the cells of state `number`.
 fn empty_cells(alloc: Global, all: &mut Vec<Vec<Cell>>, number: usize)
-    ensures { AreLetGo all.old.items all.new.items }
+    ensures { AreReleased all.old.items all.new.items }
 {
     if number < all.len() {
         all[number] = Vec::new(alloc);
@@ -248,7 +249,7 @@ fn empty_cells(alloc: Global, all: &mut Vec<Vec<Cell>>, number: usize)
 
 // ---- rows
 
-// Adds the cells of the state of a number, where they come next.
+// Appends the cells of state `number` if that is the next one.
 fn push_cells(all: &mut Vec<Vec<Cell>>, number: usize, cells: Vec<Cell>) -> Result<(), AllocError>
     ensures { ArePushed number cells all.old.items all.new.items }
 {
@@ -258,31 +259,31 @@ fn push_cells(all: &mut Vec<Vec<Cell>>, number: usize, cells: Vec<Cell>) -> Resu
     Ok(())
 }
 
-// Looks for a row, and adds it with its cells where it is not there and is not one too many.
+// Visits the state of a row. The row and its cells are added if the row is new and the limit is not reached.
 fn place(
     rows: &mut Keys,
     all: &mut Vec<Vec<Cell>>,
     limit: usize,
     row: Vec<u8>,
     cells: Vec<Cell>,
-) -> Result<Found, AllocError>
+) -> Result<Visit, AllocError>
     ensures found { IfOk result (IsFoundIn limit rows.old rows.new row.items) }
     ensures placed { ArePlaced row.items cells rows.old rows.new all.old.items all.new.items }
 {
     if rows.contains(&row) {
-        return Ok(Found::Known);
+        return Ok(Visit::Known);
     }
     let number = rows.len();
     if number >= limit {
-        return Ok(Found::Full);
+        return Ok(Visit::Full);
     }
     rows.add(row)?;
     push_cells(all, number, cells)?;
-    Ok(Found::New)
+    Ok(Visit::New)
 }
 
 impl States {
-    /// None.
+    /// Returns an empty set.
     pub(crate) fn new(alloc: Global) -> States
         ensures { result ≡ [] }
     {
@@ -291,22 +292,23 @@ impl States {
             groups: Keys::new(alloc),
             rows: Keys::new(alloc),
             cells: Vec::new(alloc),
-            steps: KeptSteps::new(alloc),
+            steps: CachedSteps::new(alloc),
         }
     }
 
-    /// How many they are.
+    /// Returns the number of states.
     pub(crate) fn len(&self) -> usize
         ensures { result ≡ length self.now }
     {
         self.rows.len()
     }
 
-    /// The processes that are live in the state of a number, ascending, where its cells are kept.
+    /// Returns the live processes of state `number` in ascending order, or `None` if the cells of the state are not
+    /// stored.
     ///
     /// # Errors
     ///
-    /// `NoMemory` where memory was refused.
+    /// `NoMemory`, if there is no memory.
     pub(crate) fn live(&self, alloc: Global, number: usize) -> Result<Option<Vec<u32>>, StepFault>
         ensures { IfOk result (λ made. IfSome made (λ pids. AreLiveAt self.now number pids.items)) }
     {
@@ -319,58 +321,58 @@ impl States {
         Ok(Some(live_owners(alloc, cells)?))
     }
 
-    /// The number of a state, from 0, by its groups, where it is one of them.
+    /// Returns the number of a state, from 0, given its groups, if it was visited.
     ///
     /// # Errors
     ///
-    /// `NoMemory` where memory was refused.
+    /// `NoMemory`, if there is no memory.
     pub(crate) fn find(
         &self,
         alloc: Global,
-        spelled: &[Vec<Vec<u8>>],
+        encoded: &[Vec<Vec<u8>>],
     ) -> Result<Option<usize>, StepFault>
-        requires { AreOfState (groups_of spelled.now) }
-        ensures { IfOk result (λ number. number ≡ position (bytes_eq (joined (groups_of spelled.now))) self.now) }
+        requires { AreOfState (groups_of encoded.now) }
+        ensures { IfOk result (λ number. number ≡ position (bytes_eq (joined (groups_of encoded.now))) self.now) }
     {
-        let row = row_of_state(alloc, &self.parts, &self.groups, spelled)?;
+        let row = row_of_state(alloc, &self.parts, &self.groups, encoded)?;
         Ok(self.rows.find(&row))
     }
 
-    /// Looks for a state by its groups, and adds it where it is not there, and they are fewer than `limit`: it then comes last.
+    /// Visits a state, given its groups. The state is appended if it is new and there are fewer than `limit` states.
     ///
     /// # Errors
     ///
-    /// `NoMemory` where memory was refused.
+    /// `NoMemory`, if there is no memory.
     pub(crate) fn find_or_add(
         &mut self,
         alloc: Global,
         limit: usize,
-        spelled: &[SpelledGroup],
-    ) -> Result<Found, StepFault>
-        requires { AreSpelled (spelled_all spelled.now) }
-        ensures { IfOk result (IsFoundBy limit self.old self.new (spelled_all spelled.now)) }
+        encoded: &[EncodedGroup],
+    ) -> Result<Visit, StepFault>
+        requires { AreEncoded (encoded_all encoded.now) }
+        ensures { IfOk result (IsFoundBy limit self.old self.new (encoded_all encoded.now)) }
     {
-        let cells = learn_cells(alloc, &mut self.parts, &mut self.groups, spelled)?;
+        let cells = learn_cells(alloc, &mut self.parts, &mut self.groups, encoded)?;
         let row = row_of_cells(alloc, &cells)?;
         let found = place(&mut self.rows, &mut self.cells, limit, row, cells)?;
         Ok(found)
     }
 
-    /// Keeps what a step of a process in the state of a number gave: the lines that it told, as a trace has them, and the groups of
-    /// the state after it.
+    /// Caches the transition of a process's step in state `number`, given its trace lines and the groups of the state
+    /// after it.
     ///
     /// # Errors
     ///
-    /// `NoMemory` where memory was refused.
+    /// `NoMemory`, if there is no memory.
     pub(crate) fn keep_step(
         &mut self,
         alloc: Global,
         number: usize,
         pid: u32,
         text: &[u8],
-        after: &[SpelledGroup],
+        after: &[EncodedGroup],
     ) -> Result<(), StepFault>
-        requires { IsMade self.old number pid text.now (spelled_all after.now) }
+        requires { IsMade self.old number pid text.now (encoded_all after.now) }
         ensures { OnOk result (self.new ≡ self.old) }
     {
         let cells = learn_cells(alloc, &mut self.parts, &mut self.groups, after)?;
@@ -385,26 +387,26 @@ impl States {
         )?)
     }
 
-    /// Lets go of what the steps in the state of a number are recalled by.
-    pub(crate) fn let_go(&mut self, alloc: Global, number: usize)
+    /// Releases the cells of state `number`. Its steps can then no longer be taken from the cache.
+    pub(crate) fn unreference(&mut self, alloc: Global, number: usize)
         ensures { self.new ≡ self.old }
     {
         empty_cells(alloc, &mut self.cells, number);
     }
 
-    /// Goes on with a machine: in each state that it reaches it makes a step of a live process that is not kept there, and keeps what
-    /// that gave, as often as `ahead` says at most. `groups` are those of the machine's state.
+    /// Makes speculative steps with a machine and caches their transitions, as `make_ahead` does. `groups` are the
+    /// groups of the machine's state.
     ///
     /// # Errors
     ///
-    /// `NoMemory` where memory was refused.
+    /// `NoMemory`, if there is no memory.
     pub(crate) fn go_ahead(
         &mut self,
         alloc: Global,
         position: Position,
-        groups: &[SpelledGroup],
+        groups: &[EncodedGroup],
     ) -> Result<(), StepFault>
-        requires { spelled_all groups.now ≡ spelled position }
+        requires { encoded_all groups.now ≡ encoded position }
         ensures { OnOk result (self.new ≡ self.old) }
     {
         let cells = learn_cells(alloc, &mut self.parts, &mut self.groups, groups)?;
@@ -419,12 +421,12 @@ impl States {
         Ok(())
     }
 
-    /// Follows a step of a process in the state of a number, where one that gives the same was kept, and some process is then live:
-    /// the state that it leads to is added where it is not there, and they are fewer than `limit`.
+    /// Takes a step of a process in state `number` from the cache, if its transition is cached and leaves some process
+    /// live. The state after the step is added if it is new and there are fewer than `limit` states.
     ///
     /// # Errors
     ///
-    /// `NoMemory` where memory was refused.
+    /// `NoMemory`, if there is no memory.
     pub(crate) fn follow(
         &mut self,
         alloc: Global,
@@ -432,7 +434,7 @@ impl States {
         number: usize,
         pid: u32,
     ) -> Result<Option<Followed>, StepFault>
-        requires { IsWholeAt self.old number }
+        requires { IsValidAt self.old number }
         ensures { IfOk result (MayFollow limit self.old self.new number pid) }
     {
         let Some(made) = recalled(alloc, &self.cells, &self.steps, number, pid)? else {

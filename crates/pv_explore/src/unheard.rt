@@ -1,7 +1,7 @@
-//! A sink for what nobody reads.
+//! A sink that discards.
 use pv_streams::{Failed, Sink};
 
-/// A sink that keeps nothing, and of which nothing is known but that it does not fail.
+/// A sink that discards everything. Its contract only states that it does not fail.
 #[derive(Drop)]
 pub(crate) struct Unheard;
 

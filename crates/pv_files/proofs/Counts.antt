@@ -1,4 +1,4 @@
--- Open files with the counts of their users.
+-- Open files with the numbers of their users.
 use Rattle.std.proofs.Common.{◌≡◌, ℕ, zero, suc, ◌+◌, ◌-◌, ◌<◌, List, [], ◌∷◌, length, replicate, get_or, Option, None, Some, IsSome, is_some, option_map, option_and_then, slice_index, slice_set, refl, sym, ap, ap₂, ◌∙◌, arith}
 use Rattle.std.specs.Prelude.{◌↔◌}
 use Rattle.std.proofs.Math.ListN.{set, length-map}
@@ -25,7 +25,7 @@ used_none o none = grind (arith, nat_tests)
 pub users_where : (o : Opened) → users_of (where_used o) ≡ o.users
 users_where o = grind (arith, nat_tests)
 
--- a file is open in a record just where that has users
+-- a record has an open file if and only if it has users
 pub used_where : (slot : Option Opened) → IsSome (option_map file_of (option_and_then where_used slot)) ↔ (0 < users_of (option_and_then where_used slot))
 used_where None = (λ none. cc, λ less. absurd (omega arith))
 used_where (Some o) = grind (arith, nat_tests)
@@ -38,9 +38,9 @@ no_slots slots none = ap counted_of none
 pub least_free_slot : (slots : Slots) → least_free (counted_of slots).files ≡ least_free slots
 least_free_slot slots = least_free-seen file_of slots
 
--- ---- one place
+-- ---- one number
 
--- what stands at a place, seen
+-- the record of a number, and what contracts see of it
 pub record IsSlot (slots : Slots) (k : ℕ) (slot : Option Opened) : Type 0 where
   pub within : k < length slots
   pub file : at_number (counted_of slots).files k ≡ option_map file_of slot
@@ -62,7 +62,7 @@ users_read (p ∷ slots) (suc k) slot within is = users_read slots k slot (omega
 pub is_slot : (slots : Slots) (k : ℕ) (slot : Option Opened) → k < length slots → slot ≡ get_or slots k slot → IsSlot slots k slot
 is_slot slots k slot within is = record { within = within; file = file_read slots k slot within is; users = users_read slots k slot within is }
 
--- the same from what clauses see
+-- the same, derived from what contracts see
 module _ (slots : Slots) (c : Counted) (seen : counted_of slots ≡ c) (k : ℕ) (there : IsSome (at_number c.files k)) where
   pub opened_there : IsSome (at_number (counted_of slots).files k)
   opened_there = ap (λ (v : Counted). is_some (at_number v.files k)) seen ∙ there
@@ -73,7 +73,7 @@ module _ (slots : Slots) (c : Counted) (seen : counted_of slots ≡ c) (k : ℕ)
   pub slot_there : (slot : Option Opened) → slot ≡ get_or slots k slot → IsSlot slots k slot
   slot_there slot is = is_slot slots k slot opened_below is
 
--- ---- after a change of a place
+-- ---- after a change of a record
 
 put_again : (ns : List ℕ) (k : ℕ) → slice_set ns k (slice_index ns k) ≡ ns
 put_again [] k = refl
@@ -84,7 +84,7 @@ abbrev counted_by : Numbered OpenFile → List ℕ → Counted
 counted_by files users = record { files = files; users = users }
 
 module _ (slots : Slots) (k : ℕ) (old : Opened) where
-  -- where a file is open, its record has a user
+  -- if a file is open, its record has a user
   pub old_used : IsSlot slots k (where_used old) → IsSome (at_number (counted_of slots).files k) → 0 < old.users
   old_used is there = omega (arith, (used_where (Some old)).0 (ap is_some (sym is.file) ∙ there), users_where old)
 
@@ -117,7 +117,7 @@ module _ (slots : Slots) (k : ℕ) (old new : Opened) where
   pub files_without : new.users ≡ 0 → after.files ≡ without_number before.files k
   files_without none = files_set ∙ ap (λ slot. set before.files k (option_map file_of slot)) (used_none new none) ∙ sym (without_number-set before.files k)
 
-  -- how many users there were
+  -- the number of users before
   old_users : IsSlot slots k (where_used old) → slice_index before.users k ≡ old.users
   old_users is = is.users ∙ users_where old
 
@@ -133,7 +133,7 @@ module _ (slots : Slots) (k : ℕ) (old new : Opened) where
   shared_after is there same more =
       ap₂ counted_by (files_stay is there (omega (arith, more)) same) (users_after ∙ ap (slice_set before.users k) (more ∙ ap (λ n. n + 1) (sym (old_users is))))
 
-  -- another file at the same number
+  -- another file under the same number
   pub changed_after : IsSlot slots k (where_used old) → (g : OpenFile → OpenFile) → IsSome (at_number before.files k) → file_of new ≡ g (file_of old) → new.users ≡ old.users
       → option_map (λ f. with_file before k (g f)) (at_number before.files k) ≡ Some after
   changed_after is g there same users =

@@ -1,4 +1,4 @@
--- The places of numbers, by the keys of their records.
+-- The records of numbers, by their keys.
 use Rattle.std.proofs.Common.{◌≡◌, ◌≢◌, inl, inr, ℕ, zero, suc, ◌+◌, ◌-◌, min, ◌<◌, ◌≤◌, drop, length-drop, MatchOption, true, false, not, List, [], ◌∷◌, length, replicate, get_or, position, cond, nat_lt, Option, None, Some, is_none, is_some, IsSome, option_map, option_and_then, slice_index, slice_set, refl, sym, ap, ap₂, ◌∙◌, arith}
 use Rattle.std.proofs.Math.ListN.{set, length-map}
 use Rattle.std.proofs.lemmas.Bool.{cases_eq, ltb-true, ltb-false}
@@ -19,13 +19,13 @@ use Rattle.pv_model.specs.State.{OpenFile}
 abbrev pub Records : Type 0
 Records = Slab Opened
 
--- ---- what is read
+-- ---- reading
 
--- the place of a number is its record
+-- the open file of a number is in its record
 slot_read : (s : Records) (keys : List ℕ) (k : ℕ) (slot : Option Opened) → k < length keys → record_at s (slice_index keys k) ≡ slot → slot ≡ get_or (slots_under s keys) k slot
 slot_read s keys k slot within is = sym (get_or-map (record_at s) keys k 0 slot within ∙ is)
 
--- a search over the keys is one over the places
+-- a search over the keys is one over the records
 first_under : (s : Records) (keys : List ℕ) → position_or_len (λ key. is_none (record_at s key)) keys ≡ position_or_len (λ o. is_none o) (slots_under s keys)
 first_under s [] = refl
 first_under s (key ∷ keys) = ap (λ n. cond (not (is_none (record_at s key))) (1 + n) 0) (first_under s keys)
@@ -33,11 +33,11 @@ first_under s (key ∷ keys) = ap (λ n. cond (not (is_none (record_at s key))) 
 pub position_under : (s : Records) (keys : List ℕ) → position (λ key. is_none (record_at s key)) keys ≡ position (λ o. is_none o) (slots_under s keys)
 position_under s keys = ap₂ (λ n m. cond (nat_lt n m) (Some n) None) (first_under s keys) (sym (length-map keys (record_at s)))
 
--- a search begins at a number that has a key, or right after all
+-- a search starts at a number that has a key, or at the end
 pub first_within : (s : Records) (keys : List ℕ) (first : ℕ) → AreRecords s keys first → first ≤ length keys
 first_within s keys first are = omega (arith, are.used, least_free-le (slots_under s keys), length-map keys (record_at s))
 
--- a search after numbers that are all used finds the least number free
+-- a search that skips numbers in use finds the least free number
 pub free_after : (s : Records) (keys : List ℕ) (first : ℕ) → first ≤ least_free (slots_under s keys) → first ≤ length keys → (found : Option ℕ)
     → MatchOption found (least_free (slots_under s (drop first keys)) ≡ length (drop first keys)) (λ k. (least_free (slots_under s (drop first keys)) ≡ k) × (k < length (drop first keys)))
     → MatchOption (option_map (λ k. first + k) found) (least_free (slots_under s keys) ≡ length keys) (λ k. (least_free (slots_under s keys) ≡ k) × (k < length keys))
@@ -51,7 +51,7 @@ free_after s keys first used within found is = by found is
     by None is = omega (arith, rest, is, within, length-drop first keys)
     by (Some k) is = (omega (arith, rest, is.0), omega (arith, is.1, within, length-drop first keys))
 
--- a number with a key, as clauses see it
+-- a number with a key, as contracts see it
 pub slot_under : (s : Records) (keys : List ℕ) (k key : ℕ) (slot : Option Opened) → true ≡ nat_lt k (length keys) → key ≡ get_or keys k key → slot ≡ record_at s key → IsSlot (slots_under s keys) k slot
 slot_under s keys k key slot below at is =
     let within = ltb-true k (length keys) (sym below) in
@@ -59,12 +59,12 @@ slot_under s keys k key slot below at is =
     let same = ap (record_at s) (sym (get_or_read keys k key within at 0)) in
     is_slot (slots_under s keys) k slot all (slot_read s keys k slot within (same ∙ sym is))
 
--- a number with no key
+-- a number without a key
 pub nothing_past : (s : Records) (keys : List ℕ) (k : ℕ) → false ≡ nat_lt k (length keys) → at_number (counted_of (slots_under s keys)).files k ≡ None
 nothing_past s keys k past =
     at_number_past file_of (slots_under s keys) k (omega (arith, length-map keys (record_at s), ltb-false k (length keys) (sym past)))
 
--- a file is open under a number just where that has users
+-- a number has an open file if and only if it has users
 used_under : (s : Records) (keys : List ℕ) (k : ℕ) → IsSome (at_number (counted_of (slots_under s keys)).files k) ↔ (0 < slice_index (counted_of (slots_under s keys)).users k)
 used_under s [] k = (λ none. cc, λ less. absurd (omega arith))
 used_under s (key ∷ keys) zero = used_where (get s key)
@@ -77,15 +77,15 @@ counted s keys long = record {
   used = used_under s keys;
 }
 
--- ---- what is written
+-- ---- writing
 
--- where no key is the one that was written, the places stay
+-- if no key is the one that was written, the records do not change
 others_stay : (s t : Records) (key : ℕ) (new : Opened) → Updates s t key (Some new) → (keys : List ℕ) → ((k : ℕ) → k < length keys → slice_index keys k ≢ key) → slots_under t keys ≡ slots_under s keys
 others_stay s t key new written [] differ = refl
 others_stay s t key new written (other ∷ keys) differ =
     ap₂ (λ (p : Option Opened) ps. p ∷ ps) (ap (option_and_then where_used) (written.others other (differ 0 (omega arith)))) (others_stay s t key new written keys (λ k within. differ (suc k) (omega arith)))
 
--- where one is, its place changes alone
+-- if one is, only its record changes
 one_written : (s t : Records) (key : ℕ) (new : Opened) → Updates s t key (Some new) → (keys : List ℕ) (k : ℕ) → k < length keys → slice_index keys k ≡ key
     → ((j : ℕ) → j < length keys → slice_index keys j ≡ key → j ≡ k) → slots_under t keys ≡ set (slots_under s keys) k (where_used new)
 one_written s t key new written [] k within is once = absurd (omega arith)
@@ -98,7 +98,7 @@ one_written s t key new written (first ∷ keys) (suc k) within is once =
 
 -- ---- one number
 
--- a number under which a file is open has a key
+-- a number with an open file has a key
 pub open_within : (s : Records) (keys : List ℕ) (c : Counted) → counted_of (slots_under s keys) ≡ c → (k : ℕ) → IsSome (at_number c.files k) → k < length keys
 open_within s keys c seen k there = omega (arith, length-map keys (record_at s), opened_below (slots_under s keys) c seen k there)
 
@@ -112,7 +112,7 @@ module _ (s : Records) (keys : List ℕ) (are : AreKeys s keys) (k : ℕ) (withi
   abbrev pub wrote : Opened → Records
   wrote new = with_value s (slice_index keys k) new
 
-  -- a write of its record is a write of its place
+  -- a write to its record changes only its record
   slots_after : (new : Opened) → slots_under (wrote new) keys ≡ set (slots_under s keys) k (where_used new)
   slots_after new =
       one_written s (wrote new) (slice_index keys k) new (Updates-with_value s (slice_index keys k) new has_record) keys k within refl
@@ -133,7 +133,8 @@ module _ (s : Records) (keys : List ℕ) (are : AreKeys s keys) (k : ℕ) (withi
         | inr other ↦ ap is_some (updates.others (slice_index keys j) other) ∙ are.recorded j below
       ]
 
-  -- numbers that are all used stay so: where the record has a user, where it was the first free one, and where it is freed after them
+  -- numbers in use stay in use: if the record has a user, if it was the first free one, and if a record after them is
+  -- freed
   least_after : (new : Opened) → least_free (set (slots_under s keys) k (where_used new)) ≡ least_free (slots_under (wrote new) keys)
   least_after new = ap least_free (sym (slots_after new))
 
@@ -160,7 +161,7 @@ module _ (s : Records) (keys : List ℕ) (are : AreKeys s keys) (k : ℕ) (withi
     used = omega (arith, used-set (slots_under s keys) k least (where_used new) (omega (arith, used, below)) before, least_after new);
   }
 
--- ---- a number under which a file is open
+-- ---- a number with an open file
 
 module _ (s : Records) (keys : List ℕ) (are : AreKeys s keys) (c : Counted) (seen : counted_of (slots_under s keys) ≡ c) (k : ℕ) (there : IsSome (at_number c.files k)) where
   pub open_below : k < 128
@@ -206,8 +207,8 @@ module _ (s : Records) (keys : List ℕ) (are : AreKeys s keys) (c : Counted) (s
       ap (λ (v : Counted). v.files) (counted_after s keys are k within new) ∙ files_without (slots_under s keys) k old new none
       ∙ ap (λ (v : Counted). without_number v.files k) seen
 
-  pub files_kept : (new : Opened) → 0 < new.users → file_of new ≡ file_of old → (after new).files ≡ c.files
-  files_kept new used same =
+  pub files_preserved : (new : Opened) → 0 < new.users → file_of new ≡ file_of old → (after new).files ≡ c.files
+  files_preserved new used same =
       ap (λ (v : Counted). v.files) (counted_after s keys are k within new) ∙ files_stay (slots_under s keys) k old new slot there_before used same
       ∙ ap (λ (v : Counted). v.files) seen
 
@@ -217,7 +218,8 @@ module _ (s : Records) (keys : List ℕ) (are : AreKeys s keys) (c : Counted) (s
       counted_after s keys are k within new ∙ shared_after (slots_under s keys) k old new slot there_before same more
       ∙ ap (λ (v : Counted). with_users v k (slice_index v.users k + 1)) seen
 
-  -- the numbers before a search stay used, where its record has a user yet, and those before it do, where it has none
+  -- the numbers before the start of a search stay in use, if the record still has a user, and those below it do, if it
+  -- has none
   pub used_still : (first : ℕ) → first ≤ least_free (slots_under s keys) → (new : Opened) → 0 < new.users → AreRecords (with_value s (slice_index keys k) new) keys first
   used_still first used new some = records_used s keys are k within first used new some
 
@@ -232,7 +234,7 @@ module _ (s : Records) (keys : List ℕ) (are : AreKeys s keys) (c : Counted) (s
 
 -- ---- the first records
 
--- the first keys, so many of them, are each of a free record of its own
+-- each of the first `count` keys has a free record of its own
 pub record AreFree (s : Records) (keys : List ℕ) (count : ℕ) : Type 0 where
   pub recorded : (k : ℕ) → k < count → ContainsKey s (slice_index keys k)
   pub free : (k : ℕ) → k < count → record_at s (slice_index keys k) ≡ None
@@ -282,7 +284,7 @@ module _ (s t : Records) (keys : List ℕ) (count key : ℕ) (are : AreFree s ke
   pub one_more : AreFree t (set keys count key) (count + 1)
   one_more = record { recorded = recorded_more; free = free_more; own = own_more }
 
--- in free records nothing is open
+-- free records have no open files
 free_slots : (s : Records) (keys : List ℕ) → ((k : ℕ) → k < length keys → record_at s (slice_index keys k) ≡ None) → slots_under s keys ≡ replicate (length keys) None
 free_slots s [] free = refl
 free_slots s (key ∷ keys) free =

@@ -1,5 +1,5 @@
--- Lemmas of open files: Counts (with the counts of their users), Keys (the places of numbers, by the keys of their records), Seen (maps
--- from numbers whose values are seen by a function).
+-- Lemmas of open files: Counts (with the numbers of their users), Keys (the records of numbers, by their keys), Seen
+-- (maps whose values are viewed through a function).
 pub mod Counts
 pub mod Keys
 pub mod Seen

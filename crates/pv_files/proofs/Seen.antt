@@ -1,4 +1,4 @@
--- Maps from numbers whose values are seen by a function.
+-- Maps from numbers whose values are viewed through a function.
 use Rattle.std.proofs.Common.{cond, nat_lt, IsSome, is_some, true, ◌≡◌, ℕ, zero, suc, ◌<◌, ◌≤◌, not, List, [], ◌∷◌, ◌++◌, take, drop, map, length, position, MatchOption, Option, None, Some, is_none, option_map, refl, sym, ap, ◌∙◌, arith, ◌+◌, add-one}
 use Rattle.std.specs.Prelude.{◌↔◌}
 use Rattle.std.proofs.Math.ListN.{get_or, set, length-map}
@@ -22,7 +22,7 @@ module _ {X : Type 0} where
   first_free (None ∷ xs) = refl
   first_free (Some x ∷ xs) = rw one-add (ap suc (first_free xs))
 
-  -- the least free number, as a search for it tells
+  -- the least free number as the result of a search
   pub least_free_found : (xs : Numbered X) (found : Option ℕ) → found ≡ position (λ o. is_none o) xs
       → MatchOption found (least_free xs ≡ length xs) (λ k. (least_free xs ≡ k) × (k < length xs))
   least_free_found xs None is =
@@ -30,7 +30,7 @@ module _ {X : Type 0} where
   least_free_found xs (Some k) is =
       (sym (first_free xs) ∙ found_is (position_or_len (λ o. is_none o) xs) (length xs) k (sym is), (position-Some (λ o. is_none o) xs k None (sym is)).0)
 
-  -- where so many numbers from 0 on are used, the least free one is found after them
+  -- if the first n numbers are in use, the search for the least free one can start after them
   pub least_free_after : (xs : Numbered X) (n : ℕ) → n ≤ least_free xs → least_free xs ≡ n + least_free (drop n xs)
   least_free_after xs zero used = omega arith
   least_free_after [] (suc n) used = absurd (omega arith)
@@ -42,7 +42,8 @@ module _ {X : Type 0} where
   least_free-le (None ∷ xs) = omega arith
   least_free-le (Some x ∷ xs) = omega (arith, least_free-le xs)
 
-  -- so many stay used: where something is put under a number, where the least free one is used too, and where one not below them is freed
+  -- the first n numbers stay in use if a value is put under a number, if the least free number is put in use, or if a
+  -- number not below n is freed
   pub used-set_some : (xs : Numbered X) (k n : ℕ) (x : X) → n ≤ least_free xs → n ≤ least_free (set xs k (Some x))
   used-set_some xs k zero x used = omega arith
   used-set_some [] k (suc n) x used = absurd (omega arith)
@@ -64,7 +65,7 @@ module _ {X : Type 0} where
   used-set (Some y ∷ xs) zero (suc n) o used below = absurd (omega arith)
   used-set (Some y ∷ xs) (suc k) (suc n) o used below = omega (arith, used-set xs k n o (omega arith) (omega arith))
 
-  -- what is there is below the length
+  -- a number with a value is less than the length
   pub within_length : (xs : Numbered X) (n : ℕ) → IsSome (at_number xs n) → n < length xs
   within_length [] n there = cc
   within_length (x ∷ xs) zero there = omega arith
@@ -82,7 +83,7 @@ module _ {X : Type 0} where
   without_number-set (x ∷ xs) zero = refl
   without_number-set (x ∷ xs) (suc n) = ap (λ ys. x ∷ ys) (without_number-set xs n)
 
-  -- what is there, put again
+  -- putting the same value again changes nothing
   pub set-itself : (xs : Numbered X) (n : ℕ) → set xs n (at_number xs n) ≡ xs
   set-itself [] n = refl
   set-itself (x ∷ xs) zero = refl
@@ -97,7 +98,7 @@ module _ {X Y : Type 0} (f : X → Y) where
   at_number-seen (x ∷ xs) zero = refl
   at_number-seen (x ∷ xs) (suc n) = at_number-seen xs n
 
-  -- as it is read, with nothing past the end
+  -- the value as it is read, with None past the end
   pub at_number-seen_read : (xs : Numbered X) (n : ℕ) → at_number (seen xs) n ≡ option_map f (get_or xs n None)
   at_number-seen_read [] n = refl
   at_number-seen_read (x ∷ xs) zero = refl
@@ -116,25 +117,24 @@ module _ {X Y : Type 0} (f : X → Y) where
   pub seen-set_none : (xs : Numbered X) (n : ℕ) → seen (set xs n None) ≡ without_number (seen xs) n
   seen-set_none xs n = map-set (option_map f) xs n None ∙ sym (without_number-set (seen xs) n)
 
-  -- past the end there is nothing to take away
+  -- past the end there is nothing to remove
   pub seen-past : (xs : Numbered X) (n : ℕ) → length xs ≤ n → seen xs ≡ without_number (seen xs) n
   seen-past [] n past = refl
   seen-past (o ∷ xs) zero past = absurd (omega arith)
   seen-past (o ∷ xs) (suc n) past = ap (λ ys. option_map f o ∷ ys) (seen-past xs n (omega arith))
 
-  -- a search finds room just where the least free number is below the length
+  -- a search finds room if and only if the least free number is less than the length
   pub room_found : (xs : Numbered X) (size : ℕ) (found : Option ℕ) → length xs ≡ size
       → MatchOption found (least_free xs ≡ length xs) (λ k. (least_free xs ≡ k) × (k < length xs))
       → (is_some found ≡ true) ↔ (least_free (seen xs) < size)
   room_found xs size None long is = (λ none. cc, λ less. absurd (omega (arith, least_free-seen xs)))
   room_found xs size (Some k) long is = (λ _. omega (arith, least_free-seen xs, is.0, is.1), λ _. refl)
 
--- there is a value, or none
 pub not_both : {X : Type 0} (o : Option X) → IsSome o → o ≡ None → ⊥
 not_both None some none = cc
 not_both (Some x) some none = cc
 
--- one place further in a list of which each is changed
+-- one element further in a list whose elements are all changed
 mapped_further : {X : Type 0} (g : X → X) (xs : List X) (k : ℕ) (x d : X) → k < length xs → x ≡ get_or (map g (take k xs) ++ drop k xs) k d
     → set (map g (take k xs) ++ drop k xs) k (g x) ≡ map g (take (suc k) xs) ++ drop (suc k) xs
 mapped_further g [] k x d within is = absurd (omega arith)

@@ -1,25 +1,24 @@
--- Open files and their users, as clauses see them.
+-- Open files and their users, as contracts see them.
 use Rattle.std.specs.Prelude.{◌≡◌, ℕ, ◌<◌, ◌↔◌, List, length, replicate, slice_index, slice_set, IsSome, None}
 use Rattle.pv_model.specs.declared.limits.TheConstants.{OPEN_FILES}
 use Rattle.pv_model.specs.Numbered.{Numbered, at_number, with_number}
 use Rattle.pv_model.specs.State.{OpenFile}
 
--- the open files by their numbers, and how many users each number has
+-- the open files by number, and the number of users of each
 pub record Counted : Type 0 where
   pub files : Numbered OpenFile
   pub users : List ℕ
 
--- what holds of them at any time: 128 places, and a file is open under a number just where that has users
+-- the invariant: 128 numbers, and a number has an open file if and only if it has users
 pub record IsCounted (c : Counted) : Type 0 where
   pub slots : length c.files ≡ OPEN_FILES
   pub counts : length c.users ≡ OPEN_FILES
   pub used : (k : ℕ) → IsSome (at_number c.files k) ↔ (0 < slice_index c.users k)
 
--- nothing is open
 abbrev pub no_files : Counted
 no_files = record { files = replicate OPEN_FILES None; users = replicate OPEN_FILES 0 }
 
--- with a new open file under a number, and one user of it
+-- with a new open file under a number, which has one user
 abbrev pub with_opened : Counted → ℕ → OpenFile → Counted
 with_opened c k f = record { files = with_number c.files k f; users = slice_set c.users k 1 }
 
@@ -27,6 +26,6 @@ with_opened c k f = record { files = with_number c.files k f; users = slice_set 
 abbrev pub with_file : Counted → ℕ → OpenFile → Counted
 with_file c k f = record c { files = with_number c.files k f }
 
--- with so many users of a number
+-- with another number of users
 abbrev pub with_users : Counted → ℕ → ℕ → Counted
 with_users c k n = record c { users = slice_set c.users k n }

@@ -1,4 +1,4 @@
--- The places of descriptors, as the definitions have them.
+-- Conversion of descriptors between the code and the specification.
 use Rattle.std.specs.Prelude.{◌≡◌, refl, List, [], ◌∷◌, map, Option, None, Some, option_map}
 use Rattle.std.proofs.Common.{ap}
 use Rattle.pv_model.specs.Numbered.{Numbered}
@@ -11,7 +11,7 @@ descriptor_of d = record { file = d.file; close_on_exec = d.close_on_exec }
 abbrev pub descriptors_of : List (Option ProcessSlot) → Numbered Descriptor
 descriptors_of slots = map (option_map descriptor_of) slots
 
--- and back
+-- the inverse
 abbrev pub slot_of : Descriptor → ProcessSlot
 slot_of d = record { file = d.file; close_on_exec = d.close_on_exec }
 

@@ -1,4 +1,4 @@
--- The descriptors of a process, as clauses see them.
+-- The descriptors of a process, as contracts see them.
 use Rattle.std.specs.Prelude.{ℤ, pos, negsuc, Bool, false, replicate, Option, None, Some}
 use Rattle.pv_model.specs.declared.limits.TheConstants.{DESCRIPTORS}
 use Rattle.pv_model.specs.Numbered.{Numbered, at_number}
@@ -7,12 +7,12 @@ use Rattle.pv_model.specs.State.{Descriptor}
 abbrev pub no_descriptors : Numbered Descriptor
 no_descriptors = replicate DESCRIPTORS None
 
--- the descriptor under the number that a call gives, as `descriptor_at` finds it in a process
+-- the descriptor with the number that a call passes, as `descriptor_at` finds it in a process
 abbrev pub descriptor_under : Numbered Descriptor → ℤ → Option Descriptor
 descriptor_under ds (pos d) = at_number ds d
 descriptor_under ds (negsuc d) = None
 
--- whether an execve closes it
+-- whether execve closes it
 abbrev pub is_marked : Option Descriptor → Bool
 is_marked None = false
 is_marked (Some d) = d.close_on_exec

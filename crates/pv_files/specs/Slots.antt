@@ -1,4 +1,4 @@
--- The places of open files, as the definitions have them.
+-- The records of open files.
 use Rattle.std.specs.Prelude.{◌≡◌, ℕ, ◌<◌, ◌≤◌, List, length, map, nat_lt, if◌then◌else◌, Option, None, Some, option_map, option_and_then, slice_index}
 use Rattle.slab.specs.Slab.{Slab, get, ContainsKey}
 use Rattle.pv_model.specs.declared.limits.TheConstants.{OPEN_FILES}
@@ -10,7 +10,7 @@ use Rattle.pv_files.specs.Counted.{Counted}
 abbrev pub file_of : Opened → OpenFile
 file_of o = record { node = o.node; mode = o.mode; append = o.append; offset = o.offset; listed = o.listed }
 
--- how many users a place has
+-- the number of users of an open file
 abbrev pub users_of : Option Opened → ℕ
 users_of None = 0
 users_of (Some o) = o.users
@@ -18,25 +18,25 @@ users_of (Some o) = o.users
 abbrev pub counted_of : List (Option Opened) → Counted
 counted_of slots = record { files = map (option_map file_of) slots; users = map users_of slots }
 
--- what is open in a record: nothing, where it has no user
+-- the open file in a record, or None if it has no user
 abbrev pub where_used : Opened → Option Opened
 where_used o = if nat_lt 0 o.users then Some o else None
 
--- what is open in the record under a key
+-- the open file in the record with a key
 abbrev pub record_at : Slab Opened → ℕ → Option Opened
 record_at records key = option_and_then where_used (get records key)
 
--- the places of the numbers whose records stand under these keys
+-- the open files of the numbers with these keys
 abbrev pub slots_under : Slab Opened → List ℕ → List (Option Opened)
 slots_under records keys = map (record_at records) keys
 
--- what holds of the keys of all numbers: each is of a record, and no two of the same
+-- the invariant of the keys of all numbers: each has a record, and no two have the same
 pub record AreKeys (records : Slab Opened) (keys : List ℕ) : Type 0 where
   pub count : length keys ≡ OPEN_FILES
   pub recorded : (k : ℕ) → k < OPEN_FILES → ContainsKey records (slice_index keys k)
   pub own : (j k : ℕ) → j < OPEN_FILES → k < OPEN_FILES → slice_index keys j ≡ slice_index keys k → j ≡ k
 
--- and of the number at which a search for a free one begins: all below it are used
+-- the invariant of the number at which a search for a free one starts: all numbers below it are in use
 pub record AreRecords (records : Slab Opened) (keys : List ℕ) (first : ℕ) : Type 0 where
   pub are_keys : AreKeys records keys
   pub used : first ≤ least_free (slots_under records keys)

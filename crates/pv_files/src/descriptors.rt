@@ -19,7 +19,7 @@ struct Descriptor {
     close_on_exec: bool,
 }
 
-/// The descriptors of a process, by their numbers from 0 to 15.
+/// The descriptors of a process, numbered from 0 to 15.
 #[derive(Clone, Copy)]
 pub struct Descriptors {
     slots: [Option<Descriptor>; DESCRIPTORS],
@@ -44,14 +44,14 @@ impl Model for Descriptors {
     ghost inverse_ok = { λ t _ i. record { slots = slots_of-descriptors_of t.slots i } };
 }
 
-// The descriptor under a number.
+// Returns the descriptor with index `k`.
 fn at_index(slots: &[Option<Descriptor>], k: usize) -> Option<Descriptor>
     ensures { option_map descriptor_of result ≡ at_number (descriptors_of slots.now) k }
 {
     if k < slots.len() { slots[k] } else { None }
 }
 
-// The descriptor under the number that a call gives.
+// Returns the descriptor with the number that a call passes.
 fn lookup(slots: &[Option<Descriptor>], d: i32) -> Option<Descriptor>
     ensures { option_map descriptor_of result ≡ descriptor_under (descriptors_of slots.now) d }
 {
@@ -61,7 +61,7 @@ fn lookup(slots: &[Option<Descriptor>], d: i32) -> Option<Descriptor>
     }
 }
 
-// Nothing any more under a number.
+// Clears the descriptor with index `k`.
 fn clear_index(slots: &mut [Option<Descriptor>], k: usize)
     ensures { descriptors_of slots.new ≡ without_number (descriptors_of slots.old) k }
 {
@@ -70,7 +70,7 @@ fn clear_index(slots: &mut [Option<Descriptor>], k: usize)
     }
 }
 
-// Nothing any more under the number that a call gives.
+// Clears the descriptor with the number that a call passes.
 fn clear(slots: &mut [Option<Descriptor>], d: i32)
     ensures { descriptors_of slots.new ≡ without_descriptor (descriptors_of slots.old) d }
 {
@@ -79,7 +79,7 @@ fn clear(slots: &mut [Option<Descriptor>], d: i32)
     }
 }
 
-// What execve(2) leaves of a place.
+// Returns the descriptor, or `None` if execve(2) closes it.
 fn unless_marked(slot: Option<Descriptor>) -> Option<Descriptor>
     ensures { option_map descriptor_of result ≡ descriptor_after_exec (option_map descriptor_of slot) }
 {
@@ -89,7 +89,7 @@ fn unless_marked(slot: Option<Descriptor>) -> Option<Descriptor>
     }
 }
 
-// What execve(2) leaves of all.
+// Clears the descriptors that execve(2) closes.
 fn close_marked(slots: &mut [Option<Descriptor>])
     ensures { descriptors_of slots.new ≡ map descriptor_after_exec (descriptors_of slots.old) }
 {
@@ -99,7 +99,7 @@ fn close_marked(slots: &mut [Option<Descriptor>])
 }
 
 impl Descriptors {
-    /// No descriptors.
+    /// Creates a table without descriptors.
     pub fn new() -> Descriptors
         ensures { result ≡ no_descriptors }
     {
@@ -108,25 +108,25 @@ impl Descriptors {
         }
     }
 
-    /// Does nothing: its contract says what holds of the descriptors at any time.
+    /// Does nothing. Its contract states the invariant of the descriptors.
     pub fn invariant(&self)
         ensures { length self.now ≡ DESCRIPTORS }
     {
         let _ = &self.slots;
     }
 
-    /// Whether a number is free.
+    /// Returns whether some number is free.
     pub fn has_room(&self) -> bool
         ensures { IsTrue result ↔ (least_free self.now < DESCRIPTORS) }
     {
         first_free(&self.slots).is_some()
     }
 
-    /// Makes a descriptor of an open file, under the least free number, which is the answer.
+    /// Creates a descriptor of an open file under the least free number, and returns the number.
     ///
     /// # Errors
     ///
-    /// `EMFILE` where all 16 numbers are used, and only there; nothing has then changed.
+    /// Returns `EMFILE` if and only if all 16 numbers are in use. The descriptors then do not change.
     pub fn give(&mut self, file: usize, close_on_exec: bool) -> Result<u8, Errno>
         ensures number { IfOk result (λ d. d ≡ least_free self.old) }
         ensures in_range { IfOk result (λ d. d < DESCRIPTORS) }
@@ -146,7 +146,8 @@ impl Descriptors {
         Ok(d as u8)
     }
 
-    /// Makes a number from 0 to 15 a descriptor of an open file, whatever it was. An execve(2) keeps it.
+    /// Makes a number from 0 to 15 a descriptor of an open file, and replaces the descriptor that had the number.
+    /// execve(2) does not close the new one.
     pub fn set(&mut self, d: u8, file: usize)
         requires { d < DESCRIPTORS }
         ensures { self.new
@@ -158,11 +159,11 @@ impl Descriptors {
         });
     }
 
-    /// The number of the open file of a descriptor.
+    /// Returns the number of the open file of a descriptor.
     ///
     /// # Errors
     ///
-    /// `EBADF` where the number is no descriptor, and only there.
+    /// Returns `EBADF` if and only if `d` is not the number of a descriptor.
     pub fn at(&self, d: i32) -> Result<usize, Errno>
         ensures { result ≡ ok_or (option_map (λ e. e.file) (descriptor_under self.now d)) Errno.EBADF }
     {
@@ -172,11 +173,11 @@ impl Descriptors {
         }
     }
 
-    /// Closes a descriptor. The answer is the number of its open file, which has a user less.
+    /// Closes a descriptor and returns the number of its open file. The caller must release one user of that file.
     ///
     /// # Errors
     ///
-    /// `EBADF` where the number is no descriptor, and only there; nothing has then changed.
+    /// Returns `EBADF` if and only if `d` is not the number of a descriptor. The descriptors then do not change.
     pub fn close(&mut self, d: i32) -> Result<usize, Errno>
         ensures file { result ≡ ok_or (option_map (λ e. e.file) (descriptor_under self.old d)) Errno.EBADF }
         ensures closed { OnOk result (self.new ≡ without_descriptor self.old d) }
@@ -187,14 +188,14 @@ impl Descriptors {
         Ok(file)
     }
 
-    /// Closes what execve(2) closes.
+    /// Closes the descriptors that execve(2) closes.
     pub fn after_exec(&mut self)
         ensures { self.new ≡ map descriptor_after_exec self.old }
     {
         close_marked(&mut self.slots);
     }
 
-    /// Whether execve(2) closes a number: it is a descriptor that was made so.
+    /// Returns whether `d` is a descriptor that execve(2) closes.
     pub fn marked(&self, d: u8) -> bool
         ensures { result ≡ is_marked (at_number self.now d) }
     {

@@ -5,11 +5,11 @@ ghost use Rattle.std.specs.Option.{option_copied};
 use pv_model::Name;
 use std::marker::Model;
 
-/// The name that was kept last, where one was: a contract sees it, or none. Its room stays when it is forgotten.
+/// The last name listed, if there is one. Contracts see it as an optional name. `forget` does not free its storage.
 #[derive(Drop)]
 pub(crate) struct LastName {
     given: bool,
-    // What was kept last, or nothing at the start; it counts only where one was given.
+    // The last name that was set. It is valid only if `given` is true.
     name: Name,
 }
 
@@ -22,7 +22,7 @@ impl Model for LastName {
 }
 
 impl LastName {
-    /// No name yet.
+    /// Creates a value without a name.
     pub(crate) fn none() -> LastName
         ensures { result ≡ None }
     {
@@ -32,14 +32,14 @@ impl LastName {
         }
     }
 
-    /// Forgets the name; its bytes are not written.
+    /// Forgets the name. Its bytes are not overwritten.
     pub(crate) fn forget(&mut self)
         ensures { self.new ≡ None }
     {
         self.given = false;
     }
 
-    /// Keeps a name.
+    /// Sets the name.
     pub(crate) fn keep(&mut self, name: Name)
         ensures { self.new ≡ Some name }
     {
@@ -47,7 +47,7 @@ impl LastName {
         self.name = name;
     }
 
-    /// The name, where one was kept.
+    /// Returns the name, if there is one.
     pub(crate) fn get(&self) -> Option<&Name>
         ensures { option_copied result ≡ self.now }
     {

@@ -12,17 +12,17 @@ use slab::Slab;
 use std::alloc::{AllocError, Global};
 use std::marker::Model;
 
-/// The open files of the system, by their numbers from 0 to 127, each with the count of its users.
+/// The open files of the system, numbered from 0 to 127, each with the number of its users.
 ///
-/// A number is free where it has no user. The records of all 128 are made at the start and stay: that of a free
-/// number has no user, and what else stands in it counts for nothing.
+/// A number is free if it has no user. All 128 records are created at the start and stay. In the record of a free
+/// number, only the user count is meaningful.
 #[derive(Drop)]
 pub struct OpenFiles {
-    // A record for each number, with no user where the number is free. None is removed.
+    // A record for each number. If the number is free, the record has no user. No record is removed.
     records: Slab<Opened>,
-    // The key of each number's record: the slab chooses them.
+    // The slab key of each number's record.
     keys: [usize; OPEN_FILES],
-    // A number below which none is free: the search for the least free one begins at it.
+    // No number below this one is free, so the search for the least free number starts here.
     first: usize,
 }
 
@@ -38,7 +38,7 @@ impl Model for OpenFiles {
     ghost invariant = { λ t. AreRecords t.records t.keys t.first };
 }
 
-// What is open in the record under a key.
+// Returns the open file in the record with this key, or `None` if the record is free.
 fn opened_at(records: &Slab<Opened>, key: usize) -> Option<&Opened>
     ensures { option_copied result ≡ record_at records.now key }
 {
@@ -46,7 +46,7 @@ fn opened_at(records: &Slab<Opened>, key: usize) -> Option<&Opened>
     if opened.users > 0 { Some(opened) } else { None }
 }
 
-// The index of the first key whose record is free.
+// Returns the index of the first key whose record is free.
 fn first_free_index(records: &Slab<Opened>, keys: &[usize]) -> Option<usize>
     ensures { result ≡ position (λ key. is_none (record_at records.now key)) keys.now }
 {
@@ -54,7 +54,7 @@ fn first_free_index(records: &Slab<Opened>, keys: &[usize]) -> Option<usize>
         .position(|key| opened_at(records, *key).is_none())
 }
 
-// The least number whose record is free, where there is one.
+// Returns the least number whose record is free, if there is one.
 fn first_free_number(records: &Slab<Opened>, keys: &[usize]) -> Option<usize>
     ensures { MatchOption result (least_free (slots_under records.now keys.now) ≡ length keys.now)
         (λ k. (least_free (slots_under records.now keys.now) ≡ k) × (k < length keys.now)) }
@@ -62,7 +62,7 @@ fn first_free_number(records: &Slab<Opened>, keys: &[usize]) -> Option<usize>
     first_free_index(records, keys)
 }
 
-// The same, searched for from `first` on: no number below it is free.
+// Does the same as `first_free_number`, but searches from `first`. No number below it is free.
 fn first_free_from(records: &Slab<Opened>, keys: &[usize], first: usize) -> Option<usize>
     requires within { first ≤ length keys.now }
     requires used { first ≤ least_free (slots_under records.now keys.now) }
@@ -74,11 +74,12 @@ fn first_free_from(records: &Slab<Opened>, keys: &[usize], first: usize) -> Opti
 }
 
 impl OpenFiles {
-    /// No open files.
+    /// Creates a table without open files.
     ///
     /// # Errors
     ///
-    /// Where there is no memory for the records. No other call of `OpenFiles` asks for any.
+    /// Returns `AllocError` if memory for the records cannot be allocated. No other method of `OpenFiles` allocates
+    /// memory.
     pub fn new(alloc: Global) -> Result<OpenFiles, AllocError>
         ensures { IfOk result (λ files. files ≡ no_files) }
     {
@@ -94,25 +95,26 @@ impl OpenFiles {
         })
     }
 
-    /// Does nothing: its contract says what holds of the open files at any time.
+    /// Does nothing. Its contract states the invariant of the open files.
     pub fn invariant(&self)
         ensures { IsCounted self.now }
     {
         let _ = &self.records;
     }
 
-    /// Whether a number is free.
+    /// Returns whether some number is free.
     pub fn has_room(&self) -> bool
         ensures { IsTrue result ↔ (least_free self.now.files < OPEN_FILES) }
     {
         first_free_from(&self.records, &self.keys, self.first).is_some()
     }
 
-    /// Opens a node, with one user, at offset 0 and with no name listed. The answer is the least free number.
+    /// Opens a node with one user, at offset 0 and without a listed name. Returns the least free number, which the open
+    /// file now has.
     ///
     /// # Errors
     ///
-    /// `ENFILE` where all 128 numbers are used, and only there; nothing has then changed.
+    /// Returns `ENFILE` if and only if all 128 numbers are in use. The open files then do not change.
     pub fn add(&mut self, node: u16, mode: Mode, append: bool) -> Result<usize, Errno>
         ensures number { IfOk result (λ k. k ≡ least_free self.old.files) }
         ensures in_range { IfOk result (λ k. k < OPEN_FILES) }
@@ -130,7 +132,7 @@ impl OpenFiles {
         Ok(file)
     }
 
-    // What is open under a number.
+    // Returns the open file with this number.
     fn lookup(&self, file: usize) -> Option<&Opened>
         ensures file { option_map file_of (option_copied result) ≡ at_number self.now.files file }
         ensures users { users_of (option_copied result) ≡ slice_index self.now.users file }
@@ -138,14 +140,14 @@ impl OpenFiles {
         opened_at(&self.records, *self.keys.get(file)?)
     }
 
-    /// Whether a file is open under a number.
+    /// Returns whether a number has an open file.
     pub fn is_open(&self, file: usize) -> bool
         ensures { result ≡ is_some (at_number self.now.files file) }
     {
         self.lookup(file).is_some()
     }
 
-    /// How many users an open file has: 0 of a free number.
+    /// Returns the number of users of an open file, or 0 if the number is free.
     pub fn users(&self, file: usize) -> u16
         ensures { result ≡ slice_index self.now.users file }
     {
@@ -155,7 +157,7 @@ impl OpenFiles {
         }
     }
 
-    /// Adds a user of an open file that has fewer than 65,535.
+    /// Adds a user to an open file that has fewer than 65,535.
     pub fn dup(&mut self, file: usize)
         requires opened { IsSome (at_number self.old.files file) }
         requires room { slice_index self.old.users file < 65535 }
@@ -164,8 +166,8 @@ impl OpenFiles {
         self.records[self.keys[file]].add_user();
     }
 
-    /// Takes a user of an open file away. Where none is left the number is free, and the answer is the number of
-    /// the node that was open.
+    /// Removes a user of an open file. If it was the last user, the number becomes free, and the number of the node
+    /// that was open is returned.
     pub fn release(&mut self, file: usize) -> Option<u16>
         requires { IsSome (at_number self.old.files file) }
         ensures users { self.new.users
@@ -181,7 +183,7 @@ impl OpenFiles {
         Some(node)
     }
 
-    // What is kept of an open file.
+    // Returns the record of an open file.
     fn opened(&self, file: usize) -> &Opened
         requires { IsSome (at_number self.now.files file) }
         ensures { at_number self.now.files file ≡ Some (file_of result.now) }
@@ -189,7 +191,7 @@ impl OpenFiles {
         self.lookup(file).unwrap()
     }
 
-    /// The number of the node of an open file.
+    /// Returns the number of the node of an open file.
     pub fn node(&self, file: usize) -> u16
         requires { IsSome (at_number self.now.files file) }
         ensures { option_map (λ f. f.node) (at_number self.now.files file) ≡ Some result }
@@ -197,7 +199,7 @@ impl OpenFiles {
         self.opened(file).node
     }
 
-    /// What an open file is open for.
+    /// Returns the mode of an open file.
     pub fn mode(&self, file: usize) -> Mode
         requires { IsSome (at_number self.now.files file) }
         ensures { option_map (λ f. f.mode) (at_number self.now.files file) ≡ Some result }
@@ -205,7 +207,7 @@ impl OpenFiles {
         self.opened(file).mode
     }
 
-    /// Whether each write through an open file is at the end.
+    /// Returns whether each write to an open file appends.
     pub fn appends(&self, file: usize) -> bool
         requires { IsSome (at_number self.now.files file) }
         ensures { option_map (λ f. f.append) (at_number self.now.files file) ≡ Some result }
@@ -213,7 +215,7 @@ impl OpenFiles {
         self.opened(file).append
     }
 
-    /// The byte of the node at which the next read or write through an open file begins.
+    /// Returns the offset at which the next read or write of an open file starts.
     pub fn offset(&self, file: usize) -> u32
         requires { IsSome (at_number self.now.files file) }
         ensures { option_map (λ f. f.offset) (at_number self.now.files file) ≡ Some result }
@@ -221,7 +223,7 @@ impl OpenFiles {
         self.opened(file).offset
     }
 
-    /// Moves the offset of an open file, for all its users.
+    /// Sets the offset of an open file, for all its users.
     pub fn set_offset(&mut self, file: usize, offset: u32)
         requires { IsSome (at_number self.old.files file) }
         ensures { option_map (λ f. with_file self.old file (record f { offset = offset }))
@@ -230,7 +232,7 @@ impl OpenFiles {
         self.records[self.keys[file]].put_offset(offset);
     }
 
-    /// The name that getdents(2) gave last through an open file, where it gave one.
+    /// Returns the last name that getdents(2) returned through an open file, if there is one.
     pub fn last_name(&self, file: usize) -> Option<&Name>
         requires { IsSome (at_number self.now.files file) }
         ensures { option_map (λ f. f.listed) (at_number self.now.files file)
@@ -239,7 +241,7 @@ impl OpenFiles {
         self.opened(file).listed.get()
     }
 
-    /// Keeps a name as the last one given through an open file.
+    /// Sets the last name that getdents(2) returned through an open file.
     pub fn set_last_name(&mut self, file: usize, name: Name)
         requires { IsSome (at_number self.old.files file) }
         ensures { option_map (λ f. with_file self.old file (record f { listed = Some name }))

@@ -1,28 +1,28 @@
-//! One open file, and the record where it is kept.
+//! One open file and its record.
 ghost use Rattle.std.specs.Prelude.{◌≡◌, ◌+◌, ◌-◌, ◌<◌, ◌↔◌, None, Some, IfSome, IsSome};
 
 use crate::last_name::LastName;
 use pv_model::{Mode, Name};
 
-/// An open file that descriptors share, with the count of them; where nobody uses it, the record is free.
+/// An open file that descriptors share, with their number. If it has no user, the record is free.
 #[derive(Drop)]
 pub(crate) struct Opened {
     /// The number of its node.
     pub(crate) node: u16,
-    /// What it is open for.
+    /// Its mode: reading, writing or both.
     pub(crate) mode: Mode,
-    /// Whether each write is at the end.
+    /// Whether each write appends.
     pub(crate) append: bool,
-    /// The byte at which the next read or write begins.
+    /// The offset at which the next read or write starts.
     pub(crate) offset: u32,
-    /// The name that getdents(2) gave last.
+    /// The last name that getdents(2) returned.
     pub(crate) listed: LastName,
-    /// How many descriptors use it.
+    /// The number of descriptors that use it.
     pub(crate) users: u16,
 }
 
 impl Opened {
-    /// A free record.
+    /// Creates a free record.
     pub(crate) fn free() -> Opened
         ensures { result.users ≡ 0 }
     {
@@ -36,7 +36,7 @@ impl Opened {
         }
     }
 
-    /// Opens a node in the record, with one user, at offset 0 and with no name listed.
+    /// Opens a node in the record, with one user, at offset 0 and without a listed name.
     pub(crate) fn open(&mut self, node: u16, mode: Mode, append: bool)
         ensures { self.new
             ≡ record { node = node; mode = mode; append = append; offset = 0; listed = None; users = 1 } }
@@ -57,7 +57,7 @@ impl Opened {
         self.users += 1;
     }
 
-    /// Takes a user away, and gives the node where none is left.
+    /// Removes a user. If it was the last one, the node is returned.
     pub(crate) fn take_user(&mut self) -> Option<u16>
         requires { 0 < self.old.users }
         ensures taken { self.new ≡ record self.old { users = self.old.users - 1 } }
@@ -72,14 +72,14 @@ impl Opened {
         }
     }
 
-    /// Moves the offset.
+    /// Sets the offset.
     pub(crate) fn put_offset(&mut self, offset: u32)
         ensures { self.new ≡ record self.old { offset = offset } }
     {
         self.offset = offset;
     }
 
-    /// Keeps a name as the last one listed.
+    /// Sets the last name listed.
     pub(crate) fn put_last_name(&mut self, name: Name)
         ensures { self.new ≡ record self.old { listed = Some name } }
     {

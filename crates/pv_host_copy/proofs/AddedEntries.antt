@@ -1,4 +1,4 @@
--- An entry added in its directory.
+-- Adding an entry in its directory.
 use Rattle.std.proofs.Common.{◌≡◌, ◌∙◌, ap, ℕ, true, false, None, Some, is_some, Result, Ok, Err, refl}
 use Rattle.pv_model.specs.declared.fault.ManifestFault.{ManifestFault}
 use Rattle.pv_model.specs.declared.fault.ManifestFault.TheVariants.{Parent, Exists}
@@ -38,7 +38,7 @@ module _ (t : Tree) (path : Bytes) (content : Content) (line : ℕ) where
     pub add-in : is_some (find_entry t d name) ≡ false → add_entry line t entry ≡ entry_in line t entry d name
     add-in absent = added ∙ rw absent refl
 
--- the same step makes what is equal in each line
+-- the same step has the same result for equal functions of the line
 pub gives-along : {X : Type 0} (result : Result X EntryFault) (made other : ℕ → Result Tree ManifestFault) (after : Tree)
     → ((line : ℕ) → other line ≡ made line) → Gives result made after → Gives result other after
 gives-along (Ok done) made other after same h = λ line. same line ∙ h line

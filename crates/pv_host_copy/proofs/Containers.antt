@@ -1,4 +1,4 @@
--- The directory that is to contain what a path of a manifest names.
+-- The parent directory of a path.
 use Rattle.std.proofs.Common.{◌≡◌, ◌∙◌, ap, ℕ, ◌≤◌, true, false, not, cond, List, [], ◌∷◌, length, drop, filter, Option, None, Some, refl, sym, arith}
 use Rattle.std.specs.Prelude.{option_and_then, is_none, ◌==◌}
 use Rattle.std.specs.List.{list_all}
@@ -10,16 +10,16 @@ use Rattle.pv_model.specs.Tree.{Tree, root, is_name, is_directory_at, find_entry
 use Rattle.pv_model.specs.Walk.{split_slashes, components}
 use Rattle.pv_host_copy.specs.Paths.{is_path}
 use Rattle.pv_text.specs.Components.{components_after}
-use Rattle.pv_laws_trees.specs.Tree.{Stands}
+use Rattle.pv_laws_trees.specs.Tree.{Appears}
 use Rattle.pv_laws_trees.proofs.Trees.{sound, entry-parent, parent-root}
 
--- ---- directories that stand
+-- ---- directories that appear in the tree
 
-pub root-stands : (t : Tree) → IsWellFormed t → Stands t root
-root-stands t w = (w.root_is_directory, ap is_none (parent-root t))
+pub root-appears : (t : Tree) → IsWellFormed t → Appears t root
+root-appears t w = (w.root_is_directory, ap is_none (parent-root t))
 
-pub entry-stands : (t : Tree) → IsWellFormed t → (d : ℕ) (name : Bytes) (n : ℕ) → is_directory_at t n ≡ true → find_entry t d name ≡ Some n → Stands t n
-entry-stands t w d name n is found = (is, ap is_none (entry-parent t (sound t w) n d name is found))
+pub entry-appears : (t : Tree) → IsWellFormed t → (d : ℕ) (name : Bytes) (n : ℕ) → is_directory_at t n ≡ true → find_entry t d name ≡ Some n → Appears t n
+entry-appears t w d name n is found = (is, ap is_none (entry-parent t (sound t w) n d name is found))
 
 -- ---- the components of a path
 
@@ -27,7 +27,7 @@ name_is_some : (v : Version) (name : Bytes) → is_name v name ≡ true → is_e
 name_is_some v [] h = cc
 name_is_some v (b ∷ bs) h = refl
 
--- names are no empty components
+-- names are not empty components
 names_stay : (v : Version) (ps : List Bytes) → list_all (is_name v) ps ≡ true → filter (λ component. not (is_empty component)) ps ≡ ps
 names_stay v [] h = refl
 names_stay v (p ∷ ps) h =
@@ -42,7 +42,7 @@ path_names v (b ∷ bs) h =
     let halves = and_parts (b == 47) (list_all (is_name v) (split_slashes bs)) h in
     (omega arith, halves.1, rw halves.0 (names_stay v (split_slashes bs) halves.1))
 
--- a path has a first component, which may be empty
+-- a path has a first component, which can be empty
 some_component : (bs : Bytes) → (component : Bytes) × (others : List Bytes) × (split_slashes bs ≡ component ∷ others)
 some_component [] = ([], [], refl)
 some_component (b ∷ bs) =
@@ -57,11 +57,11 @@ some_component (b ∷ bs) =
 
 -- ---- a walk along the path
 
--- what it keeps
+-- its invariant
 pub record IsContained (t : Tree) (path : Bytes) (d : ℕ) (name : Bytes) (rest : Option Bytes) : Type 0 where
   pub is : container t (name ∷ components_after rest) d ≡ container t (components path) root
   pub names : list_all (is_name t.version) (name ∷ components_after rest) ≡ true
-  pub stands : Stands t d
+  pub appears : Appears t d
 
 pub IsContained-start : (t : Tree) (path names name : Bytes) (rest : Option Bytes) → is_path t.version path ≡ true → names ≡ drop 1 path → split_slashes names ≡ name ∷ components_after rest → IsWellFormed t
     → IsContained t path root name rest
@@ -71,27 +71,27 @@ IsContained-start t path names name rest named is split w =
     record {
       is = ap (λ ps. container t ps root) (sym same ∙ sym parts.2);
       names = ap (list_all (is_name t.version)) (sym same) ∙ parts.1;
-      stands = root-stands t w;
+      appears = root-appears t w;
     }
 
-module _ (t : Tree) (path : Bytes) (d : ℕ) (name following : Bytes) (rest : Option Bytes) (more : rest ≡ Some following) (kept : IsContained t path d name rest) where
+module _ (t : Tree) (path : Bytes) (d : ℕ) (name following : Bytes) (rest : Option Bytes) (more : rest ≡ Some following) (preserved : IsContained t path d name rest) where
   pub IsContained-step : (n : ℕ) (next : Bytes) (left : Option Bytes) → split_slashes following ≡ next ∷ components_after left
-      → ((onward : ℕ → Option (ℕ × Bytes)) → enter_directory t onward (find_entry t d name) ≡ option_and_then onward (Some n)) → Stands t n → IsContained t path n next left
+      → ((onward : ℕ → Option (ℕ × Bytes)) → enter_directory t onward (find_entry t d name) ≡ option_and_then onward (Some n)) → Appears t n → IsContained t path n next left
   IsContained-step n next left split entered there =
       let components-are : components_after rest ≡ next ∷ components_after left = ap components_after more ∙ split in
       record {
-        is = sym (entered (container t (next ∷ components_after left))) ∙ ap (λ ps. container t (name ∷ ps) d) (sym components-are) ∙ kept.is;
-        names = (and_parts (is_name t.version name) (list_all (is_name t.version) (next ∷ components_after left)) (ap (λ ps. list_all (is_name t.version) (name ∷ ps)) (sym components-are) ∙ kept.names)).1;
-        stands = there;
+        is = sym (entered (container t (next ∷ components_after left))) ∙ ap (λ ps. container t (name ∷ ps) d) (sym components-are) ∙ preserved.is;
+        names = (and_parts (is_name t.version name) (list_all (is_name t.version) (next ∷ components_after left)) (ap (λ ps. list_all (is_name t.version) (name ∷ ps)) (sym components-are) ∙ preserved.names)).1;
+        appears = there;
       }
 
   pub IsContained-refused : ((onward : ℕ → Option (ℕ × Bytes)) → enter_directory t onward (find_entry t d name) ≡ option_and_then onward None) → container t (components path) root ≡ None
   IsContained-refused refused =
       let next = some_component following in
-      sym kept.is ∙ ap (λ ps. container t (name ∷ ps) d) (ap components_after more ∙ next.2) ∙ refused (container t (next.0 ∷ next.1))
+      sym preserved.is ∙ ap (λ ps. container t (name ∷ ps) d) (ap components_after more ∙ next.2) ∙ refused (container t (next.0 ∷ next.1))
 
 pub IsContained-end : (t : Tree) (path : Bytes) (d : ℕ) (name : Bytes) (rest : Option Bytes) → rest ≡ None → IsContained t path d name rest → container t (components path) root ≡ Some (d, name)
-IsContained-end t path d name rest none kept = sym kept.is ∙ ap (λ r. container t (name ∷ components_after r) d) none
+IsContained-end t path d name rest none preserved = sym preserved.is ∙ ap (λ r. container t (name ∷ components_after r) d) none
 
 pub IsContained-name : (t : Tree) (path : Bytes) (d : ℕ) (name : Bytes) (rest : Option Bytes) → IsContained t path d name rest → is_name t.version name ≡ true
-IsContained-name t path d name rest kept = (and_parts (is_name t.version name) (list_all (is_name t.version) (components_after rest)) kept.names).0
+IsContained-name t path d name rest preserved = (and_parts (is_name t.version name) (list_all (is_name t.version) (components_after rest)) preserved.names).0

@@ -1,4 +1,4 @@
--- The first path of a file or link, sought name by name.
+-- Searching for the first path of a file or symbolic link, name by name.
 use Rattle.std.proofs.Common.{◌≡◌, ◌∙◌, ap, ℕ, suc, ◌+◌, ◌<◌, true, false, List, [], ◌∷◌, length, drop, get_or, None, Some, refl, sym, arith}
 use Rattle.std.specs.Prelude.{map}
 use Rattle.std.specs.List.{list_all}
@@ -11,7 +11,7 @@ use Rattle.pv_host_copy.specs.Firsts.{first_pair, has_path}
 use Rattle.pv_host_copy.specs.Gathered.{first_of}
 use Rattle.pv_host_copy.specs.Hosts.{is_same}
 
--- those that are left to look at have the first path that all have, and each has a path
+-- the remaining paths have the same first path as all, and each is valid
 pub record IsSought (v : Version) (identity : Identity) (left all : List First) : Type 0 where
   pub same : first_of identity (map first_pair left) ≡ first_of identity (map first_pair all)
   pub named : list_all (has_path v) left ≡ true

@@ -8,26 +8,26 @@ use Rattle.pv_model.specs.Held.{named_tree}
 use Rattle.pv_model.specs.Image.{inode_blocks, greatest_blocks}
 use Rattle.pv_model.specs.Tree.{Tree}
 use Rattle.pv_image.proofs.Named.{named_tree-all}
-use Rattle.pv_image_write.specs.Written.{BeginsImage, TellsImage}
-use Rattle.pv_laws_trees.specs.Kept.{EachIsNamed}
+use Rattle.pv_image_write.specs.Written.{BeginsImage, WritesImage}
+use Rattle.pv_laws_trees.specs.Preserved.{EachIsNamed}
 use Rattle.pv_tree.specs.Changes.{root_alone}
-use Rattle.pv_streams.specs.Sinks.{and_all, TellsBeginning}
+use Rattle.pv_streams.specs.Sinks.{and_all, WritesPrefix}
 use Rattle.pv_host_copy.specs.declared.fault.CopyStop.{CopyStop}
 use Rattle.pv_host_copy.specs.declared.fault.CopyStop.TheVariants as stop
-use Rattle.pv_host_copy.specs.declared.fault.Why.{Why}
+use Rattle.pv_host_copy.specs.declared.fault.SkipReason.{SkipReason}
 use Rattle.pv_host_copy.specs.declared.image.ImportStop.{ImportStop}
 use Rattle.pv_host_copy.specs.declared.image.ImportStop.TheVariants as image
 use Rattle.pv_host_copy.specs.declared.importing.Importing.{Importing}
-use Rattle.pv_host_copy.specs.Firsts.{first_pair, told_pair}
+use Rattle.pv_host_copy.specs.Firsts.{first_pair, skipped_pair}
 use Rattle.pv_host_copy.specs.Gathered.{gather, left_out, nothing_gathered}
 use Rattle.pv_host_copy.specs.Hosts.{HostEntries}
 use Rattle.pv_host_copy.specs.Imported.{greatest_tree, IsTreeOf}
 use Rattle.pv_host_copy.specs.Importing.{Holds, Steps, StopsIf}
-use Rattle.pv_host_copy.specs.Lines.{told_line}
+use Rattle.pv_host_copy.specs.Lines.{skipped_line}
 use Rattle.pv_host_copy.specs.Stopped.{IsRefused, StopsCopy, refused_pair}
-use Rattle.pv_host_copy.specs.Written.{Imports, TellsPairs, TellsStop}
+use Rattle.pv_host_copy.specs.Written.{Imports, ReportsPairs, ReportsStop}
 
--- what is held at the end
+-- the state at the end
 whole : (v w : Version) (host : HostEntries) (path : Bytes) (before after : Importing) → w ≡ v → path ≡ [] → Holds (greatest_tree v) nothing_gathered before
     → Steps (gather w path host) before after → Holds (greatest_tree v) (gather v [] host nothing_gathered) after
 whole v w host path before after same none holds steps =
@@ -40,10 +40,10 @@ module _ (v w : Version) (path : Bytes) (before after : Importing) (same : w ≡
   imported-tree None t steps is = tt
   imported-tree (Some host) t steps is = (whole v w host path before after same none holds steps).tree ∙ ap Ok (sym is)
 
-  pub imported-told : (host : Option HostEntries) → IfSome host (λ entries. Steps (gather w path entries) before after)
-      → IfSome host (λ entries. map told_pair after.told.items ≡ left_out v entries)
-  imported-told None steps = tt
-  imported-told (Some host) steps = (whole v w host path before after same none holds steps).told
+  pub imported-reported : (host : Option HostEntries) → IfSome host (λ entries. Steps (gather w path entries) before after)
+      → IfSome host (λ entries. map skipped_pair after.reported.items ≡ left_out v entries)
+  imported-reported None steps = tt
+  imported-reported (Some host) steps = (whole v w host path before after same none holds steps).reported
 
   pub import-stopped : (known : Option HostEntries) (s : CopyStop) → StopsIf known (gather w path) before s → StopsCopy v known s
   import-stopped known stop.Read goes = goes
@@ -55,69 +55,69 @@ module _ (v w : Version) (path : Bytes) (before after : Importing) (same : w ≡
 
 -- ---- the image
 
--- the image of a whole tree is that of the tree
-pub tells-tree : (t : Tree) (before after : Option Bytes) → EachIsNamed t → TellsImage (named_tree t) before after → TellsImage t before after
-tells-tree t before after named image = subst (λ (u : Tree). TellsImage u before after) (named_tree-all t named) image
+-- the image of a tree whose nodes are all named is that of the tree
+pub reports-tree : (t : Tree) (before after : Option Bytes) → EachIsNamed t → WritesImage (named_tree t) before after → WritesImage t before after
+reports-tree t before after named image = subst (λ (u : Tree). WritesImage u before after) (named_tree-all t named) image
 
 pub begins-tree : (t : Tree) (before after : Option Bytes) → EachIsNamed t → BeginsImage (named_tree t) before after → BeginsImage t before after
 begins-tree t before after named image = subst (λ (u : Tree). BeginsImage u before after) (named_tree-all t named) image
 
-module _ (v : Version) (skips : Bool) (before after untold told : Option Bytes) where
+module _ (v : Version) (skips : Bool) (before after unreported reported : Option Bytes) where
   -- why a directory was not copied
-  pub imports-stop : (known : Option HostEntries) (s : CopyStop) (r : ImportStop) → StopsCopy v known s → TellsStop s untold r told → after ≡ before
-      → Imports v skips known (Err r) before after untold told
-  imports-stop known stop.Read r stops tells kept = rw tells.0 (kept, (stops, tells.1))
-  imports-stop known stop.Memory r stops tells kept = rw tells.0 (kept, inl tells.1)
-  imports-stop known (stop.Entry refused) image.Read stops tells kept = absurd tells
-  imports-stop known (stop.Entry refused) image.Memory stops tells kept = (kept, inl tells)
-  imports-stop None (stop.Entry refused) image.Refused stops tells kept = (kept, tt)
-  imports-stop (Some host) (stop.Entry refused) image.Refused stops tells kept = (kept, inr (record { refused = refused_pair refused; is_refused = stops; lines = tells }))
-  imports-stop None (stop.Entry refused) image.WriteLines stops tells kept = (kept, tt)
-  imports-stop (Some host) (stop.Entry refused) image.WriteLines stops tells kept = (kept, inr (record { refused = refused_pair refused; is_refused = stops; lines = tells }))
-  imports-stop known (stop.Entry refused) image.WriteImage stops tells kept = absurd tells
+  pub imports-stop : (known : Option HostEntries) (s : CopyStop) (r : ImportStop) → StopsCopy v known s → ReportsStop s unreported r reported → after ≡ before
+      → Imports v skips known (Err r) before after unreported reported
+  imports-stop known stop.Read r stops reports preserved = rw reports.0 (preserved, (stops, reports.1))
+  imports-stop known stop.Memory r stops reports preserved = rw reports.0 (preserved, inl reports.1)
+  imports-stop known (stop.Entry refused) image.Read stops reports preserved = absurd reports
+  imports-stop known (stop.Entry refused) image.Memory stops reports preserved = (preserved, inl reports)
+  imports-stop None (stop.Entry refused) image.Refused stops reports preserved = (preserved, tt)
+  imports-stop (Some host) (stop.Entry refused) image.Refused stops reports preserved = (preserved, inr (record { refused = refused_pair refused; is_refused = stops; lines = reports }))
+  imports-stop None (stop.Entry refused) image.WriteLines stops reports preserved = (preserved, tt)
+  imports-stop (Some host) (stop.Entry refused) image.WriteLines stops reports preserved = (preserved, inr (record { refused = refused_pair refused; is_refused = stops; lines = reports }))
+  imports-stop known (stop.Entry refused) image.WriteImage stops reports preserved = absurd reports
 
-  module _ (pairs : List (Bytes × Why)) where
+  module _ (pairs : List (Bytes × SkipReason)) where
     abbrev AreLeftOut : Option HostEntries → Type 0
     AreLeftOut known = IfSome known (λ host. pairs ≡ left_out v host)
 
-    -- why what is left out was not told, or may not be left out
-    pub imports-untold : (known : Option HostEntries) (r : ImportStop) → AreLeftOut known → TellsPairs pairs skips untold (Err r) told → after ≡ before
-        → Imports v skips known (Err r) before after untold told
-    imports-untold known image.Read are tells kept = absurd tells
-    imports-untold known image.Memory are tells kept = (kept, inl tells)
-    imports-untold None image.Refused are tells kept = (kept, tt)
-    imports-untold (Some host) image.Refused are tells kept =
-        (kept, inl (record { stays = tells.1; some = λ none. tells.2 (are ∙ none); lines = tells.0 ∙ ap (λ ps. and_all untold (flat_map told_line ps)) are }))
-    imports-untold None image.WriteLines are tells kept = (kept, tt)
-    imports-untold (Some host) image.WriteLines are tells kept = (kept, inl (subst (λ ps. TellsBeginning (flat_map told_line ps) untold told) are tells))
-    imports-untold known image.WriteImage are tells kept = absurd tells
+    -- why the skipped entries were not reported, or may not be skipped
+    pub imports-unreported : (known : Option HostEntries) (r : ImportStop) → AreLeftOut known → ReportsPairs pairs skips unreported (Err r) reported → after ≡ before
+        → Imports v skips known (Err r) before after unreported reported
+    imports-unreported known image.Read are reports preserved = absurd reports
+    imports-unreported known image.Memory are reports preserved = (preserved, inl reports)
+    imports-unreported None image.Refused are reports preserved = (preserved, tt)
+    imports-unreported (Some host) image.Refused are reports preserved =
+        (preserved, inl (record { stays = reports.1; some = λ none. reports.2 (are ∙ none); lines = reports.0 ∙ ap (λ ps. and_all unreported (flat_map skipped_line ps)) are }))
+    imports-unreported None image.WriteLines are reports preserved = (preserved, tt)
+    imports-unreported (Some host) image.WriteLines are reports preserved = (preserved, inl (subst (λ ps. WritesPrefix (flat_map skipped_line ps) unreported reported) are reports))
+    imports-unreported known image.WriteImage are reports preserved = absurd reports
 
-    pub imports-memory : (known : Option HostEntries) (done : Unit {0}) → AreLeftOut known → TellsPairs pairs skips untold (Ok done) told → after ≡ before
-        → Imports v skips known (Err image.Memory) before after untold told
-    imports-memory None done are tells kept = (kept, inr tt)
-    imports-memory (Some host) done are tells kept = (kept, inr (tells.0 ∙ ap (λ ps. and_all untold (flat_map told_line ps)) are))
+    pub imports-memory : (known : Option HostEntries) (done : Unit {0}) → AreLeftOut known → ReportsPairs pairs skips unreported (Ok done) reported → after ≡ before
+        → Imports v skips known (Err image.Memory) before after unreported reported
+    imports-memory None done are reports preserved = (preserved, inr tt)
+    imports-memory (Some host) done are reports preserved = (preserved, inr (reports.0 ∙ ap (λ ps. and_all unreported (flat_map skipped_line ps)) are))
 
-    pub imports-begun : (known : Option HostEntries) (done : Unit {0}) (t : Tree) → AreLeftOut known → TellsPairs pairs skips untold (Ok done) told
-        → IfSome known (λ host. IsTreeOf v host t) → BeginsImage t before after → Imports v skips known (Err image.WriteImage) before after untold told
-    imports-begun None done t are tells is begun = (tt, tt)
-    imports-begun (Some host) done t are tells is begun =
-        (record { tree = t; is_tree = is; image = begun.image; holds = begun.holds; written = begun.written }, tells.0 ∙ ap (λ ps. and_all untold (flat_map told_line ps)) are)
+    pub imports-begun : (known : Option HostEntries) (done : Unit {0}) (t : Tree) → AreLeftOut known → ReportsPairs pairs skips unreported (Ok done) reported
+        → IfSome known (λ host. IsTreeOf v host t) → BeginsImage t before after → Imports v skips known (Err image.WriteImage) before after unreported reported
+    imports-begun None done t are reports is begun = (tt, tt)
+    imports-begun (Some host) done t are reports is begun =
+        (record { tree = t; is_tree = is; image = begun.image; holds = begun.holds; written = begun.written }, reports.0 ∙ ap (λ ps. and_all unreported (flat_map skipped_line ps)) are)
 
-    pub imports-done : (known : Option HostEntries) (done last : Unit {0}) (t : Tree) → AreLeftOut known → TellsPairs pairs skips untold (Ok done) told
-        → IfSome known (λ host. IsTreeOf v host t) → TellsImage t before after → Imports v skips known (Ok last) before after untold told
-    imports-done None done last t are tells is image = tt
-    imports-done (Some host) done last t are tells is image = (
+    pub imports-done : (known : Option HostEntries) (done last : Unit {0}) (t : Tree) → AreLeftOut known → ReportsPairs pairs skips unreported (Ok done) reported
+        → IfSome known (λ host. IsTreeOf v host t) → WritesImage t before after → Imports v skips known (Ok last) before after unreported reported
+    imports-done None done last t are reports is image = tt
+    imports-done (Some host) done last t are reports is image = (
       record { tree = t; is_tree = is; image = image.image; holds = image.holds; written = image.written },
-      tells.0 ∙ ap (λ ps. and_all untold (flat_map told_line ps)) are,
-      λ stays. sym are ∙ tells.1 stays,
+      reports.0 ∙ ap (λ ps. and_all unreported (flat_map skipped_line ps)) are,
+      λ stays. sym are ∙ reports.1 stays,
     )
 
--- ---- the beginning
+-- ---- the start
 
 pub start-holds : (v : Version) (blocks : ℕ) (i : Importing) → i.tree.value.tree ≡ root_alone v (blocks - (inode_blocks v INODES + 1)) INODES → blocks ≡ greatest_blocks v
-    → i.firsts.items ≡ [] → i.told.items ≡ [] → Holds (greatest_tree v) nothing_gathered i
-start-holds v blocks i is greatest firsts told = record {
+    → i.firsts.items ≡ [] → i.reported.items ≡ [] → Holds (greatest_tree v) nothing_gathered i
+start-holds v blocks i is greatest firsts reported = record {
   tree = ap Ok (sym (is ∙ ap (λ b. root_alone v (b - (inode_blocks v INODES + 1)) INODES) greatest));
   firsts = ap (map first_pair) firsts;
-  told = ap (map told_pair) told;
+  reported = ap (map skipped_pair) reported;
 }

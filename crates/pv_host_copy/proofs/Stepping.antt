@@ -1,4 +1,4 @@
--- How what is imported goes on.
+-- The steps of an import.
 use Rattle.std.proofs.Common.{◌≡◌, ◌≢◌, ◌∙◌, ap, arith, ℕ, ◌+◌, ◌≤◌, ◌<◌, Bool, true, false, List, [], ◌∷◌, ◌++◌, length, Option, None, Some, Result, Ok, Err, refl, sym, subst}
 use Rattle.std.specs.Global.{Vec}
 use Rattle.std.specs.Prelude.{map, nat_le, IfSome, IsSome, IsErrAnd, if◌then◌else◌}
@@ -17,22 +17,22 @@ use Rattle.pv_host_copy.specs.declared.fault.CopyStop.{CopyStop}
 use Rattle.pv_host_copy.specs.declared.fault.CopyStop.TheVariants as stop
 use Rattle.pv_host_copy.specs.declared.fault.HostFault.{HostFault}
 use Rattle.pv_host_copy.specs.declared.fault.HostFault.TheVariants as host
-use Rattle.pv_host_copy.specs.declared.fault.Why.{Why}
-use Rattle.pv_host_copy.specs.declared.fault.Why.TheVariants.{Name, Size}
+use Rattle.pv_host_copy.specs.declared.fault.SkipReason.{SkipReason}
+use Rattle.pv_host_copy.specs.declared.fault.SkipReason.TheVariants.{Name, Size}
 use Rattle.pv_host_copy.specs.declared.first.First.{First}
 use Rattle.pv_host_copy.specs.declared.importing.Importing.{Importing}
-use Rattle.pv_host_copy.specs.declared.told.Told.{Told}
+use Rattle.pv_host_copy.specs.declared.skipped.Skipped.{Skipped}
 use Rattle.pv_host_copy.specs.Adding.{Adds, IsUnadded}
-use Rattle.pv_host_copy.specs.Firsts.{first_pair, told_pair}
-use Rattle.pv_host_copy.specs.Gathered.{Gathered, and_entry, and_told, and_first_entry, and_linked, and_file, first_of}
+use Rattle.pv_host_copy.specs.Firsts.{first_pair, skipped_pair}
+use Rattle.pv_host_copy.specs.Gathered.{Gathered, and_entry, and_skipped, and_first_entry, and_linked, and_file, first_of}
 use Rattle.pv_host_copy.specs.Importing.{Holds, Steps, Refuses, Stops, StopsIf, Goes, GoesIf, Settles}
 use Rattle.pv_host_copy.specs.Paths.{is_path}
-use Rattle.pv_host_copy.specs.Reading.{IsWhole}
+use Rattle.pv_host_copy.specs.Reading.{IsValid}
 use Rattle.pv_host_copy.specs.Stopped.{IsRefused, refused_pair, stop_of}
 
--- ---- a change that stands in another
+-- ---- a change that is a part of another
 
--- what is held now, and the rest of a change, come to the whole of it after what was held before
+-- the state now, with the rest of a change, is the whole change of the previous state
 abbrev pub Continues : (Gathered → Gathered) → Importing → (Gathered → Gathered) → Importing → Type 0
 Continues all before rest now = (start : Tree) (g : Gathered) → Holds start g before → (so_far : Gathered) × Holds start so_far now × (rest so_far ≡ all g)
 
@@ -50,7 +50,7 @@ pub goes-on : {X : Type 0} (all rest : Gathered → Gathered) (before now after 
 goes-on all rest before now after (Ok x) on goes = steps-on all rest before now after on goes
 goes-on all rest before now after (Err s) on goes = stops-on all rest before now s on goes
 
--- ---- what is known
+-- ---- known contents
 
 pub steps-if : {A : Type 0} (known : Option A) (change : A → Gathered → Gathered) (before after : Importing) → ((a : A) → known ≡ Some a → Steps (change a) before after)
     → IfSome known (λ a. Steps (change a) before after)
@@ -82,7 +82,7 @@ pub goes-known : {A X : Type 0} (known : Option A) (a : A) (change : A → Gathe
 goes-known known a change before (Ok x) after is goes = subst (λ o. IfSome o (λ b. Steps (change b) before after)) is goes
 goes-known known a change before (Err s) after is goes = stops-known known a change before s is goes
 
--- what stopped is answered as it is
+-- an error is passed on
 pub goes-residual : {X : Type 0} (change : Gathered → Gathered) (before : Importing) (r : Result X CopyStop) (after : Importing) (s : CopyStop) → IsErrAnd r (λ given. given ≡ s)
     → Stops change before s → Goes change before r after
 goes-residual change before (Ok x) after s is stops = absurd is
@@ -93,7 +93,7 @@ pub goes_if-residual : {A X : Type 0} (known : Option A) (change : A → Gathere
 goes_if-residual known change before (Ok x) after s is stops = absurd is
 goes_if-residual known change before (Err given) after s is stops = subst (StopsIf known change before) (sym is) stops
 
--- what is not known, since it can't be
+-- contents that cannot be known are unknown
 pub unknown : {A : Type 0} (known : Option A) → (IsSome known → ⊥) → known ≡ None
 unknown None never = refl
 unknown (Some a) never = absurd (never refl)
@@ -111,16 +111,16 @@ and_last (x ∷ es) e t u v is last = by (add_entry x.0 t x.1) is (λ next. and_
     by (Err fault) is h = cc
     by (Ok next) is h = h next is last
 
--- an entry more
+-- one more entry
 pub entry-steps : (before after : Importing) (e : Entry) (t : Tree) → t ≡ before.tree.value.tree → ((line : ℕ) → add_entry line t e ≡ Ok after.tree.value.tree)
-    → after.firsts.items ≡ before.firsts.items → after.told.items ≡ before.told.items → Steps (and_entry e) before after
-entry-steps before after e t is adds firsts told = λ start g h. record {
+    → after.firsts.items ≡ before.firsts.items → after.reported.items ≡ before.reported.items → Steps (and_entry e) before after
+entry-steps before after e t is adds firsts reported = λ start g h. record {
   tree = and_last g.entries (length g.entries + 1, e) start t after.tree.value.tree (h.tree ∙ ap (λ u. Ok u) (sym is)) (adds (length g.entries + 1));
   firsts = ap (map first_pair) firsts ∙ h.firsts;
-  told = ap (map told_pair) told ∙ h.told;
+  reported = ap (map skipped_pair) reported ∙ h.reported;
 }
 
--- one that could not be added
+-- an entry that cannot be added
 pub entry-stops : (before : Importing) (e : Entry) (path : Bytes) (t : Tree) (s : CopyStop) → t ≡ before.tree.value.tree → path_of e ≡ path → IsUnadded e path t s
     → Stops (and_entry e) before s
 entry-stops before e path t stop.Read is at adds = adds
@@ -130,7 +130,7 @@ entry-stops before e path t (stop.Entry refused) is at adds = λ start g h. reco
   line = length g.entries + 1;
   entry = e;
   later = [];
-  stands = refl;
+  appears = refl;
   so_far = t;
   added = h.tree ∙ ap (λ u. Ok u) (sym is);
   is_fault = adds.1 (length g.entries + 1);
@@ -138,44 +138,44 @@ entry-stops before e path t (stop.Entry refused) is at adds = λ start g h. reco
 }
 
 pub entry-goes : {X : Type 0} (before after : Importing) (e : Entry) (path : Bytes) (t : Tree) (r : Result X CopyStop) → t ≡ before.tree.value.tree → path_of e ≡ path
-    → Adds e path t r after.tree.value.tree → after.firsts.items ≡ before.firsts.items → after.told.items ≡ before.told.items → Goes (and_entry e) before r after
-entry-goes before after e path t (Ok x) is at adds firsts told = entry-steps before after e t is adds firsts told
-entry-goes before after e path t (Err s) is at adds firsts told = entry-stops before e path t s is at adds
+    → Adds e path t r after.tree.value.tree → after.firsts.items ≡ before.firsts.items → after.reported.items ≡ before.reported.items → Goes (and_entry e) before r after
+entry-goes before after e path t (Ok x) is at adds firsts reported = entry-steps before after e t is adds firsts reported
+entry-goes before after e path t (Err s) is at adds firsts reported = entry-stops before e path t s is at adds
 
--- a path more that is left out
-pub told-steps : (before after : Importing) (path : Bytes) (why : Why) (t : Told) → after.tree.value ≡ before.tree.value → after.firsts.items ≡ before.firsts.items
-    → after.told.items ≡ before.told.items ++ t ∷ [] → told_pair t ≡ (path, why) → Steps (and_told path why) before after
-told-steps before after path why t tree firsts told is = λ start g h. record {
+-- one more skipped path
+pub reported-steps : (before after : Importing) (path : Bytes) (why : SkipReason) (t : Skipped) → after.tree.value ≡ before.tree.value → after.firsts.items ≡ before.firsts.items
+    → after.reported.items ≡ before.reported.items ++ t ∷ [] → skipped_pair t ≡ (path, why) → Steps (and_skipped path why) before after
+reported-steps before after path why t tree firsts reported is = λ start g h. record {
   tree = h.tree ∙ ap (λ (u : HeldTree). Ok u.tree) (sym tree);
   firsts = ap (map first_pair) firsts ∙ h.firsts;
-  told = ap (map told_pair) told ∙ map_push told_pair before.told.items t ∙ ap (λ ts. ts ++ told_pair t ∷ []) h.told ∙ ap (λ p. g.told ++ p ∷ []) is;
+  reported = ap (map skipped_pair) reported ∙ map_push skipped_pair before.reported.items t ∙ ap (λ ts. ts ++ skipped_pair t ∷ []) h.reported ∙ ap (λ p. g.reported ++ p ∷ []) is;
 }
 
--- an entry that was added is under a first path
+-- an entry that was added, with its first path
 pub first-steps : (before mid after : Importing) (path : Bytes) (identity : Identity) (e : Entry) (f : First) → Steps (and_entry e) before mid → after.tree.value ≡ mid.tree.value
-    → after.firsts.items ≡ mid.firsts.items ++ f ∷ [] → first_pair f ≡ (identity, path) → after.told.items ≡ mid.told.items → Steps (and_first_entry path identity e) before after
-first-steps before mid after path identity e f added tree firsts is told = λ start g h.
+    → after.firsts.items ≡ mid.firsts.items ++ f ∷ [] → first_pair f ≡ (identity, path) → after.reported.items ≡ mid.reported.items → Steps (and_first_entry path identity e) before after
+first-steps before mid after path identity e f added tree firsts is reported = λ start g h.
     let m = added start g h in
     record {
       tree = m.tree ∙ ap (λ (u : HeldTree). Ok u.tree) (sym tree);
       firsts = ap (map first_pair) firsts ∙ map_push first_pair mid.firsts.items f ∙ ap (λ fs. fs ++ first_pair f ∷ []) m.firsts ∙ ap (λ p. g.firsts ++ p ∷ []) is;
-      told = ap (map told_pair) told ∙ m.told;
+      reported = ap (map skipped_pair) reported ∙ m.reported;
     }
 
--- one that could not be added
+-- an entry that cannot be added, with its first path
 pub first-stops : (before : Importing) (path : Bytes) (identity : Identity) (e : Entry) (s : CopyStop) → Stops (and_entry e) before s → Stops (and_first_entry path identity e) before s
 first-stops before path identity e stop.Read stops = stops
 first-stops before path identity e stop.Memory stops = tt
 first-stops before path identity e (stop.Entry refused) stops = stops
 
--- ---- files and links
+-- ---- files and symbolic links
 
 module _ (before : Importing) (path : Bytes) (identity : Identity) where
-  pub settled-unnamed : (after : Importing) → is_path before.version path ≡ false → Steps (and_told path Name) before after → Settles path identity before (Ok true) after
+  pub settled-unnamed : (after : Importing) → is_path before.version path ≡ false → Steps (and_skipped path Name) before after → Settles path identity before (Ok true) after
   settled-unnamed after unnamed steps = λ node has_place why start g h. rw unnamed (steps start g h)
 
   module _ (first : Bytes) (named : is_path before.version path ≡ true) (found : first_of identity (map first_pair before.firsts.items) ≡ Some first) where
-    further : (node : Node) (has_place : Bool) (why : Why)
+    further : (node : Node) (has_place : Bool) (why : SkipReason)
         → Continues (and_linked before.version path identity node has_place why) before (and_entry (further_name path first)) before
     further node has_place why = λ start g h.
         let there : first_of identity g.firsts ≡ Some first = ap (first_of identity) (sym h.firsts) ∙ found in
@@ -186,22 +186,22 @@ module _ (before : Importing) (path : Bytes) (identity : Identity) where
         steps-on (and_linked before.version path identity node has_place why) (and_entry (further_name path first)) before before after (further node has_place why) steps
 
     pub settled-stops : (s : CopyStop) → Stops (and_entry (further_name path first)) before s
-        → (node : Node) (has_place : Bool) (why : Why) → Stops (and_linked before.version path identity node has_place why) before s
+        → (node : Node) (has_place : Bool) (why : SkipReason) → Stops (and_linked before.version path identity node has_place why) before s
     settled-stops s stops = λ node has_place why.
         stops-on (and_linked before.version path identity node has_place why) (and_entry (further_name path first)) before before s (further node has_place why) stops
 
 module _ (v : Version) (before now : Importing) (path : Bytes) (identity : Identity) (same : v ≡ before.version) (settled : Settles path identity before (Ok false) now) where
-  -- a new one that has a place
-  pub new-placed : (node : Node) (has_place : Bool) (why : Why) → has_place ≡ true
+  -- a new one that the image can contain
+  pub new-placed : (node : Node) (has_place : Bool) (why : SkipReason) → has_place ≡ true
       → Continues (and_linked v path identity node has_place why) before (and_first_entry path identity (make path node)) now
   new-placed node has_place why has = λ start g h.
       let named : is_path v path ≡ true = ap (λ w. is_path w path) same ∙ settled.0 in
       let none : first_of identity g.firsts ≡ None = ap (first_of identity) (sym h.firsts) ∙ settled.1 in
       (g, subst (Holds start g) (sym settled.2) h, rw (named, none, has) refl)
 
-  -- a new one that has none
-  pub new-told : (node : Node) (has_place : Bool) (why : Why) → has_place ≡ false → Continues (and_linked v path identity node has_place why) before (and_told path why) now
-  new-told node has_place why hasnt = λ start g h.
+  -- a new one that the image cannot contain
+  pub new-reported : (node : Node) (has_place : Bool) (why : SkipReason) → has_place ≡ false → Continues (and_linked v path identity node has_place why) before (and_skipped path why) now
+  new-reported node has_place why hasnt = λ start g h.
       let named : is_path v path ≡ true = ap (λ w. is_path w path) same ∙ settled.0 in
       let none : first_of identity g.firsts ≡ None = ap (first_of identity) (sym h.firsts) ∙ settled.1 in
       (g, subst (Holds start g) (sym settled.2) h, rw (named, none, hasnt) refl)
@@ -216,41 +216,41 @@ not_le a b above = by (nat_le a b) refl
     by false is = refl
 
 module _ (v : Version) (before now : Importing) (path : Bytes) (identity : Identity) (executable : Bool) (known : Option Bytes) (same : v ≡ before.version) where
-  -- one that was settled, whatever its bytes
+  -- a file that was handled, whatever its bytes
   pub file-settled : (after : Importing) → Settles path identity before (Ok true) after → IfSome known (λ bytes. Steps (and_file v path identity executable bytes) before after)
   file-settled after settled = steps-if known (and_file v path identity executable) before after (λ bytes is.
       subst (λ w. Steps (and_linked w path identity (file_node executable bytes) (nat_le (length bytes) (greatest_length v)) Size) before after) (sym same)
       (settled (file_node executable bytes) (nat_le (length bytes) (greatest_length v)) Size))
 
-  -- one that stopped before its bytes were looked at
-  pub file-stops : (s : CopyStop) → ((node : Node) (has_place : Bool) (why : Why) → Stops (and_linked before.version path identity node has_place why) before s)
+  -- a file that stopped the import before its bytes were read
+  pub file-stops : (s : CopyStop) → ((node : Node) (has_place : Bool) (why : SkipReason) → Stops (and_linked before.version path identity node has_place why) before s)
       → StopsIf known (and_file v path identity executable) before s
   file-stops s settles = stops-if known (and_file v path identity executable) before s (λ bytes is.
       subst (λ w. Stops (and_linked w path identity (file_node executable bytes) (nat_le (length bytes) (greatest_length v)) Size) before s) (sym same)
       (settles (file_node executable bytes) (nat_le (length bytes) (greatest_length v)) Size))
 
-  -- one that could not be read
+  -- a file that cannot be read
   pub file-unread : {Y : Type 0} (fault : HostFault) (read : Result Y HostFault) → read ≡ Err fault → (IsSome known → read ≢ Err host.Read)
       → StopsIf known (and_file v path identity executable) before (stop_of fault)
   file-unread host.Memory read is never = tt
   file-unread host.Read read is never = unknown known (λ some. never some is)
 
   module _ (settled : Settles path identity before (Ok false) now) (limit : ℕ) (is_limit : limit ≡ greatest_length v) where
-    -- one that is too long
-    pub file-told : (after : Importing) → IfSome known (λ all. IsWhole limit all None) → Steps (and_told path Size) now after
+    -- a file that is too long
+    pub file-reported : (after : Importing) → IfSome known (λ all. IsValid limit all None) → Steps (and_skipped path Size) now after
         → IfSome known (λ bytes. Steps (and_file v path identity executable bytes) before after)
-    file-told after read steps = steps-if known (and_file v path identity executable) before after (λ all is.
-        let over : limit < length all = subst (λ o. IfSome o (λ all. IsWhole limit all None)) is read in
+    file-reported after read steps = steps-if known (and_file v path identity executable) before after (λ all is.
+        let over : limit < length all = subst (λ o. IfSome o (λ all. IsValid limit all None)) is read in
         let long : greatest_length v < length all = subst (λ n. n < length all) is_limit over in
-        steps-on (and_file v path identity executable all) (and_told path Size) before now after
-        (new-told v before now path identity same settled (file_node executable all) (nat_le (length all) (greatest_length v)) Size (not_le (length all) (greatest_length v) long)) steps)
+        steps-on (and_file v path identity executable all) (and_skipped path Size) before now after
+        (new-reported v before now path identity same settled (file_node executable all) (nat_le (length all) (greatest_length v)) Size (not_le (length all) (greatest_length v) long)) steps)
 
-    -- one that has a place
+    -- a file that the image can contain
     pub file-placed : {X : Type 0} (after : Importing) (r : Result X CopyStop) (bytes : Vec ℕ) (content : Bytes) → content ≡ bytes.items
-        → IfSome known (λ all. IsWhole limit all (Some bytes))
+        → IfSome known (λ all. IsValid limit all (Some bytes))
         → Goes (and_first_entry path identity (make path (file_node executable content))) now r after → GoesIf known (and_file v path identity executable) before r after
     file-placed after r bytes content lent read goes = goes-if known (and_file v path identity executable) before r after (λ all is.
-        let whole : (bytes.items ≡ all) × (length all ≤ limit) = subst (λ o. IfSome o (λ all. IsWhole limit all (Some bytes))) is read in
+        let whole : (bytes.items ≡ all) × (length all ≤ limit) = subst (λ o. IfSome o (λ all. IsValid limit all (Some bytes))) is read in
         let short : length all ≤ greatest_length v = subst (λ n. length all ≤ n) is_limit whole.1 in
         goes-on (and_file v path identity executable all) (and_first_entry path identity (make path (file_node executable all))) before now after r
         (new-placed v before now path identity same settled (file_node executable all) (nat_le (length all) (greatest_length v)) Size (le-leb (length all) (greatest_length v) short))
@@ -258,7 +258,7 @@ module _ (v : Version) (before now : Importing) (path : Bytes) (identity : Ident
 
 -- ---- directories
 
--- one that could not be added
+-- a directory that cannot be added
 pub keeps-stops : (before : Importing) (path : Bytes) (s : CopyStop) → is_path before.version path ≡ true → Stops (and_entry (make path (directory_node []))) before s
     → Stops (λ g. if is_path before.version path then and_entry (make path (directory_node [])) g else g) before s
 keeps-stops before path s named stops = rw named stops

@@ -1,11 +1,11 @@
--- The first paths of files and links.
+-- The first paths of files and symbolic links.
 use Rattle.std.specs.Prelude.{Bool}
 use Rattle.pv_model.specs.declared.version.Version.{Version}
 use Rattle.pv_model.specs.Bytes.{Bytes}
 use Rattle.pv_host_copy.specs.declared.entry.Identity.{Identity}
 use Rattle.pv_host_copy.specs.declared.first.First.{First}
-use Rattle.pv_host_copy.specs.declared.told.Told.{Told}
-use Rattle.pv_host_copy.specs.declared.fault.Why.{Why}
+use Rattle.pv_host_copy.specs.declared.skipped.Skipped.{Skipped}
+use Rattle.pv_host_copy.specs.declared.fault.SkipReason.{SkipReason}
 use Rattle.pv_host_copy.specs.Paths.{is_path}
 
 abbrev pub first_pair : First → Identity × Bytes
@@ -15,5 +15,5 @@ first_pair first = (first.identity, first.path.items)
 abbrev pub has_path : Version → First → Bool
 has_path v first = is_path v first.path.items
 
-abbrev pub told_pair : Told → Bytes × Why
-told_pair told = (told.path.items, told.why)
+abbrev pub skipped_pair : Skipped → Bytes × SkipReason
+skipped_pair reported = (reported.path.items, reported.why)

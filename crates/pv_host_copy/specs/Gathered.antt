@@ -1,5 +1,5 @@
--- The manifest of a host's directory: its entries, in the order of the names, each directory before what is in it. What has
--- no place in an image is left out, and told.
+-- The manifest of a host directory: its entries in the order of their names, each directory before its entries. Entries
+-- that an image cannot contain are skipped and reported.
 use Rattle.std.specs.Prelude.{ℕ, ◌+◌, Bool, List, [], ◌∷◌, ◌++◌, length, if◌then◌else◌, nat_le, Option, None, Some}
 use Rattle.pv_model.specs.declared.version.Version.{Version}
 use Rattle.pv_model.specs.Bytes.{Bytes}
@@ -7,47 +7,48 @@ use Rattle.pv_model.specs.Manifest.{Entry, make, further_name}
 use Rattle.pv_model.specs.Room.{greatest_length}
 use Rattle.pv_model.specs.Tree.{Node, directory_node, file_node, link_node, is_link_text}
 use Rattle.pv_host_copy.specs.declared.entry.Identity.{Identity}
-use Rattle.pv_host_copy.specs.declared.fault.Why.{Why}
-use Rattle.pv_host_copy.specs.declared.fault.Why.TheVariants.{Name, Size, Text, Kind}
+use Rattle.pv_host_copy.specs.declared.fault.SkipReason.{SkipReason}
+use Rattle.pv_host_copy.specs.declared.fault.SkipReason.TheVariants.{Name, Size, Text, Kind}
 use Rattle.pv_host_copy.specs.Hosts.{HostEntries, no_more, a_directory, a_file, a_link, an_other, is_same}
 use Rattle.pv_host_copy.specs.Paths.{is_path, below}
 
--- the entries so far, counted from 1, the first path of each file and link among them, and what was left out
+-- the entries so far, numbered from 1, the first path of each file and symbolic link among them, and the skipped paths
 pub record Gathered : Type 0 where
   pub entries : List (ℕ × Entry)
   pub firsts : List (Identity × Bytes)
-  pub told : List (Bytes × Why)
+  pub reported : List (Bytes × SkipReason)
 
 abbrev pub nothing_gathered : Gathered
-nothing_gathered = record { entries = []; firsts = []; told = [] }
+nothing_gathered = record { entries = []; firsts = []; reported = [] }
 
--- with one entry more
+-- with one more entry
 abbrev pub and_entry : Entry → Gathered → Gathered
 and_entry entry g = record g { entries = g.entries ++ (length g.entries + 1, entry) ∷ [] }
 
--- with one path more that is left out
-abbrev pub and_told : Bytes → Why → Gathered → Gathered
-and_told path why g = record g { told = g.told ++ (path, why) ∷ [] }
+-- with one more skipped path
+abbrev pub and_skipped : Bytes → SkipReason → Gathered → Gathered
+and_skipped path why g = record g { reported = g.reported ++ (path, why) ∷ [] }
 
--- with the entry of a file or link under its first path
+-- with the entry of a file or symbolic link at its first path
 abbrev pub and_first_entry : Bytes → Identity → Entry → Gathered → Gathered
 and_first_entry path identity entry g = record (and_entry entry g) { firsts = g.firsts ++ (identity, path) ∷ [] }
 
--- the first path of a file or link, if one was gathered
+-- the first path of a file or symbolic link, if there is one
 abbrev pub first_of : Identity → List (Identity × Bytes) → Option Bytes
 first_of identity [] = None
 first_of identity (first ∷ firsts) = if is_same first.0 identity then Some first.1 else first_of identity firsts
 
--- a file or link that was gathered under another path has a further name here; else it is made, or told where it has no place
-abbrev pub and_node : Bytes → Identity → Node → Bool → Why → Gathered → Option Bytes → Gathered
+-- a file or symbolic link with another path gets this name too; otherwise it is created, or skipped if an image cannot
+-- contain it
+abbrev pub and_node : Bytes → Identity → Node → Bool → SkipReason → Gathered → Option Bytes → Gathered
 and_node path identity node has_place why g (Some first) = and_entry (further_name path first) g
-and_node path identity node has_place why g None = if has_place then and_first_entry path identity (make path node) g else and_told path why g
+and_node path identity node has_place why g None = if has_place then and_first_entry path identity (make path node) g else and_skipped path why g
 
 module _ (v : Version) where
-  -- with a file or link under a path, if it is one
-  abbrev pub and_linked : Bytes → Identity → Node → Bool → Why → Gathered → Gathered
+  -- with a file or symbolic link at a path, if the path is valid
+  abbrev pub and_linked : Bytes → Identity → Node → Bool → SkipReason → Gathered → Gathered
   and_linked path identity node has_place why g =
-      if is_path v path then and_node path identity node has_place why g (first_of identity g.firsts) else and_told path Name g
+      if is_path v path then and_node path identity node has_place why g (first_of identity g.firsts) else and_skipped path Name g
 
   abbrev pub and_file : Bytes → Identity → Bool → Bytes → Gathered → Gathered
   and_file path identity executable bytes g =
@@ -56,22 +57,22 @@ module _ (v : Version) where
   abbrev pub and_link : Bytes → Identity → Bytes → Gathered → Gathered
   and_link path identity text g = and_linked path identity (link_node text) (is_link_text text) Text g
 
-  -- a directory, and then what is in it
+  -- a directory, and then its entries
   abbrev pub and_directory : Bytes → (Gathered → Gathered) → Gathered → Gathered
-  and_directory path inside g = if is_path v path then inside (and_entry (make path (directory_node [])) g) else and_told path Name g
+  and_directory path inside g = if is_path v path then inside (and_entry (make path (directory_node [])) g) else and_skipped path Name g
 
-  -- with what a directory under a path has
+  -- with the entries of the directory at a path
   abbrev pub gather : Bytes → HostEntries → Gathered → Gathered
   gather path no_more g = g
   gather path (a_directory name inside rest) g = gather path rest (and_directory (below path name) (gather (below path name) inside) g)
   gather path (a_file name identity executable bytes rest) g = gather path rest (and_file (below path name) identity executable bytes g)
   gather path (a_link name identity text rest) g = gather path rest (and_link (below path name) identity text g)
-  gather path (an_other name rest) g = gather path rest (and_told (below path name) Kind g)
+  gather path (an_other name rest) g = gather path rest (and_skipped (below path name) Kind g)
 
-  -- the entries of a host's directory
+  -- the entries of a host directory
   abbrev pub entries_of : HostEntries → List (ℕ × Entry)
   entries_of host = (gather [] host nothing_gathered).entries
 
-  -- what is left out of it
-  abbrev pub left_out : HostEntries → List (Bytes × Why)
-  left_out host = (gather [] host nothing_gathered).told
+  -- the skipped paths of a host directory
+  abbrev pub left_out : HostEntries → List (Bytes × SkipReason)
+  left_out host = (gather [] host nothing_gathered).reported

@@ -1,4 +1,4 @@
--- What a host's directory has: its names in the order of their bytes, with what stands under each.
+-- Host directories: names in byte order, with the object that each refers to.
 use Rattle.std.specs.Prelude.{Bool, ◌&&◌, ◌==◌}
 use Rattle.pv_model.specs.Bytes.{Bytes}
 use Rattle.pv_host_copy.specs.declared.entry.Identity.{Identity}
@@ -11,6 +11,6 @@ pub data HostEntries : Type 0 where
   a_link : (name : Bytes) (identity : Identity) (text : Bytes) (rest : HostEntries) → HostEntries
   an_other : (name : Bytes) (rest : HostEntries) → HostEntries
 
--- whether two names are of one file or link
+-- whether two names refer to one file or symbolic link
 abbrev pub is_same : Identity → Identity → Bool
 is_same a b = (a.device == b.device) && (a.inode == b.inode)

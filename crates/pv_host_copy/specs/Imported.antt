@@ -1,4 +1,4 @@
--- The tree of a host's directory.
+-- The tree of a host directory.
 use Rattle.std.specs.Prelude.{◌≡◌, ◌+◌, ◌-◌, Ok}
 use Rattle.pv_model.specs.declared.limits.TheConstants.{INODES}
 use Rattle.pv_model.specs.declared.version.Version.{Version}
@@ -9,10 +9,10 @@ use Rattle.pv_tree.specs.Changes.{root_alone}
 use Rattle.pv_host_copy.specs.Gathered.{entries_of}
 use Rattle.pv_host_copy.specs.Hosts.{HostEntries}
 
--- the root alone, in an image of the greatest size of a version
+-- a tree with only a root, in an image of the maximum size of a version
 abbrev pub greatest_tree : Version → Tree
 greatest_tree v = root_alone v (greatest_blocks v - (inode_blocks v INODES + 1)) INODES
 
--- a tree is that of the manifest of a host's directory
+-- a tree is that of the manifest of a host directory
 abbrev pub IsTreeOf : Version → HostEntries → Tree → Type 0
 IsTreeOf v host t = add_entries (entries_of v host) (greatest_tree v) ≡ Ok t

@@ -1,4 +1,4 @@
--- What is imported so far, and how it goes on.
+-- The state of an import, and its steps.
 use Rattle.std.specs.Prelude.{◌≡◌, ⊤, if◌then◌else◌, Bool, true, false, [], map, Option, None, Result, Ok, Err, IfSome}
 use Rattle.pv_model.specs.Bytes.{Bytes}
 use Rattle.pv_model.specs.Grammar.Manifests.{add_entries}
@@ -8,29 +8,30 @@ use Rattle.pv_host_copy.specs.declared.entry.Identity.{Identity}
 use Rattle.pv_host_copy.specs.declared.fault.CopyStop.{CopyStop}
 use Rattle.pv_host_copy.specs.declared.fault.CopyStop.TheVariants as stop
 use Rattle.pv_host_copy.specs.declared.fault.EntryFault.{EntryFault}
-use Rattle.pv_host_copy.specs.declared.fault.Why.{Why}
-use Rattle.pv_host_copy.specs.declared.fault.Why.TheVariants.{Name}
+use Rattle.pv_host_copy.specs.declared.fault.SkipReason.{SkipReason}
+use Rattle.pv_host_copy.specs.declared.fault.SkipReason.TheVariants.{Name}
 use Rattle.pv_host_copy.specs.declared.importing.Importing.{Importing}
-use Rattle.pv_host_copy.specs.Firsts.{first_pair, told_pair}
-use Rattle.pv_host_copy.specs.Gathered.{Gathered, and_entry, and_linked, and_told, first_of}
+use Rattle.pv_host_copy.specs.Firsts.{first_pair, skipped_pair}
+use Rattle.pv_host_copy.specs.Gathered.{Gathered, and_entry, and_linked, and_skipped, first_of}
 use Rattle.pv_host_copy.specs.Paths.{is_path}
 use Rattle.pv_host_copy.specs.Stopped.{IsRefused, refused_pair}
 
--- the tree is that of the entries gathered, from a tree on, and the first paths and what was left out are those gathered
+-- the tree is that of the gathered entries, added to a start tree; the first paths and the skipped paths are those
+-- gathered
 pub record Holds (start : Tree) (g : Gathered) (i : Importing) : Type 0 where
   pub tree : add_entries g.entries start ≡ Ok i.tree.value.tree
   pub firsts : map first_pair i.firsts.items ≡ g.firsts
-  pub told : map told_pair i.told.items ≡ g.told
+  pub reported : map skipped_pair i.reported.items ≡ g.reported
 
--- what is held after a step is what was held before, and a change
+-- a step applies a change to the state
 abbrev pub Steps : (Gathered → Gathered) → Importing → Importing → Type 0
 Steps change before after = (start : Tree) (g : Gathered) → Holds start g before → Holds start (change g) after
 
--- an entry of that change could not be added
+-- an entry of that change cannot be added
 abbrev pub Refuses : (Gathered → Gathered) → Importing → Bytes × EntryFault → Type 0
 Refuses change before refused = (start : Tree) (g : Gathered) → Holds start g before → IsRefused (change g).entries start refused
 
--- why a change stopped for which nothing is to be read of a host
+-- the error of a change that reads nothing from the host
 abbrev pub Stops : (Gathered → Gathered) → Importing → CopyStop → Type 0
 Stops change before (stop.Entry refused) = Refuses change before (refused_pair refused)
 Stops change before stop.Memory = ⊤
@@ -41,28 +42,29 @@ abbrev pub Goes : {X : Type 0} → (Gathered → Gathered) → Importing → Res
 Goes change before (Ok done) after = Steps change before after
 Goes change before (Err s) after = Stops change before s
 
--- why a change by what a host has stopped: where that is known, it can be read
+-- the error of a change that reads from the host; if the contents of the host are known, reading them does not fail
 abbrev pub StopsIf : {A : Type 0} → Option A → (A → Gathered → Gathered) → Importing → CopyStop → Type 0
 StopsIf known change before (stop.Entry refused) = IfSome known (λ a. Refuses (change a) before (refused_pair refused))
 StopsIf known change before stop.Memory = ⊤
 StopsIf known change before stop.Read = known ≡ None
 
--- such a change was made, where it is known, or stopped
+-- such a change was made, if it is known, or stopped
 abbrev pub GoesIf : {A X : Type 0} → Option A → (A → Gathered → Gathered) → Importing → Result X CopyStop → Importing → Type 0
 GoesIf known change before (Ok done) after = IfSome known (λ a. Steps (change a) before after)
 GoesIf known change before (Err s) after = StopsIf known change before s
 
--- a file or link is settled before its content is looked at, whatever that is; or it is new, under a path, and nothing has changed
+-- a file or symbolic link is handled before its contents are read, whatever they are; or it is new and has a valid
+-- path, and nothing changed
 abbrev pub Settles : Bytes → Identity → Importing → Result Bool CopyStop → Importing → Type 0
 Settles path identity before (Ok true) after =
-    (node : Node) (has_place : Bool) (why : Why) → Steps (and_linked before.version path identity node has_place why) before after
+    (node : Node) (has_place : Bool) (why : SkipReason) → Steps (and_linked before.version path identity node has_place why) before after
 Settles path identity before (Ok false) after =
     (is_path before.version path ≡ true) × (first_of identity (map first_pair before.firsts.items) ≡ None) × (after ≡ before)
 Settles path identity before (Err s) after =
-    (node : Node) (has_place : Bool) (why : Why) → Stops (and_linked before.version path identity node has_place why) before s
+    (node : Node) (has_place : Bool) (why : SkipReason) → Stops (and_linked before.version path identity node has_place why) before s
 
--- a directory is kept, or left out
+-- a directory is added, or skipped
 abbrev pub Keeps : Bytes → Importing → Result Bool CopyStop → Importing → Type 0
 Keeps path before (Ok true) after = (is_path before.version path ≡ true) × Steps (and_entry (make path (directory_node []))) before after
-Keeps path before (Ok false) after = (is_path before.version path ≡ false) × Steps (and_told path Name) before after
+Keeps path before (Ok false) after = (is_path before.version path ≡ false) × Steps (and_skipped path Name) before after
 Keeps path before (Err s) after = Stops (λ g. if is_path before.version path then and_entry (make path (directory_node [])) g else g) before s

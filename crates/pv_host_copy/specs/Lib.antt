@@ -9,9 +9,9 @@ pub mod Importing
 pub mod Lines
 pub mod Paths
 pub mod Reading
-pub mod Spelled
+pub mod Encoded
 pub mod Stopped
-pub mod Telling
+pub mod Reporting
 pub mod Unpacked
 pub mod Walking
 pub mod Written

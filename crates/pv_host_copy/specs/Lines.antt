@@ -1,43 +1,43 @@
--- The lines that tell what is left out, what could not be added, and what was not made.
+-- The lines that report skipped entries, entries that could not be added, and nodes that were not created.
 use Rattle.std.specs.Prelude.{◌++◌, codes}
 use Rattle.pv_model.specs.Bytes.{Bytes}
 use Rattle.pv_model.specs.Listing.{listed_path}
 use Rattle.pv_model.specs.Trace.{quote}
 use Rattle.pv_host_copy.specs.declared.fault.EntryFault.{EntryFault}
 use Rattle.pv_host_copy.specs.declared.fault.EntryFault.TheVariants.{Parent, Exists, Source, Room}
-use Rattle.pv_host_copy.specs.declared.fault.Why.{Why}
-use Rattle.pv_host_copy.specs.declared.fault.Why.TheVariants.{Name, Size, Text, Kind}
+use Rattle.pv_host_copy.specs.declared.fault.SkipReason.{SkipReason}
+use Rattle.pv_host_copy.specs.declared.fault.SkipReason.TheVariants.{Name, Size, Text, Kind}
 
--- how a line ends: why a path is left out, in a word
-abbrev pub ending : Why → Bytes
+-- the end of a line: the reason for skipping a path, in a word
+abbrev pub ending : SkipReason → Bytes
 ending Name = codes ": name\n"
 ending Size = codes ": size\n"
 ending Text = codes ": text\n"
 ending Kind = codes ": kind\n"
 
--- and why it could not be added
+-- the end of a line: why a path could not be added
 abbrev pub refused_ending : EntryFault → Bytes
 refused_ending Parent = codes ": parent\n"
 refused_ending Exists = codes ": exists\n"
 refused_ending Source = codes ": source\n"
 refused_ending Room = codes ": room\n"
 
--- the line of a path up to why it is told
+-- the start of the line of a path
 abbrev pub line_front : Bytes → Bytes
 line_front path = codes "pvsim: import: " ++ quote (listed_path path)
 
--- and whole
+-- the whole line
 abbrev pub path_line : Bytes → Bytes → Bytes
 path_line path end = line_front path ++ end
 
--- the line of a path that is left out
-abbrev pub told_line : Bytes × Why → Bytes
-told_line (path, why) = path_line path (ending why)
+-- the line of a skipped path
+abbrev pub skipped_line : Bytes × SkipReason → Bytes
+skipped_line (path, why) = path_line path (ending why)
 
--- that of a path that could not be added
+-- the line of a path that could not be added
 abbrev pub refused_line : Bytes × EntryFault → Bytes
 refused_line (path, fault) = path_line path (refused_ending fault)
 
--- that of a path under which something was not made
+-- the line of a path whose node was not created
 abbrev pub unmade_line : Bytes → Bytes
 unmade_line path = codes "pvsim: export: " ++ quote (listed_path path) ++ codes ": write\n"

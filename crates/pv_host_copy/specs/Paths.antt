@@ -1,4 +1,4 @@
--- Paths of entries, in an image of either version.
+-- The paths of entries, in an image of either version.
 use Rattle.std.specs.Prelude.{Bool, false, ◌&&◌, ◌==◌, [], ◌∷◌, ◌++◌}
 use Rattle.std.specs.List.{list_all}
 use Rattle.pv_model.specs.declared.version.Version.{Version}
@@ -6,11 +6,11 @@ use Rattle.pv_model.specs.Bytes.{Bytes}
 use Rattle.pv_model.specs.Tree.{is_name}
 use Rattle.pv_model.specs.Walk.{split_slashes}
 
--- a slash, and one or more names joined by single slashes
+-- a slash followed by one or more names that are separated by single slashes
 abbrev pub is_path : Version → Bytes → Bool
 is_path v [] = false
 is_path v (b ∷ bs) = (b == 47) && list_all (is_name v) (split_slashes bs)
 
--- the path of a name in a directory; the root's own path is empty
+-- the path of a name in a directory; the path of the root is empty
 abbrev pub below : Bytes → Bytes → Bytes
 below path name = path ++ 47 ∷ name

@@ -1,9 +1,9 @@
--- What is read of a file, up to a greatest length.
+-- Reading a file up to a maximum length.
 use Rattle.std.specs.Prelude.{◌≡◌, ℕ, ◌<◌, ◌≤◌, length, Option, None, Some}
 use Rattle.std.specs.Global.{Vec}
 use Rattle.pv_model.specs.Bytes.{Bytes}
 
--- all bytes, or nothing of more than so many
-abbrev pub IsWhole : ℕ → Bytes → Option (Vec ℕ) → Type 0
-IsWhole limit all None = limit < length all
-IsWhole limit all (Some bytes) = (bytes.items ≡ all) × (length all ≤ limit)
+-- all bytes, or nothing if there are more than the limit
+abbrev pub IsValid : ℕ → Bytes → Option (Vec ℕ) → Type 0
+IsValid limit all None = limit < length all
+IsValid limit all (Some bytes) = (bytes.items ≡ all) × (length all ≤ limit)

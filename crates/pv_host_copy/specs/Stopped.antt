@@ -1,4 +1,4 @@
--- What stops a copy.
+-- The errors of a copy.
 use Rattle.std.specs.Prelude.{◌≡◌, ⊤, ℕ, List, ◌∷◌, ◌++◌, Option, None, IfSome, Ok, Err}
 use Rattle.pv_model.specs.declared.version.Version.{Version}
 use Rattle.pv_model.specs.Bytes.{Bytes}
@@ -16,7 +16,7 @@ use Rattle.pv_host_copy.specs.Gathered.{entries_of}
 use Rattle.pv_host_copy.specs.Hosts.{HostEntries}
 use Rattle.pv_host_copy.specs.Imported.{greatest_tree}
 
--- what a host does not answer stops a copy
+-- an error of a host as one of a copy
 abbrev pub stop_of : HostFault → CopyStop
 stop_of Read = stop.Read
 stop_of Memory = stop.Memory
@@ -24,23 +24,23 @@ stop_of Memory = stop.Memory
 abbrev pub refused_pair : Refused → Bytes × EntryFault
 refused_pair refused = (refused.path.items, refused.fault)
 
--- an entry could not be added to the tree of those before it: its path, and why
+-- an entry cannot be added to the tree of those before it: its path and the reason
 pub record IsRefused (entries : List (ℕ × Entry)) (start : Tree) (refused : Bytes × EntryFault) : Type 0 where
   pub earlier : List (ℕ × Entry)
   pub line : ℕ
   pub entry : Entry
   pub later : List (ℕ × Entry)
-  pub stands : entries ≡ earlier ++ (line, entry) ∷ later
+  pub appears : entries ≡ earlier ++ (line, entry) ∷ later
   pub so_far : Tree
   pub added : add_entries earlier start ≡ Ok so_far
   pub is_fault : add_entry line so_far entry ≡ Err (fault_at line refused.1)
   pub is_path : path_of entry ≡ refused.0
 
--- an entry of a host's directory could not be added
+-- an entry of a host directory cannot be added
 abbrev pub IsRefusedOf : Version → HostEntries → Bytes × EntryFault → Type 0
 IsRefusedOf v host refused = IsRefused (entries_of v host) (greatest_tree v) refused
 
--- why a directory was not copied: one of which the entries are known can be read
+-- why a directory was not copied; if its entries are known, reading them does not fail
 abbrev pub StopsCopy : Version → Option HostEntries → CopyStop → Type 0
 StopsCopy v known stop.Read = known ≡ None
 StopsCopy v known stop.Memory = ⊤

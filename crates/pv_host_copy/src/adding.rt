@@ -1,4 +1,4 @@
-//! An entry of a manifest added to a tree, in an image of either version.
+//! Adding an entry of a manifest to a tree, in an image of either version.
 ghost use Rattle.std.specs.Prelude.{◌≡◌, ℕ, [], None, IsTrue, IsSome, IfSome, false, Option, option_and_then, option_map};
 ghost use Rattle.pv_host_copy.specs.Adding.{Adds, Gives};
 ghost use Rattle.pv_host_copy.specs.Entries.{entry_of, is_content};
@@ -8,7 +8,7 @@ ghost use Rattle.pv_model.specs.Grammar.Manifests.{enter_directory, container as
 ghost use Rattle.pv_model.specs.Tree.{root, node_at, file_node, find_entry, is_directory_at, is_name, is_node, with_new_node};
 ghost use Rattle.pv_model.specs.Walk.{components};
 ghost use Rattle.pv_tree.specs.Changes.{new_node};
-ghost use Rattle.pv_laws_trees.specs.Tree.{Stands};
+ghost use Rattle.pv_laws_trees.specs.Tree.{Appears};
 
 use crate::content::Content;
 use crate::fault::{CopyStop, EntryFault, Refused};
@@ -18,11 +18,11 @@ use pv_text::components::split_component;
 use pv_tree::Tree;
 use std::alloc::Global;
 
-// The directory under a name of a directory.
+// Returns the directory that has this name in a directory.
 fn enter(tree: &Tree, directory: u16, name: &[u8]) -> Option<u16>
     requires { IsTrue (is_directory_at tree.now.tree directory) }
     ensures entered { (onward : ℕ → Option (ℕ × Bytes)) → enter_directory tree.now.tree onward (find_entry tree.now.tree directory name.now) ≡ option_and_then onward result }
-    ensures stands { IfSome result (λ n. Stands tree.now.tree n) }
+    ensures appears { IfSome result (λ n. Appears tree.now.tree n) }
 {
     tree.invariant();
     let number = tree.find(directory, name)?;
@@ -33,11 +33,11 @@ fn enter(tree: &Tree, directory: u16, name: &[u8]) -> Option<u16>
     }
 }
 
-// The directory that is to contain what a path names, and its name there.
+// Returns the parent directory of a path, with the last name of the path.
 fn container<'a>(tree: &Tree, path: &'a [u8]) -> Option<(u16, &'a [u8])>
     requires { IsTrue (is_path tree.now.tree.version path.now) }
     ensures found { container_in tree.now.tree (components path.now) root ≡ option_map (λ p. (p.0, p.1.now)) result }
-    ensures stands { IfSome result (λ p. Stands tree.now.tree p.0) }
+    ensures appears { IfSome result (λ p. Appears tree.now.tree p.0) }
     ensures name { IfSome result (λ p. IsTrue (is_name tree.now.tree.version p.1.now)) }
 {
     tree.invariant();
@@ -50,7 +50,7 @@ fn container<'a>(tree: &Tree, path: &'a [u8]) -> Option<(u16, &'a [u8])>
     Some((directory, name))
 }
 
-// The file or link that a path names.
+// Returns the file or symbolic link at a path.
 fn source_of(tree: &Tree, path: &[u8]) -> Option<u16>
     requires { IsTrue (is_path tree.now.tree.version path.now) }
     ensures found { source_in tree.now.tree path.now ≡ result }
@@ -67,9 +67,10 @@ fn source_of(tree: &Tree, path: &[u8]) -> Option<u16>
     }
 }
 
-// Makes a directory, a file without bytes, or a link. After an `Err` the tree is of no use, here and below.
+// Creates a directory, an empty file or a symbolic link. If it fails, the tree must be discarded; this applies to the
+// functions below too.
 fn make_node(tree: &mut Tree, directory: u16, name: &[u8], kind: NewNode) -> Result<(), EntryFault>
-    requires directory { Stands tree.old.tree directory }
+    requires directory { Appears tree.old.tree directory }
     requires name { IsTrue (is_name tree.old.tree.version name.now) }
     requires absent { find_entry tree.old.tree directory name.now ≡ None }
     requires text { IsTrue (is_node tree.old.tree.version (new_node kind)) }
@@ -83,7 +84,7 @@ fn make_node(tree: &mut Tree, directory: u16, name: &[u8], kind: NewNode) -> Res
     Ok(())
 }
 
-// The kind of a file.
+// Returns the kind of a file.
 fn file_kind(executable: bool) -> NewNode<'static>
     ensures { new_node result ≡ file_node executable [] }
 {
@@ -94,7 +95,7 @@ fn file_kind(executable: bool) -> NewNode<'static>
     }
 }
 
-// Makes a file with its bytes.
+// Creates a file with its bytes.
 fn make_file(
     tree: &mut Tree,
     directory: u16,
@@ -102,7 +103,7 @@ fn make_file(
     executable: bool,
     bytes: &[u8],
 ) -> Result<(), EntryFault>
-    requires directory { Stands tree.old.tree directory }
+    requires directory { Appears tree.old.tree directory }
     requires name { IsTrue (is_name tree.old.tree.version name.now) }
     requires absent { find_entry tree.old.tree directory name.now ≡ None }
     ensures made { Gives result (λ line. if_room line (with_new_node tree.old.tree directory name.now (file_node executable bytes.now))) tree.new.tree }
@@ -119,14 +120,14 @@ fn make_file(
     Ok(())
 }
 
-// Gives the file or link under a path a further name.
+// Adds a name to the file or symbolic link at a path.
 fn link_source(
     tree: &mut Tree,
     directory: u16,
     name: &[u8],
     source: &[u8],
 ) -> Result<(), EntryFault>
-    requires directory { Stands tree.old.tree directory }
+    requires directory { Appears tree.old.tree directory }
     requires name { IsTrue (is_name tree.old.tree.version name.now) }
     requires absent { find_entry tree.old.tree directory name.now ≡ None }
     requires source { IsTrue (is_path tree.old.tree.version source.now) }
@@ -143,9 +144,9 @@ fn link_source(
     Ok(())
 }
 
-// Makes what an entry makes, under a name that a directory has not.
+// Creates the node or name of an entry. The directory does not have this name.
 fn make(tree: &mut Tree, directory: u16, name: &[u8], content: Content) -> Result<(), EntryFault>
-    requires directory { Stands tree.old.tree directory }
+    requires directory { Appears tree.old.tree directory }
     requires name { IsTrue (is_name tree.old.tree.version name.now) }
     requires absent { find_entry tree.old.tree directory name.now ≡ None }
     requires content { IsTrue (is_content tree.old.tree.version content) }
@@ -161,9 +162,9 @@ fn make(tree: &mut Tree, directory: u16, name: &[u8], content: Content) -> Resul
     }
 }
 
-// Adds to a tree what an entry makes under its path: `Parent` where what is to contain it is no directory, else `Exists` where
-// its name is there, else `Source` where what it is to be a further name of is no file or link, and else `Room` where a node
-// would be longer than any may be, or the image has not the inodes or the blocks.
+// Adds an entry to a tree. Fails with `Parent` if the parent of its path is not a directory, else with `Exists` if the
+// name exists already, else with `Source` if the entry adds a name and the path of its source is not a file or a
+// symbolic link, else with `Room` if a node would exceed the maximum length or the image has too few inodes or blocks.
 fn add(tree: &mut Tree, path: &[u8], content: Content) -> Result<(), EntryFault>
     requires named { IsTrue (is_path tree.old.tree.version path.now) }
     requires formed { IsTrue (is_content tree.old.tree.version content) }
@@ -180,14 +181,18 @@ fn add(tree: &mut Tree, path: &[u8], content: Content) -> Result<(), EntryFault>
     make(tree, directory, name, content)
 }
 
-/// Adds to a tree what an entry makes under its path. After an `Err` the tree is of no use.
+/// Adds an entry to a tree. If this fails, the tree must be discarded.
 ///
 /// # Errors
 ///
-/// `Entry` with the path where it is not added: its fault is `Parent` where what is to contain it is no directory, else
-/// `Exists` where its name is there, else `Source` where what it is to be a further name of is no file or link, and else `Room`
-/// where a node would be longer than any may be, or the image has not the inodes or the blocks. `Memory` where memory was
-/// refused for that path.
+/// Returns `Entry` with the path if the entry cannot be added. Its fault is the first of these that applies:
+///
+/// - `Parent`: the parent of the path is not a directory.
+/// - `Exists`: the name exists already.
+/// - `Source`: the entry adds a name, and the path of its source is not a file or a symbolic link.
+/// - `Room`: a node would exceed the maximum length, or the image has too few inodes or blocks.
+///
+/// Returns `Memory` if memory for that path cannot be allocated.
 pub(crate) fn add_under(
     alloc: Global,
     tree: &mut Tree,

@@ -1,14 +1,14 @@
-//! What is added under a path.
+//! The contents of an entry.
 
-/// What an entry makes under its path.
+/// The node or name that an entry creates at its path.
 #[derive(Clone, Copy)]
 pub(crate) enum Content<'a> {
     /// An empty directory.
     Directory,
-    /// A file, which may be executed or not, and its bytes.
+    /// A file with its bytes. It may be executable.
     File { executable: bool, bytes: &'a [u8] },
-    /// A symbolic link with its text.
+    /// A symbolic link with its target.
     Link(&'a [u8]),
-    /// A further name of the file or link under this path.
+    /// Another name of the file or symbolic link at this path.
     Name(&'a [u8]),
 }

@@ -1,37 +1,38 @@
-//! A directory of a host.
+//! Directories of a host.
 ghost use Rattle.std.specs.Prelude.{◌≡◌, ◌≢◌, ◌<◌, ◌≤◌, ℕ, Option, Err, IfOk, IfSome, IsSome};
 ghost use Rattle.pv_host_copy.specs.Hosts.{HostEntries};
-ghost use Rattle.pv_host_copy.specs.Telling.{IsBelow, Tells};
+ghost use Rattle.pv_host_copy.specs.Reporting.{IsBelow, Reports};
 
 use crate::entry::HostEntry;
 use crate::fault::HostFault;
 use crate::file::HostFile;
 use std::alloc::Global;
 
-/// A directory of a host, which tells what it has name by name, in the order of their bytes.
+/// A directory of a host: an iterator over its entries in byte order of their names.
 ///
-/// A clause sees the entries that it is still to tell, where they are known (those of a system's directory are not).
+/// Contracts see the entries that remain, if they are known. Those of a directory of the real system are unknown.
 pub trait HostDirectory: Sized + Drop {
-    /// A file that was opened.
+    /// The type of an open file.
     type Reader: HostFile + Drop;
 
-    /// The entries that are still to be told, where they are known.
+    /// The entries that remain, if they are known.
     ghost rest: { Self → Option HostEntries };
 
-    /// How many they are at most.
+    /// An upper bound of the number of entries that remain.
     ghost left: { Self → ℕ };
 
-    /// How many levels of directories it has below it at most.
+    /// An upper bound of the number of levels of directories below this one.
     ghost height: { Self → ℕ };
 
-    /// Tells the next name and what stands under it; none where each was told. A directory whose entries are known can be read.
+    /// Returns the next entry, or `None` after the last. If the entries of a directory are known, reading it does not
+    /// fail with `Read`.
     ///
     /// # Errors
     ///
-    /// `Read` where the host does not tell it; `Memory` where memory was refused.
+    /// Returns `Read` if the host fails to read the entry. Returns `Memory` if memory cannot be allocated.
     fn next(&mut self, alloc: Global) -> Result<Option<HostEntry<Self, Self::Reader>>, HostFault>
-        ensures told { IfOk result (λ told. IfSome (rest self.old) (λ entries. Tells rest Self.Reader.bytes entries told (rest self.new))) }
-        ensures fewer { IfOk result (λ told. IsSome told → left self.new < left self.old) }
+        ensures reported { IfOk result (λ reported. IfSome (rest self.old) (λ entries. Reports rest Self.Reader.bytes entries reported (rest self.new))) }
+        ensures fewer { IfOk result (λ reported. IsSome reported → left self.new < left self.old) }
         ensures below { IfOk result (IsBelow height (height self.old)) }
         ensures level { height self.new ≤ height self.old }
         ensures known { IsSome (rest self.old) → result ≢ Err HostFault.Read };

@@ -1,39 +1,39 @@
-//! What a host tells of one name in a directory.
+//! Entries of host directories.
 
-/// What tells a file or a link of a host from every other: two names with the same identity are names of one.
+/// The identity of a file or symbolic link of a host: two names with the same identity are hard links to one file.
 #[derive(Clone, Copy, Debug, PartialEq, Eq)]
 pub struct Identity {
-    /// The number of the device on which it stands.
+    /// The number of its device.
     pub device: u64,
-    /// Its number there.
+    /// Its inode number on the device.
     pub inode: u64,
 }
 
-/// What stands under a name of a host's directory.
+/// The object that a name of a host directory refers to.
 #[derive(Drop)]
 pub enum HostNode<D: Drop, R: Drop> {
-    /// A directory, which tells what it has.
+    /// A directory.
     Directory(D),
-    /// A file: its identity, whether it may be executed, and what reads its bytes.
+    /// A file: its identity, whether it is executable, and a reader of its bytes.
     File {
         identity: Identity,
         executable: bool,
         reader: R,
     },
-    /// A symbolic link: its identity and its text. It is not followed.
+    /// A symbolic link: its identity and its target. It is not followed.
     Link {
         identity: Identity,
         text: Vec<u8>,
     },
-    /// Something else, as a device or a socket.
+    /// Something else, such as a device or a socket.
     Other,
 }
 
-/// A name of a host's directory, and what stands there.
+/// An entry of a host directory.
 #[derive(Drop)]
 pub struct HostEntry<D: Drop, R: Drop> {
     /// The name.
     pub name: Vec<u8>,
-    /// What stands under it.
+    /// The object that the name refers to.
     pub node: HostNode<D, R>,
 }

@@ -1,11 +1,11 @@
-//! The tree of an image as a directory of a host.
+//! Exporting the tree of an image to a host directory.
 ghost use Rattle.std.specs.Prelude.{◌≡◌, ◌≤◌, false, map, drop, take, vec_len, IsTrue, IsSome, IfOk, OnOk, OnErr};
 ghost use Rattle.std.specs.Option.{option_copied};
 ghost use Rattle.pv_dirs.specs.Trees.{bytes_at};
 ghost use Rattle.pv_listing.specs.Lines.{IsNextChild, last_name};
 ghost use Rattle.pv_model.specs.Tree.{Node, entries_at, is_directory_at, node_at, IsWellFormed};
 ghost use Rattle.pv_host_copy.specs.Exported.{path_pair, Exports, IsMadeNew, Makes, MakesNew};
-ghost use Rattle.pv_host_copy.specs.Spelled.{first_path, spelled_entries, spells_node, spells_within};
+ghost use Rattle.pv_host_copy.specs.Encoded.{first_path, encoded_entries, encodes_node, encodes_within};
 
 use crate::target::{HostTarget, TargetFault};
 use pv_model::Kind;
@@ -13,23 +13,23 @@ use pv_model::limits::ROOT;
 use pv_tree::Tree;
 use std::alloc::{AllocError, Global};
 
-/// Why the tree of an image was not made on a host, or not whole.
+/// Why the tree of an image was not exported, or not completely.
 #[derive(Debug, Drop)]
 pub enum ExportStop {
-    /// What stands under this path of the tree was not made, or not whole: a slash before each name.
+    /// The node at this path of the tree was not created, or not completely. The path has a slash before each name.
     Make(Vec<u8>),
-    /// Memory was refused.
+    /// Memory cannot be allocated.
     Memory,
 }
 
-/// A file or link of an image, and the first path under which it was made.
+/// A file or symbolic link of an image, and the first path at which it was created.
 #[derive(Drop)]
 pub(crate) struct FirstPath {
     pub(crate) node: u16,
     pub(crate) path: Vec<u8>,
 }
 
-// The first path of a file or link, if it was made.
+// Returns the first path of a file or symbolic link, if it was created.
 fn first_path(firsts: &[FirstPath], node: u16) -> Option<&[u8]>
     ensures { option_copied result ≡ first_path node (map path_pair firsts.now) }
 {
@@ -41,7 +41,7 @@ fn first_path(firsts: &[FirstPath], node: u16) -> Option<&[u8]>
     None
 }
 
-// The bytes of a file, or of a link's text.
+// Returns the bytes of a file, or the target of a symbolic link.
 fn content(alloc: Global, tree: &Tree, node: u16) -> Result<Vec<u8>, AllocError>
     requires used { IsSome (node_at tree.now.tree node) }
     requires other { is_directory_at tree.now.tree node ≡ false }
@@ -52,7 +52,7 @@ fn content(alloc: Global, tree: &Tree, node: u16) -> Result<Vec<u8>, AllocError>
     Ok(bytes)
 }
 
-// Makes a file or link with its content.
+// Creates a file or symbolic link with its contents.
 fn make_new<T: HostTarget>(
     alloc: Global,
     tree: &Tree,
@@ -73,7 +73,7 @@ fn make_new<T: HostTarget>(
     }
 }
 
-// Makes a file or link under its first path, which is kept.
+// Creates a file or symbolic link at its first path, and records the path.
 fn export_new<T: HostTarget>(
     alloc: Global,
     tree: &Tree,
@@ -92,8 +92,8 @@ fn export_new<T: HostTarget>(
     Ok(())
 }
 
-// Makes what a node is under a path, a directory without what it has. It stands apart, as the next, so that the way down takes
-// little stack.
+// Creates a node at a path, a directory without its entries. This function and the next are not inlined, so that the
+// recursion needs little stack.
 #[inline(never)]
 fn export_node<T: HostTarget>(
     alloc: Global,
@@ -103,7 +103,7 @@ fn export_node<T: HostTarget>(
     node: u16,
     target: &mut T,
 ) -> Result<(), TargetFault>
-    ensures { Makes (spells_node path.now node (node_at tree.now.tree node)) firsts.old.items (T.made target.old) result firsts.new.items (T.made target.new) path.now }
+    ensures { Makes (encodes_node path.now node (node_at tree.now.tree node)) firsts.old.items (T.made target.old) result firsts.new.items (T.made target.new) path.now }
 {
     if !tree.is_used(node) {
         return Ok(());
@@ -117,9 +117,9 @@ fn export_node<T: HostTarget>(
     export_new(alloc, tree, firsts, path, node, target)
 }
 
-// Puts the next name of a directory at the end of a path, in the place of the one before it, and answers its node:
-// none where no name comes next, and then the path is the directory's. The first `base` bytes are the directory's path,
-// and `before` is a guess of how many of its names come before.
+// Replaces the last name of a path by the next name of a directory, and returns its node. If there is no next name,
+// returns `None`, and the path is that of the directory. The first `base` bytes of the path are the directory's path,
+// and `before` is a guess of the number of its names that precede the next one.
 #[inline(never)]
 fn next_child(
     tree: &Tree,
@@ -143,7 +143,8 @@ fn next_child(
     Ok(Some(child))
 }
 
-// Makes all that a directory at the end of a path has, so deep. Where something is not made, the path ends in its name.
+// Creates all entries of the directory at the end of a path, up to `depth` levels. If a node cannot be created, the
+// path ends with its name.
 fn export_within<T: HostTarget>(
     alloc: Global,
     tree: &Tree,
@@ -154,7 +155,7 @@ fn export_within<T: HostTarget>(
     target: &mut T,
 ) -> Result<(), TargetFault>
     requires { IsWellFormed tree.now.tree }
-    ensures made { Makes (spells_within tree.now.tree depth path.old.items node) firsts.old.items (T.made target.old) result firsts.new.items (T.made target.new) path.new.items }
+    ensures made { Makes (encodes_within tree.now.tree depth path.old.items node) firsts.old.items (T.made target.old) result firsts.new.items (T.made target.new) path.new.items }
     ensures path { OnOk result (path.new.items ≡ path.old.items) }
 {
     if depth == 0 || !tree.is_directory(node) {
@@ -170,15 +171,16 @@ fn export_within<T: HostTarget>(
     Ok(())
 }
 
-/// Makes what the tree of an image has in an empty directory of a host, in the order of the listing: each directory before
-/// what is in it, and each file or link under its first name, of which the others are further names.
+/// Creates the tree of an image in an empty host directory, in the order of the listing. Each directory is created
+/// before its entries. A file or symbolic link is created at its first name, and its other names become hard links to
+/// it.
 ///
 /// # Errors
 ///
-/// - `Make`: what stands under that path was not made, or not whole; all that comes before it was made.
-/// - `Memory`: memory was refused; a beginning was made.
+/// - `Make`: the node at that path was not created, or not completely. All nodes before it were created.
+/// - `Memory`: memory cannot be allocated. The nodes before some path were created.
 pub fn export<T: HostTarget>(alloc: Global, tree: &Tree, target: &mut T) -> Result<(), ExportStop>
-    ensures { Exports (spelled_entries tree.now.tree) (T.made target.old) result (T.made target.new) }
+    ensures { Exports (encoded_entries tree.now.tree) (T.made target.old) result (T.made target.new) }
 {
     tree.invariant();
     let mut firsts = Vec::new(alloc);

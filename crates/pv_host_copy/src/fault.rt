@@ -1,4 +1,4 @@
-//! What stops a copy, and what is told of a path.
+//! The errors of a copy, and the reasons for skipping a path.
 ghost use Rattle.std.specs.Prelude.{◌≡◌};
 ghost use Rattle.pv_host_copy.specs.Stopped.{stop_of};
 ghost use Rattle.pv_host_copy.specs.declared.fault.CopyStop.TheVariants.{Memory as MemoryStop};
@@ -6,58 +6,58 @@ ghost use Rattle.pv_host_copy.specs.declared.fault.HostFault.TheVariants.{Memory
 
 use std::alloc::{AllocError, AllocFailed};
 
-/// What a host does not answer.
+/// An error of a host.
 #[derive(Clone, Copy, Debug, PartialEq, Eq)]
 pub enum HostFault {
-    /// A directory, a file or a link could not be read.
+    /// A directory, a file or a symbolic link cannot be read.
     Read,
-    /// Memory was refused.
+    /// Memory cannot be allocated.
     Memory,
 }
 
-/// Why a path of a host is left out of an image.
+/// Why a path of a host is skipped.
 #[derive(Clone, Copy, Debug, PartialEq, Eq)]
-pub enum Why {
-    /// A name has more bytes than a name may have, or is none.
+pub enum SkipReason {
+    /// A name is too long or invalid.
     Name,
-    /// A file has more bytes than a file may have.
+    /// A file is too long.
     Size,
-    /// A link's text has more bytes than one may have, or none.
+    /// The target of a symbolic link is too long or invalid.
     Text,
-    /// It is no directory, file or link.
+    /// It is not a directory, file or symbolic link.
     Kind,
 }
 
-/// Why an entry is not added to a tree.
+/// Why an entry cannot be added to a tree.
 #[derive(Clone, Copy, Debug, PartialEq, Eq)]
 pub enum EntryFault {
-    /// What is to contain it is no directory.
+    /// The parent of its path is not a directory.
     Parent,
-    /// Its name is there.
+    /// Its name exists already.
     Exists,
-    /// What it is to be a further name of is no file or link.
+    /// The source of another name is not a file or symbolic link.
     Source,
-    /// The image has not the inodes or the blocks, or the directory has no room for another name.
+    /// The image has too few inodes or blocks, or the directory has no room for another name.
     Room,
 }
 
 /// A path that could not be added to a tree, which stops a copy.
 #[derive(Debug, Drop)]
 pub struct Refused {
-    /// The path, from the directory that is imported on: a slash before each name.
+    /// The path relative to the imported directory, with a slash before each name.
     pub path: Vec<u8>,
     /// Why it was not added.
     pub fault: EntryFault,
 }
 
-/// Why a directory of a host was not copied.
+/// Why a host directory was not copied.
 #[derive(Debug, Drop)]
 pub enum CopyStop {
-    /// Something of the host could not be read.
+    /// A part of the directory cannot be read.
     Read,
-    /// Memory was refused.
+    /// Memory cannot be allocated.
     Memory,
-    /// A path could not be added to the tree of those before it.
+    /// A path cannot be added to the tree of the paths before it.
     Entry(Refused),
 }
 

@@ -1,22 +1,22 @@
-//! A file of a host.
+//! Files of a host.
 ghost use Rattle.std.specs.Prelude.{◌≡◌, ℕ, List, Option, IfOk, IsOk, IsSome};
 ghost use Rattle.pv_model.specs.Stream.{EndsWhereEmpty, ReadsAtMost, front_and};
 
 use pv_streams::Failed;
 
-/// A file of a host that was opened, and gives its bytes in order.
+/// An open file of a host: a reader of its bytes.
 ///
-/// A clause sees the bytes that it is still to give, where they are known (those of a system's file are not).
+/// Contracts see the bytes that remain, if they are known. Those of a file of the real system are unknown.
 pub trait HostFile {
-    /// The bytes that are still to be given, where they are known.
+    /// The bytes that remain, if they are known.
     ghost bytes: { Self → Option (List ℕ) };
 
-    /// Puts the next bytes at the front of the buffer and answers how many they are; 0 is the end, where the buffer has room
-    /// for a byte. A file whose bytes are known can be read.
+    /// Copies the next bytes to the front of `buffer` and returns their number. If `buffer` is not empty, 0 means the
+    /// end of the file. If the bytes of a file are known, reading it does not fail.
     ///
     /// # Errors
     ///
-    /// `Failed` where it can't be read.
+    /// Returns `Failed` if the file cannot be read.
     fn read(&mut self, buffer: &mut [u8]) -> Result<usize, Failed>
         ensures bound { ReadsAtMost result buffer.new }
         ensures front { IfOk result (λ n. bytes self.old ≡ front_and n buffer.new (bytes self.new)) }

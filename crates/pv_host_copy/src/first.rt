@@ -1,4 +1,4 @@
-//! The first paths of files and links.
+//! The first paths of files and symbolic links.
 ghost use Rattle.std.specs.Prelude.{◌≡◌, ◌&&◌, ◌==◌, map, IsTrue, IfSome};
 ghost use Rattle.std.specs.List.{list_all};
 ghost use Rattle.std.specs.Option.{option_copied};
@@ -10,21 +10,21 @@ ghost use Rattle.pv_host_copy.specs.Paths.{is_path};
 use crate::entry::Identity;
 use pv_model::Version;
 
-/// A file or link of a host, and the first path under which it was kept.
+/// A file or symbolic link of a host, and the first path at which it was added.
 #[derive(Drop)]
 pub(crate) struct First {
     pub(crate) identity: Identity,
     pub(crate) path: Vec<u8>,
 }
 
-// Whether two names are of one file or link.
+// Returns whether two names refer to one file or symbolic link.
 fn is_same(a: Identity, b: Identity) -> bool
     ensures { result ≡ is_same a b }
 {
     a.device == b.device && a.inode == b.inode
 }
 
-/// The first path of a file or link, if it was kept.
+/// Returns the first path of a file or symbolic link, if it was added.
 pub(crate) fn first_of(firsts: &[First], version: Version, identity: Identity) -> Option<&[u8]>
     requires { IsTrue (list_all (has_path version) firsts.now) }
     ensures first { option_copied result ≡ first_of identity (map first_pair firsts.now) }

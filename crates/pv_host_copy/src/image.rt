@@ -1,40 +1,40 @@
-//! The image of a host's directory.
+//! Writing the image of a host directory.
 ghost use Rattle.std.specs.Prelude.{◌≡◌, map, Err, OnOk};
 ghost use Rattle.pv_model.specs.Stream.{Rose};
-ghost use Rattle.pv_image_write.specs.Written.{BeginsImage, TellsImage};
-ghost use Rattle.pv_host_copy.specs.Firsts.{told_pair};
-ghost use Rattle.pv_host_copy.specs.Written.{Imports, TellsPairs, TellsStop};
+ghost use Rattle.pv_image_write.specs.Written.{BeginsImage, WritesImage};
+ghost use Rattle.pv_host_copy.specs.Firsts.{skipped_pair};
+ghost use Rattle.pv_host_copy.specs.Written.{Imports, ReportsPairs, ReportsStop};
 ghost use Rattle.pv_host_copy.specs.declared.fault.CopyStop.TheVariants.{Entry as EntryStop};
 
 use crate::directory::HostDirectory;
 use crate::fault::{CopyStop, Refused};
 use crate::import::{Imported, import_tree};
-use crate::lines::{write_refused, write_told};
-use crate::told::Told;
+use crate::lines::{write_refused, write_skipped};
+use crate::skipped::Skipped;
 use pv_image_write::{WriteFault, write_tree};
 use pv_model::Version;
 use pv_streams::{Gathered, Sink, write_through};
 use pv_tree::Store;
 use std::alloc::Global;
 
-/// Why no image was made of a host's directory, or not whole.
+/// Why no image of a host directory was written, or not completely.
 #[derive(Clone, Copy, Debug, PartialEq, Eq)]
 pub enum ImportStop {
-    /// Something of the directory could not be read.
+    /// A part of the directory cannot be read.
     Read,
-    /// Memory was refused.
+    /// Memory cannot be allocated.
     Memory,
-    /// Something was left out where nothing may be, or could not be added. It was told.
+    /// An entry was skipped, which `skips` did not allow, or an entry could not be added. It was reported.
     Refused,
-    /// What is left out, or could not be added, was not told, or not all.
+    /// A write of the report of skipped entries, or of the entry that could not be added, failed.
     WriteLines,
-    /// The image was not written: the sink was given a beginning of it.
+    /// The image was not written. The sink has received a prefix of it.
     WriteImage,
 }
 
 // Writes the image of a tree.
 fn write_store<W: Sink>(alloc: Global, store: &Store, image: &mut W) -> Result<(), WriteFault>
-    ensures whole { OnOk result (TellsImage store.now (W.written image.old) (W.written image.new)) }
+    ensures whole { OnOk result (WritesImage store.now (W.written image.old) (W.written image.new)) }
     ensures cut { result ≡ Err WriteFault.Write → BeginsImage store.now (W.written image.old) (W.written image.new) }
     ensures failed { result ≡ Err WriteFault.Write → Rose (W.failures image.old) (W.failures image.new) }
     ensures memory { result ≡ Err WriteFault.Memory → W.written image.new ≡ W.written image.old }
@@ -44,32 +44,32 @@ fn write_store<W: Sink>(alloc: Global, store: &Store, image: &mut W) -> Result<(
     write_tree(alloc, store.tree(), image)
 }
 
-// Tells what is left out, which is nothing where nothing may be.
-fn tell_left_out<E: Sink>(
+// Reports the skipped entries. Fails if there are some and `skips` is false.
+fn report_left_out<E: Sink>(
     alloc: Global,
-    told: &[Told],
+    reported: &[Skipped],
     skips: bool,
     errors: &mut E,
 ) -> Result<(), ImportStop>
-    ensures tells { TellsPairs (map told_pair told.now) skips (E.written errors.old) result (E.written errors.new) }
+    ensures reports { ReportsPairs (map skipped_pair reported.now) skips (E.written errors.old) result (E.written errors.new) }
     ensures failed { result ≡ Err ImportStop.WriteLines → Rose (E.failures errors.old) (E.failures errors.new) }
 {
     let mut lines = Gathered::new(alloc);
-    let Ok(()) = write_told(&mut lines, told) else {
+    let Ok(()) = write_skipped(&mut lines, reported) else {
         return Err(ImportStop::Memory);
     };
     let Ok(()) = write_through(errors, &lines.bytes) else {
         return Err(ImportStop::WriteLines);
     };
-    if !skips && !told.is_empty() {
+    if !skips && !reported.is_empty() {
         return Err(ImportStop::Refused);
     }
     Ok(())
 }
 
-// Tells of a path that it could not be added.
-fn tell_refused<E: Sink>(alloc: Global, refused: &Refused, errors: &mut E) -> ImportStop
-    ensures tells { TellsStop (EntryStop refused.now) (E.written errors.old) result (E.written errors.new) }
+// Reports a path that could not be added.
+fn report_refused<E: Sink>(alloc: Global, refused: &Refused, errors: &mut E) -> ImportStop
+    ensures reports { ReportsStop (EntryStop refused.now) (E.written errors.old) result (E.written errors.new) }
     ensures failed { result ≡ ImportStop.WriteLines → Rose (E.failures errors.old) (E.failures errors.new) }
 {
     let mut lines = Gathered::new(alloc);
@@ -82,31 +82,31 @@ fn tell_refused<E: Sink>(alloc: Global, refused: &Refused, errors: &mut E) -> Im
     }
 }
 
-// Tells why a directory was not copied, where that is told on the spot.
-fn tell_stop<E: Sink>(alloc: Global, stop: &CopyStop, errors: &mut E) -> ImportStop
-    ensures tells { TellsStop stop.now (E.written errors.old) result (E.written errors.new) }
+// Reports why a directory was not copied, if the reason requires a line.
+fn report_stop<E: Sink>(alloc: Global, stop: &CopyStop, errors: &mut E) -> ImportStop
+    ensures reports { ReportsStop stop.now (E.written errors.old) result (E.written errors.new) }
     ensures failed { result ≡ ImportStop.WriteLines → Rose (E.failures errors.old) (E.failures errors.new) }
 {
     match stop {
         CopyStop::Read => ImportStop::Read,
         CopyStop::Memory => ImportStop::Memory,
-        CopyStop::Entry(refused) => tell_refused(alloc, refused, errors),
+        CopyStop::Entry(refused) => report_refused(alloc, refused, errors),
     }
 }
 
-/// Writes the image of what a host's directory has: that of the tree which `import_tree` makes. What is left out of it is
-/// told, in a line for each path; where `skips` is false nothing may be left out.
+/// Writes the image of a host directory: that of the tree that `import_tree` builds. Each skipped entry is reported in
+/// a line on `errors`. If `skips` is false, no entry may be skipped.
 ///
 /// # Errors
 ///
-/// - `Read`: something of the directory could not be read.
-/// - `Memory`: memory was refused.
-/// - `Refused`: something was left out where nothing may be, and each path that is was told; or a path could not be added to
-///   the tree of those before it, which was told.
-/// - `WriteLines`: a write to `errors` failed; it was given a beginning of the lines.
-/// - `WriteImage`: a write to `image` failed; it was given a beginning of the image.
+/// - `Read`: a part of the directory cannot be read.
+/// - `Memory`: memory cannot be allocated.
+/// - `Refused`: entries were skipped although `skips` is false, and each was reported; or a path could not be added to
+///   the tree of the paths before it, which was reported.
+/// - `WriteLines`: a write to `errors` failed. It has received a prefix of the lines.
+/// - `WriteImage`: a write to `image` failed. It has received a prefix of the image.
 ///
-/// After each but the last nothing was written of the image.
+/// For all errors except the last, nothing was written to `image`.
 pub fn import_image<D: HostDirectory, W: Sink, E: Sink>(
     alloc: Global,
     version: Version,
@@ -120,11 +120,11 @@ pub fn import_image<D: HostDirectory, W: Sink, E: Sink>(
     ensures write_image { result ≡ Err ImportStop.WriteImage → Rose (W.failures image.old) (W.failures image.new) }
     ensures flushed { OnOk result (W.buffered image.new ≡ 0) }
 {
-    let Imported { store, told } = match import_tree(alloc, version, directory) {
+    let Imported { store, reported } = match import_tree(alloc, version, directory) {
         Ok(imported) => imported,
-        Err(stop) => return Err(tell_stop(alloc, &stop, errors)),
+        Err(stop) => return Err(report_stop(alloc, &stop, errors)),
     };
-    tell_left_out(alloc, &told, skips, errors)?;
+    report_left_out(alloc, &reported, skips, errors)?;
     match write_store(alloc, &store, image) {
         Ok(()) => Ok(()),
         Err(WriteFault::Memory) => Err(ImportStop::Memory),

@@ -1,7 +1,7 @@
-//! A host's directory as the tree of an image.
+//! Importing a host directory to the tree of an image.
 ghost use Rattle.std.specs.Prelude.{◌≡◌, map, IfOk, IfErr, IfSome};
 ghost use Rattle.pv_model.specs.Image.{greatest_blocks as blocks_of};
-ghost use Rattle.pv_host_copy.specs.Firsts.{told_pair};
+ghost use Rattle.pv_host_copy.specs.Firsts.{skipped_pair};
 ghost use Rattle.pv_host_copy.specs.Gathered.{left_out, nothing_gathered};
 ghost use Rattle.pv_host_copy.specs.Importing.{Holds};
 ghost use Rattle.pv_host_copy.specs.Imported.{greatest_tree, IsTreeOf};
@@ -10,23 +10,23 @@ ghost use Rattle.pv_host_copy.specs.Stopped.{StopsCopy};
 use crate::directory::HostDirectory;
 use crate::fault::CopyStop;
 use crate::importing::Importing;
-use crate::told::Told;
+use crate::skipped::Skipped;
 use crate::walking::import_directory;
 use pv_model::Version;
 use pv_model::limits::{BLOCK, BLOCKS_V1, BLOCKS_V2, INODES};
 use pv_tree::Store;
 use std::alloc::{AllocError, Global};
 
-/// The tree that a host's directory becomes, and what was left out of it.
+/// The tree of a host directory, and the entries that were skipped.
 #[derive(Drop)]
 pub struct Imported {
-    /// The tree, in an image of the greatest size of its version.
+    /// The tree, in an image of the maximum size of its version.
     pub store: Store,
-    /// What was left out of it, in the order of the names.
-    pub told: Vec<Told>,
+    /// The entries that were skipped, in the order of their names.
+    pub reported: Vec<Skipped>,
 }
 
-// The blocks of the greatest image of a version.
+// Returns the maximum number of blocks of an image of a version.
 fn greatest_blocks(version: Version) -> u16
     ensures { result ≡ blocks_of version }
 {
@@ -36,7 +36,7 @@ fn greatest_blocks(version: Version) -> u16
     }
 }
 
-// The root alone, in an image of the greatest size.
+// Creates a tree with only a root, in an image of the maximum size.
 fn empty(alloc: Global, version: Version) -> Result<Importing, AllocError>
     ensures holds { IfOk result (Holds (greatest_tree version) nothing_gathered) }
     ensures version { IfOk result (λ importing. importing.version ≡ version) }
@@ -48,32 +48,33 @@ fn empty(alloc: Global, version: Version) -> Result<Importing, AllocError>
         tree: store.into_tree(),
         version,
         firsts: Vec::new(alloc),
-        told: Vec::new(alloc),
+        reported: Vec::new(alloc),
     })
 }
 
-/// The tree of what a host's directory has: that of the manifest which its entries spell, in the order of the names, each
-/// directory before what is in it. Two names of one file or link are names of one node. The image has the greatest size of
-/// its version, 4,096 inodes and 8,192 or 65,535 blocks: so programs that run on it have all the room that the format gives,
-/// and what has no room in it has none in any.
+/// Imports a host directory: builds the tree of the manifest of its entries, in byte order of their names, each
+/// directory before its entries. Two names of one file or symbolic link become names of one node. The image has the
+/// maximum size of its version, 4,096 inodes and 8,192 or 65,535 blocks. So programs that run on it have all the room
+/// that the format allows, and a directory that does not fit in it fits in no image.
 ///
-/// What an image of the version can't have is left out and told: a name that is too long, with all that it has where it is a
-/// directory; a file of more bytes than a file may have; a link whose text is too long; and what is no directory, file or link.
+/// Entries that an image of the version cannot contain are skipped and reported: a name that is too long, with all
+/// entries below it if it is a directory; a file that is too long; a symbolic link whose target is too long; and
+/// anything that is not a directory, file or symbolic link.
 ///
 /// # Errors
 ///
-/// - `Read`: something of the host could not be read.
-/// - `Memory`: memory was refused.
-/// - `Entry`: a path could not be added to the tree of those before it. Its fault is `Room` where the image has not the inodes
-///   or the blocks, or a directory has more names than one may have; another comes only where the host tells a name twice, or
-///   one with a slash in it.
+/// - `Read`: a part of the directory cannot be read.
+/// - `Memory`: memory cannot be allocated.
+/// - `Entry`: a path cannot be added to the tree of the paths before it. Its fault is `Room` if the image has too few
+///   inodes or blocks, or a directory has too many names. The other faults occur only if the host returns a name twice,
+///   or a name that contains a slash.
 pub fn import_tree<D: HostDirectory>(
     alloc: Global,
     version: Version,
     directory: D,
 ) -> Result<Imported, CopyStop>
     ensures tree { IfOk result (λ imported. IfSome (D.rest directory) (λ host. IsTreeOf version host imported.store)) }
-    ensures told { IfOk result (λ imported. IfSome (D.rest directory) (λ host. map told_pair imported.told.items ≡ left_out version host)) }
+    ensures reported { IfOk result (λ imported. IfSome (D.rest directory) (λ host. map skipped_pair imported.reported.items ≡ left_out version host)) }
     ensures stopped { IfErr result (StopsCopy version (D.rest directory)) }
 {
     let mut importing = empty(alloc, version)?;
@@ -83,11 +84,11 @@ pub fn import_tree<D: HostDirectory>(
         mut tree,
         version: _,
         firsts: _,
-        told,
+        reported,
     } = importing;
     tree.order_entries();
     Ok(Imported {
         store: Store::of_tree(tree),
-        told,
+        reported,
     })
 }

@@ -1,4 +1,4 @@
-//! What is imported so far.
+//! The state of an import.
 ghost use Rattle.std.specs.Prelude.{◌≡◌, ◌-◌, ◌+◌, [], true, IsTrue, OnOk};
 ghost use Rattle.std.specs.List.{list_all};
 ghost use Rattle.pv_model.specs.Room.{greatest_length};
@@ -11,23 +11,23 @@ ghost use Rattle.pv_host_copy.specs.Paths.{is_path};
 use crate::adding::add_under;
 use crate::content::Content;
 use crate::entry::Identity;
-use crate::fault::{CopyStop, Why};
+use crate::fault::{CopyStop, SkipReason};
 use crate::file::HostFile;
 use crate::first::{First, first_of};
 use crate::paths::{is_link_text, is_path};
 use crate::reading::read_within;
-use crate::told::Told;
+use crate::skipped::Skipped;
 use pv_model::{Layout, Version};
 use pv_tree::{Store, Tree};
 use std::alloc::{AllocError, Global};
 
-/// The tree so far, the first paths of the files and links in it, and what was left out.
+/// The tree so far, the first paths of its files and symbolic links, and the entries that were skipped.
 #[derive(Drop)]
 pub(crate) struct Importing {
     pub(crate) tree: Box<Tree>,
     pub(crate) version: Version,
     pub(crate) firsts: Vec<First>,
-    pub(crate) told: Vec<Told>,
+    pub(crate) reported: Vec<Skipped>,
     ghost same_version: { tree.value.tree.version ≡ version },
     ghost unheld: { IsUnheld tree.value.holds },
     ghost named: { IsTrue (list_all (has_path version) firsts.items) },
@@ -36,19 +36,24 @@ pub(crate) struct Importing {
 impl Importing {
     ghost use Rattle.pv_host_copy.specs.Importing.{Goes, GoesIf, Keeps, Settles, Steps};
     ghost use Rattle.pv_host_copy.specs.Entries.{entry_of};
-    ghost use Rattle.pv_host_copy.specs.Gathered.{and_entry, and_told, and_file, and_link, and_first_entry};
+    ghost use Rattle.pv_host_copy.specs.Gathered.{and_entry, and_skipped, and_file, and_link, and_first_entry};
 
-    /// Leaves a path out.
-    pub(crate) fn tell(&mut self, alloc: Global, path: &[u8], why: Why) -> Result<(), AllocError>
-        ensures steps { OnOk result (Steps (and_told path.now why) self.old self.new) }
+    /// Records a skipped path.
+    pub(crate) fn report(
+        &mut self,
+        alloc: Global,
+        path: &[u8],
+        why: SkipReason,
+    ) -> Result<(), AllocError>
+        ensures steps { OnOk result (Steps (and_skipped path.now why) self.old self.new) }
         ensures version { self.new.version ≡ self.old.version }
     {
         let path = Vec::from_slice(alloc, path)?;
-        self.told.push(Told { path, why })?;
+        self.reported.push(Skipped { path, why })?;
         Ok(())
     }
 
-    // Adds an entry under a path.
+    // Adds an entry at a path.
     fn add(&mut self, alloc: Global, path: &[u8], content: Content) -> Result<(), CopyStop>
         requires named { IsTrue (is_path self.old.version path.now) }
         requires formed { IsTrue (is_content self.old.version content) }
@@ -58,7 +63,7 @@ impl Importing {
         add_under(alloc, &mut *self.tree, path, content)
     }
 
-    // Adds a file or link under its first path.
+    // Adds a file or symbolic link at its first path.
     fn add_first(
         &mut self,
         alloc: Global,
@@ -77,14 +82,14 @@ impl Importing {
         Ok(())
     }
 
-    // Leaves a file or link out whose path is none, and gives one that was kept under another path a further name here;
-    // whether it did either.
+    // Skips a file or symbolic link if its path is invalid. If it was added at another path, adds a name for it.
+    // Returns whether it did either.
     fn settle(&mut self, alloc: Global, path: &[u8], identity: Identity) -> Result<bool, CopyStop>
         ensures settles { Settles path.now identity self.old result self.new }
         ensures version { self.new.version ≡ self.old.version }
     {
         if !is_path(self.version, path) {
-            self.tell(alloc, path, Why::Name)?;
+            self.report(alloc, path, SkipReason::Name)?;
             return Ok(true);
         }
         let Some(first) = first_of(&self.firsts, self.version, identity) else {
@@ -94,7 +99,8 @@ impl Importing {
         Ok(true)
     }
 
-    /// Keeps a file under a path, or leaves it out. It stands apart, as the next two, so that the way down takes little stack.
+    /// Adds a file at a path, or skips it. This function and the next two are not inlined, so that the recursion needs
+    /// little stack.
     #[inline(never)]
     pub(crate) fn keep_file<F: HostFile>(
         &mut self,
@@ -112,7 +118,7 @@ impl Importing {
         }
         let limit = self.version.layout().greatest_length;
         let Some(bytes) = read_within(alloc, file, limit)? else {
-            self.tell(alloc, path, Why::Size)?;
+            self.report(alloc, path, SkipReason::Size)?;
             return Ok(());
         };
         let content = Content::File {
@@ -122,7 +128,7 @@ impl Importing {
         self.add_first(alloc, path, identity, content)
     }
 
-    /// Keeps a link under a path, or leaves it out.
+    /// Adds a symbolic link at a path, or skips it.
     #[inline(never)]
     pub(crate) fn keep_link(
         &mut self,
@@ -138,20 +144,20 @@ impl Importing {
             return Ok(());
         }
         if !is_link_text(text) {
-            self.tell(alloc, path, Why::Text)?;
+            self.report(alloc, path, SkipReason::Text)?;
             return Ok(());
         }
         self.add_first(alloc, path, identity, Content::Link(text))
     }
 
-    /// Keeps a directory under a path, without what is in it, or leaves it out; whether it is kept.
+    /// Adds a directory without its entries at a path, or skips it. Returns whether it was added.
     #[inline(never)]
     pub(crate) fn keep_directory(&mut self, alloc: Global, path: &[u8]) -> Result<bool, CopyStop>
         ensures keeps { Keeps path.now self.old result self.new }
         ensures version { self.new.version ≡ self.old.version }
     {
         if !is_path(self.version, path) {
-            self.tell(alloc, path, Why::Name)?;
+            self.report(alloc, path, SkipReason::Name)?;
             return Ok(false);
         }
         self.add(alloc, path, Content::Directory)?;

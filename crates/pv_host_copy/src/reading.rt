@@ -1,26 +1,26 @@
-//! Files that are read whole, up to a greatest length.
+//! Reading a file to its end, up to a maximum length.
 ghost use Rattle.std.specs.Prelude.{◌≢◌, Err, IfOk, IfSome, IsSome};
-ghost use Rattle.pv_host_copy.specs.Reading.{IsWhole};
+ghost use Rattle.pv_host_copy.specs.Reading.{IsValid};
 
 use crate::fault::HostFault;
 use crate::file::HostFile;
 use std::alloc::Global;
 
-// How many bytes a file is asked for at a time.
+// The number of bytes that are requested from a file at a time.
 const CHUNK: usize = 4_096;
 
-/// All that a file gives; none where these are more than `limit` bytes.
+/// Reads a file to its end. Returns `None` if it has more than `limit` bytes.
 ///
 /// # Errors
 ///
-/// `Read` where a read failed; `Memory` where memory was refused.
+/// Returns `Read` if a read fails. Returns `Memory` if memory cannot be allocated.
 #[tactic(auto, using(pv_streams::proofs::Sources::read_more, crate::proofs::WholeReads::stays_known, crate::proofs::WholeReads::whole_read, crate::proofs::WholeReads::more_read))]
 pub(crate) fn read_within<F: HostFile>(
     alloc: Global,
     file: &mut F,
     limit: u32,
 ) -> Result<Option<Vec<u8>>, HostFault>
-    ensures whole { IfOk result (λ read. IfSome (F.bytes file.old) (λ all. IsWhole limit all read)) }
+    ensures whole { IfOk result (λ read. IfSome (F.bytes file.old) (λ all. IsValid limit all read)) }
     ensures known { IsSome (F.bytes file.old) → result ≢ Err HostFault.Read }
 {
     let mut bytes = Vec::new(alloc);

@@ -1,18 +1,18 @@
-//! Where what an image has is made on a host.
+//! The host directory in which a tree is created.
 ghost use Rattle.std.specs.Prelude.{◌≡◌, [], List, Option, OnOk, OnErr};
-ghost use Rattle.pv_host_copy.specs.Spelled.{and_made};
+ghost use Rattle.pv_host_copy.specs.Encoded.{and_made};
 ghost use Rattle.pv_host_copy.specs.declared.target.TargetFault.TheVariants.{Memory as NoMemory};
 ghost use Rattle.pv_model.specs.Manifest.{Entry, make, further_name};
 ghost use Rattle.pv_model.specs.Tree.{directory_node, file_node, link_node};
 
 use std::alloc::{AllocError, AllocFailed, Global};
 
-/// What a host does not do.
+/// An error of a host while it creates a tree.
 #[derive(Clone, Copy, Debug, PartialEq, Eq)]
 pub enum TargetFault {
-    /// A directory, a file or a link was not made, or not whole.
+    /// A directory, a file or a symbolic link was not created, or not completely.
     Make,
-    /// Memory was refused.
+    /// Memory cannot be allocated.
     Memory,
 }
 
@@ -32,28 +32,30 @@ impl<T: Drop> From<AllocFailed<T>> for TargetFault {
     }
 }
 
-/// An empty directory of a host, in which directories, files and links are made under paths: a slash before each name.
+/// An empty host directory in which directories, files and symbolic links are created at paths. A path has a slash
+/// before each name.
 ///
-/// Each is made under a path that nothing has: where something is there, even a link, it is not followed, and nothing is
-/// made. A clause sees what was made whole so far, where it is known (that of a system's directory is not).
+/// Each is created at a path that does not exist. If something exists at the path, even a symbolic link, it is not
+/// followed, and nothing is created. Contracts see the entries that were created completely, if they are known. Those
+/// of a directory of the real system are unknown.
 pub trait HostTarget {
-    /// What was made whole so far, in order, where it is known.
+    /// The entries that were created completely, in order, if they are known.
     ghost made: { Self → Option (List Entry) };
 
-    /// Makes an empty directory under a path.
+    /// Creates an empty directory at a path.
     ///
     /// # Errors
     ///
-    /// `Make` where it was not made; `Memory` where memory was refused.
+    /// Returns `Make` if it was not created. Returns `Memory` if memory cannot be allocated.
     fn make_directory(&mut self, alloc: Global, path: &[u8]) -> Result<(), TargetFault>
         ensures ok { OnOk result (made self.new ≡ and_made (made self.old) (make path.now (directory_node []))) }
         ensures err { OnErr result (made self.new ≡ made self.old) };
 
-    /// Makes a file with its bytes, which may be executed or not.
+    /// Creates a file with its bytes, which may be executable.
     ///
     /// # Errors
     ///
-    /// `Make` where it was not made, or not whole; `Memory` where memory was refused.
+    /// Returns `Make` if it was not created, or not completely. Returns `Memory` if memory cannot be allocated.
     fn make_file(
         &mut self,
         alloc: Global,
@@ -64,20 +66,20 @@ pub trait HostTarget {
         ensures ok { OnOk result (made self.new ≡ and_made (made self.old) (make path.now (file_node executable bytes.now))) }
         ensures err { OnErr result (made self.new ≡ made self.old) };
 
-    /// Makes a symbolic link with its text.
+    /// Creates a symbolic link with its target.
     ///
     /// # Errors
     ///
-    /// `Make` where it was not made; `Memory` where memory was refused.
+    /// Returns `Make` if it was not created. Returns `Memory` if memory cannot be allocated.
     fn make_link(&mut self, alloc: Global, path: &[u8], text: &[u8]) -> Result<(), TargetFault>
         ensures ok { OnOk result (made self.new ≡ and_made (made self.old) (make path.now (link_node text.now))) }
         ensures err { OnErr result (made self.new ≡ made self.old) };
 
-    /// Gives the file or link that was made under a path a further name. A link is not followed.
+    /// Adds a name to the file or symbolic link that was created at `source`. A symbolic link is not followed.
     ///
     /// # Errors
     ///
-    /// `Make` where it was not given; `Memory` where memory was refused.
+    /// Returns `Make` if the name was not added. Returns `Memory` if memory cannot be allocated.
     fn make_name(&mut self, alloc: Global, path: &[u8], source: &[u8]) -> Result<(), TargetFault>
         ensures ok { OnOk result (made self.new ≡ and_made (made self.old) (further_name path.now source.now)) }
         ensures err { OnErr result (made self.new ≡ made self.old) };

@@ -1,10 +1,10 @@
-//! The image of a source as a directory of a host.
+//! Exporting the image of a source to a host directory.
 ghost use Rattle.std.specs.Prelude.{◌≡◌, IfOk, IfErr, IfSome, Err, Ok};
 ghost use Rattle.pv_model.specs.Mount.{mounted};
 ghost use Rattle.pv_model.specs.Stream.{Rose};
 ghost use Rattle.pv_streams.specs.Sources.{FailsToGive};
-ghost use Rattle.pv_host_copy.specs.Spelled.{spelled_entries};
-ghost use Rattle.pv_host_copy.specs.Unpacked.{IsReadFault, IsReadOrWant, StandsInImage, TellsExport, TellsUnmade};
+ghost use Rattle.pv_host_copy.specs.Encoded.{encoded_entries};
+ghost use Rattle.pv_host_copy.specs.Unpacked.{IsReadFault, IsReadOrOutOfMemory, AppearsInImage, WritesExport, ReportsUnmade};
 
 use crate::exporting::{ExportStop, export};
 use crate::lines::write_unmade;
@@ -16,24 +16,24 @@ use pv_tree::{Store, Tree};
 use std::alloc::Global;
 use std::fmt;
 
-/// Why the tree of an image was not made on a host, or not whole.
+/// Why the tree of an image was not exported, or not completely.
 #[derive(Clone, Copy, Debug, PartialEq, Eq)]
 pub enum ExportFault {
-    /// The source of the image failed, or gave more bytes than one may give.
+    /// The source of the image failed, or has more bytes than the limit.
     Read,
-    /// The bytes are no image.
+    /// The bytes are not an image.
     Image(ImageFault),
-    /// Memory was refused.
+    /// Memory cannot be allocated.
     Memory,
-    /// The directory was not made, or is none that has nothing.
+    /// The directory cannot be created, or exists and is not an empty directory.
     Directory,
-    /// Something of the tree was not made, or not whole. It was told.
+    /// A node of the tree was not created, or not completely. It was reported.
     Make,
-    /// What was not made was not told, or not all.
+    /// A write of the report of a node that was not created failed.
     WriteLine,
 }
 
-/// The text for a person, without an LF.
+/// The message for the user, without a line feed.
 impl fmt::Display for ExportFault {
     fn fmt<W: fmt::Write>(&self, f: &mut fmt::Formatter<W>) -> fmt::Result {
         match self {
@@ -47,11 +47,11 @@ impl fmt::Display for ExportFault {
     }
 }
 
-// Reads an image whole.
+// Reads an image to its end.
 fn read_image<S: Source>(alloc: Global, image: &mut S) -> Result<Vec<u8>, ExportFault>
     ensures whole { IfOk result (λ bytes. IfSome (S.remaining image.old) (λ all. all ≡ bytes.items)) }
     ensures read { result ≡ Err ExportFault.Read → FailsToGive S.Source image.old image.new }
-    ensures kind { IfErr result IsReadOrWant }
+    ensures kind { IfErr result IsReadOrOutOfMemory }
 {
     match read_whole(alloc, image) {
         Ok(bytes) => Ok(bytes),
@@ -60,16 +60,16 @@ fn read_image<S: Source>(alloc: Global, image: &mut S) -> Result<Vec<u8>, Export
     }
 }
 
-/// The tree of the image that a source gives, with its names in order.
+/// Reads an image from a source and returns its tree, with directories sorted by name.
 ///
 /// # Errors
 ///
-/// - `Read`: a read failed, or the source gave more than 67,108,864 bytes.
-/// - `Image`: the first fault of the image; it is never its want of memory.
-/// - `Memory`: memory was refused.
+/// - `Read`: a read failed, or the source has more than 67,108,864 bytes.
+/// - `Image`: the first error of the image. It is never `Memory`.
+/// - `Memory`: memory cannot be allocated.
 pub fn read_tree<S: Source>(alloc: Global, image: &mut S) -> Result<Store, ExportFault>
     ensures tree { IfOk result (λ store. IfSome (S.remaining image.old) (λ bytes. mounted bytes ≡ Ok store)) }
-    ensures refused { IfErr result (λ fault. IfSome (S.remaining image.old) (λ bytes. StandsInImage (mounted bytes) fault)) }
+    ensures refused { IfErr result (λ fault. IfSome (S.remaining image.old) (λ bytes. AppearsInImage (mounted bytes) fault)) }
     ensures read { result ≡ Err ExportFault.Read → FailsToGive S.Source image.old image.new }
     ensures kind { IfErr result IsReadFault }
 {
@@ -83,9 +83,9 @@ pub fn read_tree<S: Source>(alloc: Global, image: &mut S) -> Result<Store, Expor
     Ok(store)
 }
 
-// Tells under which path something was not made.
-fn tell_unmade<E: Sink>(alloc: Global, path: &[u8], errors: &mut E) -> ExportFault
-    ensures tells { TellsUnmade path.now (E.written errors.old) result (E.written errors.new) }
+// Reports the path of a node that was not created.
+fn report_unmade<E: Sink>(alloc: Global, path: &[u8], errors: &mut E) -> ExportFault
+    ensures reports { ReportsUnmade path.now (E.written errors.old) result (E.written errors.new) }
     ensures failed { result ≡ ExportFault.WriteLine → Rose (E.failures errors.old) (E.failures errors.new) }
 {
     let mut line = Gathered::new(alloc);
@@ -98,26 +98,27 @@ fn tell_unmade<E: Sink>(alloc: Global, path: &[u8], errors: &mut E) -> ExportFau
     }
 }
 
-/// Makes what the tree of an image has in an empty directory of a host, as `export` does, and tells in a line under which path
-/// something was not made.
+/// Creates the tree of an image in an empty host directory, as `export` does. If a node is not created, its path is
+/// reported in a line.
 ///
 /// # Errors
 ///
-/// - `Memory`: memory was refused; a beginning was made, and nothing was told.
-/// - `Make`: what stands under a path was not made, or not whole, which was told; all that comes before it was made.
-/// - `WriteLine`: the same, but a write to `errors` failed; it was given a beginning of the line.
+/// - `Memory`: memory cannot be allocated. The nodes before some path were created, and nothing was reported.
+/// - `Make`: a node was not created, or not completely, which was reported. All nodes before it were created.
+/// - `WriteLine`: a node was not created, or not completely, and a write to `errors` failed. `errors` has received a
+///   prefix of the line.
 pub fn export_tree<T: HostTarget, E: Sink>(
     alloc: Global,
     tree: &Tree,
     target: &mut T,
     errors: &mut E,
 ) -> Result<(), ExportFault>
-    ensures exports { TellsExport (spelled_entries tree.now.tree) (T.made target.old) (T.made target.new) (E.written errors.old) result (E.written errors.new) }
+    ensures exports { WritesExport (encoded_entries tree.now.tree) (T.made target.old) (T.made target.new) (E.written errors.old) result (E.written errors.new) }
     ensures failed { result ≡ Err ExportFault.WriteLine → Rose (E.failures errors.old) (E.failures errors.new) }
 {
     match export(alloc, tree, target) {
         Ok(()) => Ok(()),
-        Err(ExportStop::Make(path)) => Err(tell_unmade(alloc, &path, errors)),
+        Err(ExportStop::Make(path)) => Err(report_unmade(alloc, &path, errors)),
         Err(ExportStop::Memory) => Err(ExportFault::Memory),
     }
 }

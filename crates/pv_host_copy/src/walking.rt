@@ -1,4 +1,4 @@
-//! The way down a host's directories.
+//! Recursion into the directories of a host.
 ghost use Rattle.std.specs.Prelude.{◌≡◌, OnOk};
 ghost use Rattle.pv_host_copy.specs.Gathered.{gather};
 ghost use Rattle.pv_host_copy.specs.Importing.{GoesIf};
@@ -6,11 +6,11 @@ ghost use Rattle.pv_host_copy.specs.Walking.{GoesByNode};
 
 use crate::directory::HostDirectory;
 use crate::entry::{HostEntry, HostNode};
-use crate::fault::{CopyStop, Why};
+use crate::fault::{CopyStop, SkipReason};
 use crate::importing::Importing;
 use std::alloc::Global;
 
-// Keeps what stands under a path, a directory with all that is in it.
+// Adds a node at a path, a directory with everything below it.
 #[cycle(walking)]
 fn take<D: HostDirectory>(
     alloc: Global,
@@ -36,18 +36,18 @@ fn take<D: HostDirectory>(
         } => importing.keep_file(alloc, path, identity, executable, &mut reader),
         HostNode::Link { identity, text } => importing.keep_link(alloc, path, identity, &text),
         HostNode::Other => {
-            importing.tell(alloc, path, Why::Kind)?;
+            importing.report(alloc, path, SkipReason::Kind)?;
             Ok(())
         }
     }
 }
 
-/// Keeps all that a directory under a path has.
+/// Adds all entries of the directory at a path.
 ///
 /// # Errors
 ///
-/// `Read` where something of the host could not be read, `Memory` where memory was refused, and `Entry` where an entry could
-/// not be added.
+/// Returns `Read` if a part of the directory cannot be read, `Memory` if memory cannot be allocated, and `Entry` if an
+/// entry cannot be added.
 #[cycle(walking)]
 pub(crate) fn import_directory<D: HostDirectory>(
     alloc: Global,

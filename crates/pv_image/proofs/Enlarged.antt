@@ -8,13 +8,13 @@ use Rattle.pv_model.specs.Image.{inode_blocks}
 use Rattle.pv_model.specs.Mount.{are_image_sizes}
 use Rattle.pv_model.specs.Tree.{Node, Tree, node_at}
 use Rattle.pv_laws_trees.proofs.Numbered.{same_numbered}
-use Rattle.pv_laws_trees.specs.Kept.{EachIsNamed}
-use Rattle.pv_laws_larger.proofs.Padded.{at-padded}
+use Rattle.pv_laws_trees.specs.Preserved.{EachIsNamed}
+use Rattle.pv_laws_steps.proofs.Padded.{at-padded}
 use Rattle.pv_image_write.specs.Placed.{placed, named_need}
 use Rattle.pv_image.specs.Migrated.{data_blocks, needed, has_room, enlarged, KeepsNodes}
 use Rattle.pv_image.proofs.Named.{named_tree-all}
 
--- ---- what room is
+-- ---- room
 
 pub record IsRoomy (t : Tree) (blocks inodes : ℕ) : Type 0 where
   pub sizes : are_image_sizes V2 blocks inodes ≡ true
@@ -74,7 +74,7 @@ module _ (t : Tree) (blocks inodes : ℕ) where
         let left : u.blocks ≡ data_blocks blocks inodes = omega (arith, all) in
         λ i. record { nodes = nodes i; blocks = left i; inodes = is.all_inodes i; version = is.is_second i }
 
--- ---- what is written, where each node has a name
+-- ---- output, if each node has a name
 
 pub placed-enlarged : (t : Tree) → EachIsNamed t → (blocks inodes : ℕ) → placed t V2 blocks inodes ≡ enlarged t blocks inodes
 unfolding placed enlarged
@@ -84,7 +84,7 @@ pub named_need-needed : (t : Tree) → EachIsNamed t → named_need t V2 ≡ nee
 unfolding named_need needed
 named_need-needed t named = ap needed (named_tree-all t named)
 
--- what is tested last
+-- the last test
 pub room-is : (t : Tree) → EachIsNamed t → (blocks inodes blocks_needed table : ℕ) → are_image_sizes V2 blocks inodes ≡ true → nat_le t.inodes inodes ≡ true
     → blocks_needed ≡ named_need t V2 → table ≡ inode_blocks V2 inodes → nat_le blocks_needed (blocks - table - 1) ≡ has_room t blocks inodes
 unfolding has_room

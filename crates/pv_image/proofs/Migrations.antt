@@ -1,4 +1,4 @@
--- What becomes of bytes, in other words.
+-- The results of migration, in other words.
 use Rattle.std.proofs.Common.{◌≡◌, ℕ, ◌<◌, ◌≤◌, Bool, true, false, length, take, Option, Result, Ok, Err, bytes_eq, get_or, refl, ap, sym, subst, ◌∙◌, ◌⊎◌, inl, inr, ⊎_elim, arith}
 use Rattle.std.specs.Prelude.{if◌then◌else◌, nat_lt}
 use Rattle.std.proofs.lemmas.Bool.{le-ltb, lt-ltb}
@@ -16,18 +16,18 @@ use Rattle.pv_model.specs.Mount.{mounted}
 use Rattle.pv_model.specs.RunFault.{of_image_migrated}
 use Rattle.pv_model.specs.Start.{and_then}
 use Rattle.pv_model.specs.Tree.{Tree}
-use Rattle.pv_laws_images.proofs.Back.{image-mounted}
-use Rattle.pv_laws_images.proofs.Images.{mounted-image}
-use Rattle.pv_laws_trees.specs.Kept.{EachIsNamed}
+use Rattle.pv_laws_trees.proofs.Back.{image-mounted}
+use Rattle.pv_laws_trees.proofs.Images.{mounted-image}
+use Rattle.pv_laws_trees.specs.Preserved.{EachIsNamed}
 use Rattle.pv_image_write.specs.Placed.{placed}
-use Rattle.pv_image_write.specs.Written.{TellsImage, BeginsImage}
+use Rattle.pv_image_write.specs.Written.{WritesImage, BeginsImage}
 use Rattle.pv_image.specs.Migrated.{mounted_first, has_room, enlarged, enlarged_within, migrated, IsFirstImageOf, KeepsNodes, Migrates, LacksRoom, IsMigrated}
-use Rattle.pv_image.specs.Written.{TellsMigrated, BeginsMigrated}
+use Rattle.pv_image.specs.Written.{WritesMigrated, BeginsMigrated}
 use Rattle.pv_image.proofs.Enlarged.{roomy, enlarged-keeps, keeps-enlarged, placed-enlarged}
 
 -- ---- images of version 1
 
--- which of three answers comes of bytes
+-- the choice between three results
 abbrev chosen : Bool → Bool → Result Tree ImageFault → Result Tree ImageFault
 chosen short first r = if short then Err Short else if first then r else Err Magic
 
@@ -36,7 +36,7 @@ of-chosen true first r t is = cc is
 of-chosen false true r t is = (refl, is)
 of-chosen false false r t is = cc is
 
--- no bytes begin as images of both versions
+-- no bytes start with the magic numbers of both versions
 other-version : (v : Version) (front : Bytes) → front ≡ magic V1 → front ≡ magic v → v ≡ V1
 other-version V1 front first is = refl
 other-version V2 front first is = let no : 49 ≡ 50 = ap (λ (bs : Bytes). get_or bs 7 0) (sym first ∙ is) in absurd (omega (arith, no))
@@ -70,7 +70,7 @@ image-first bytes t is =
     let some = held.blocks_allowed.0 in
     mounted-first bytes (omega (arith, all, some)) (held.has_magic ∙ ap magic is.is_first) ∙ image-mounted bytes t held
 
--- ---- what becomes of them
+-- ---- the results
 
 module _ (bytes : Bytes) (blocks inodes : ℕ) where
   abbrev after : Result Tree ImageFault → Result Tree MigrateFault
@@ -88,7 +88,7 @@ module _ (bytes : Bytes) (blocks inodes : ℕ) where
   migrated-small t held cramped =
       migrated-of (Ok t) held ∙ ap (λ b. let r : Result Tree MigrateFault = if b then Ok (enlarged t blocks inodes) else Err Small in r) cramped
 
-  -- ---- Ok
+  -- ---- success
 
   keeps-of : (t : Tree) → IsFirstImageOf bytes t → has_room t blocks inodes ≡ true → KeepsNodes t blocks inodes (enlarged t blocks inodes)
   keeps-of t is room = let r = roomy t blocks inodes room in enlarged-keeps t blocks inodes is.is_image.well_formed.numbers r.as_many r.table
@@ -108,7 +108,7 @@ module _ (bytes : Bytes) (blocks inodes : ℕ) where
 
       by : (r : Result Tree ImageFault) → mounted_first bytes ≡ r → Migrates bytes blocks inodes new
       by (Ok t) held = room-of t held (has_room t blocks inodes) refl
-      by (Err fault) wrong = let no = sym (migrated-of (Err fault) wrong) ∙ is in cc no
+      by (Err fault) invalid = let no = sym (migrated-of (Err fault) invalid) ∙ is in cc no
 
   pub from-migrates : (new : Tree) → Migrates bytes blocks inodes new → migrated bytes blocks inodes ≡ Ok new
   from-migrates new m =
@@ -116,7 +116,7 @@ module _ (bytes : Bytes) (blocks inodes : ℕ) where
       migrated-room m.old (image-first bytes m.old m.held) m.roomy
       ∙ ap (λ (u : Tree). let x : Result Tree MigrateFault = Ok u in x) (sym (keeps-enlarged m.old blocks inodes m.held.is_image.well_formed.numbers r.as_many new m.keeps))
 
-  -- ---- Small
+  -- ---- lack of room
 
   pub to-lacks : migrated bytes blocks inodes ≡ Err Small → LacksRoom bytes blocks inodes
   to-lacks is = by (mounted_first bytes) refl
@@ -127,12 +127,12 @@ module _ (bytes : Bytes) (blocks inodes : ℕ) where
 
       by : (r : Result Tree ImageFault) → mounted_first bytes ≡ r → LacksRoom bytes blocks inodes
       by (Ok t) held = room-of t held (has_room t blocks inodes) refl
-      by (Err fault) wrong = let no = sym (migrated-of (Err fault) wrong) ∙ is in cc no
+      by (Err fault) invalid = let no = sym (migrated-of (Err fault) invalid) ∙ is in cc no
 
   pub from-lacks : LacksRoom bytes blocks inodes → migrated bytes blocks inodes ≡ Err Small
   from-lacks l = migrated-small l.old (image-first bytes l.old l.held) l.cramped
 
-  -- ---- the image's fault
+  -- ---- errors of the image
 
   pub to-fault : (fault : ImageFault) → migrated bytes blocks inodes ≡ Err (Image fault) → mounted_first bytes ≡ Err fault
   to-fault fault is = by (mounted_first bytes) refl
@@ -143,17 +143,17 @@ module _ (bytes : Bytes) (blocks inodes : ℕ) where
 
       by : (r : Result Tree ImageFault) → mounted_first bytes ≡ r → mounted_first bytes ≡ Err fault
       by (Ok t) held = room-of t held (has_room t blocks inodes) refl
-      by (Err other) wrong = let both = sym (migrated-of (Err other) wrong) ∙ is in let same : other ≡ fault = cc both in wrong ∙ ap (λ f. let x : Result Tree ImageFault = Err f in x) same
+      by (Err other) invalid = let both = sym (migrated-of (Err other) invalid) ∙ is in let same : other ≡ fault = cc both in invalid ∙ ap (λ f. let x : Result Tree ImageFault = Err f in x) same
 
   pub from-fault : (fault : ImageFault) → mounted_first bytes ≡ Err fault → migrated bytes blocks inodes ≡ Err (Image fault)
   from-fault fault is = migrated-of (Err fault) is
 
--- ---- what mounting and writing answer
+-- ---- errors of mounting and writing
 
 pub first-mounted : (bytes : Bytes) (t : Tree) → mounted_first bytes ≡ Ok t → mounted bytes ≡ Ok t
 first-mounted bytes t is = image-mounted bytes t (first-image bytes t is).is_image
 
--- want of memory, or a fault of the image
+-- out of memory, or an error of the image
 written-as : (f : ImageFault) → (of_image_migrated f ≡ Memory) ⊎ (of_image_migrated f ≡ Image f)
 written-as Short = inr refl
 written-as Magic = inr refl
@@ -165,7 +165,7 @@ written-as (NoTree n) = inr refl
 written-as ImageMemory = inl refl
 
 module _ (bytes : Bytes) (blocks inodes : ℕ) where
-  -- an image that is refused
+  -- an image that is invalid
   pub refuses-image : (f : ImageFault) (e : MigrateFault) → e ≡ of_image_migrated f → (f ≡ ImageMemory) ⊎ (mounted_first bytes ≡ Err f)
       → (e ≡ Memory) ⊎ (migrated bytes blocks inodes ≡ Err e)
   refuses-image f e is why =
@@ -195,13 +195,13 @@ module _ (bytes : Bytes) (blocks inodes : ℕ) where
       keeps = keeps-of bytes blocks inodes old (first-image bytes old held) room-old;
     }
 
-    pub tells-migrated : (before after : Option Bytes) → TellsImage (placed u V2 blocks inodes) before after → TellsMigrated bytes blocks inodes before after
-    tells-migrated before after written = record {
+    pub reports-migrated : (before after : Option Bytes) → WritesImage (placed u V2 blocks inodes) before after → WritesMigrated bytes blocks inodes before after
+    reports-migrated before after written = record {
       tree = enlarged old blocks inodes;
       is_new = becomes;
       image = written.image;
       holds = as_written-enlarged written.image written.holds;
-      kept = as_written-migrated written.image written.holds;
+      preserved = as_written-migrated written.image written.holds;
       written = written.written;
     }
 
@@ -211,6 +211,6 @@ module _ (bytes : Bytes) (blocks inodes : ℕ) where
       is_new = becomes;
       image = begun.image;
       holds = as_written-enlarged begun.image begun.holds;
-      kept = as_written-migrated begun.image begun.holds;
+      preserved = as_written-migrated begun.image begun.holds;
       written = begun.written;
     }

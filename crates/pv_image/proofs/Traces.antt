@@ -1,10 +1,10 @@
--- Runs on an image, and on the one of version 2 that it becomes.
+-- Runs on an image, and on the migrated image.
 use Rattle.std.proofs.Common.{◌≡◌, ℕ, suc, ◌*◌, ◌≤◌, true, Ok, ap, sym, subst, ◌∙◌}
 use Rattle.pv_model.specs.Bytes.{Bytes}
 use Rattle.pv_model.specs.Start.{Started, image_started}
 use Rattle.pv_laws_states.specs.States.{are_bytes}
-use Rattle.pv_laws_larger.specs.Images.{StartsAlike}
-use Rattle.pv_laws_larger.proofs.LargerImages.{larger-images}
+use Rattle.pv_laws_steps.specs.Images.{StartsAlike}
+use Rattle.pv_laws_steps.proofs.LargerImages.{larger-images}
 use Rattle.pv_image.specs.Migrated.{IsMigrated}
 
 pub migrated-keep_traces : (image larger schedule : Bytes) (blocks inodes : ℕ) (migrated : IsMigrated image blocks inodes larger) (started : Started) → are_bytes image ≡ true

@@ -1,4 +1,4 @@
--- What the tree of an image of version 1 becomes in one of version 2.
+-- Migration of the tree of an image from version 1 to version 2.
 use Rattle.std.specs.Prelude.{◌≡◌, ◌↔◌, ⊤, ℕ, suc, ◌+◌, ◌-◌, Bool, ◌&&◌, if◌then◌else◌, nat_le, nat_lt, IsTrue, IsFalse, length, take, sum_by, bytes_eq, Result, Ok, Err}
 use Rattle.pv_model.specs.declared.fault.ImageFault.{ImageFault}
 use Rattle.pv_model.specs.declared.fault.ImageFault.TheVariants.{Short, Magic, Memory as ImageMemory}
@@ -15,22 +15,23 @@ use Rattle.pv_model.specs.Start.{and_then}
 use Rattle.pv_model.specs.Tree.{Tree, node_at}
 use Rattle.pv_image_write.specs.Placed.{lengthened}
 
--- the tree that bytes hold as an image of version 1, or their first fault: any other magic is one
+-- the tree of an image of version 1, or the first error of the bytes; any other magic number is an error
 unfoldable pub mounted_first : Bytes → Result Tree ImageFault
 mounted_first bytes =
     if nat_lt (length bytes) BLOCK then Err Short
     else if bytes_eq (take 8 bytes) (magic V1) then mounted bytes
     else Err Magic
 
--- the data blocks of an image of version 2, of so many blocks in all, and inodes
+-- the number of data blocks of an image of version 2 with these numbers of blocks and inodes
 abbrev pub data_blocks : ℕ → ℕ → ℕ
 data_blocks blocks inodes = blocks - (inode_blocks V2 inodes + 1)
 
--- those that the nodes of a tree need in such an image
+-- the number of data blocks that the nodes of a tree need in such an image
 unfoldable pub needed : Tree → ℕ
 needed t = sum_by (λ node. need V2 (node_length V2 node)) (present t.nodes)
 
--- whether there is an image of version 2 of these sizes, with no fewer inodes than the tree's, and with room for its nodes
+-- whether an image of version 2 can have these sizes, has at least as many inodes as the tree, and has room for its
+-- nodes
 unfoldable pub has_room : Tree → ℕ → ℕ → Bool
 has_room t blocks inodes =
     are_image_sizes V2 blocks inodes && nat_le t.inodes inodes && nat_le (needed t) (data_blocks blocks inodes)
@@ -44,11 +45,11 @@ enlarged t blocks inodes = record {
   version = V2;
 }
 
--- that tree, where there is room
+-- that tree, if there is room
 abbrev pub enlarged_within : Tree → ℕ → ℕ → Result Tree MigrateFault
 enlarged_within t blocks inodes = if has_room t blocks inodes then Ok (enlarged t blocks inodes) else Err Small
 
--- what becomes of the tree that bytes hold: the image's first fault comes before want of room
+-- the result of migration: an error of the image comes before lack of room
 unfoldable pub migrated : Bytes → ℕ → ℕ → Result Tree MigrateFault
 migrated bytes blocks inodes = and_then Image (mounted_first bytes) (λ t. enlarged_within t blocks inodes)
 
@@ -59,7 +60,7 @@ pub record IsFirstImageOf (bytes : Bytes) (old : Tree) : Type 0 where
   pub is_image : IsImageOf bytes old
   pub is_first : old.version ≡ V1
 
--- a tree in an image of version 2 of just these sizes, with the nodes of an older tree under the same numbers
+-- a tree in an image of version 2 of exactly these sizes, with the nodes of an older tree under the same numbers
 pub record KeepsNodes (old : Tree) (blocks inodes : ℕ) (new : Tree) : Type 0 where
   pub same_nodes : (n : ℕ) → node_at new n ≡ node_at old n
   pub numbers : length new.nodes ≡ suc inodes
@@ -85,23 +86,23 @@ pub record LacksRoom (bytes : Bytes) (blocks inodes : ℕ) : Type 0 where
 abbrev pub MigratesImages : Type 0
 MigratesImages = (bytes : Bytes) (blocks inodes : ℕ) (new : Tree) → (migrated bytes blocks inodes ≡ Ok new) ↔ Migrates bytes blocks inodes new
 
-abbrev pub SmallIsWantOfRoom : Type 0
-SmallIsWantOfRoom = (bytes : Bytes) (blocks inodes : ℕ) → (migrated bytes blocks inodes ≡ Err Small) ↔ LacksRoom bytes blocks inodes
+abbrev pub SmallLacksRoom : Type 0
+SmallLacksRoom = (bytes : Bytes) (blocks inodes : ℕ) → (migrated bytes blocks inodes ≡ Err Small) ↔ LacksRoom bytes blocks inodes
 
 abbrev pub ImagesAreJudgedFirst : Type 0
 ImagesAreJudgedFirst =
     (bytes : Bytes) (blocks inodes : ℕ) (fault : ImageFault) → (migrated bytes blocks inodes ≡ Err (Image fault)) ↔ (mounted_first bytes ≡ Err fault)
 
--- ---- what is answered
+-- ---- errors
 
--- want of memory is answered as such
+-- out of memory is never reported as an error of the image
 abbrev pub IsMigrateFault : MigrateFault → Type 0
 IsMigrateFault (Image ImageMemory) = ⊥
 IsMigrateFault fault = ⊤
 
--- ---- what is written
+-- ---- output
 
--- new bytes are an image of what becomes of the tree in the old ones, mount as that tree, and have the same nodes under the same numbers
+-- the new bytes are an image of the migrated tree, mount as that tree, and have the same nodes under the same numbers
 pub record IsMigrated (old_bytes : Bytes) (blocks inodes : ℕ) (new_bytes : Bytes) : Type 0 where
   pub old : Tree
   pub new : Tree

@@ -1,12 +1,13 @@
--- Runs on an image, and on the one of version 2 that it becomes.
+-- Runs on an image, and on the migrated image.
 use Rattle.std.specs.Prelude.{◌≡◌, ◌≤◌, ℕ, ◌*◌, IsTrue, Ok}
 use Rattle.pv_model.specs.Bytes.{Bytes}
 use Rattle.pv_model.specs.Start.{Started, image_started}
 use Rattle.pv_laws_states.specs.States.{are_bytes}
-use Rattle.pv_laws_larger.specs.Images.{StartsAlike}
+use Rattle.pv_laws_steps.specs.Images.{StartsAlike}
 use Rattle.pv_image.specs.Migrated.{IsMigrated}
 
--- with at least five times the data blocks, and at least the inodes, what starts on an image starts alike on the one that it becomes: where the run answers no error of a limit, both texts are equal
+-- if the new image has at least five times the data blocks and at least as many inodes, a schedule that starts on the
+-- old image starts on the new one in the same way; if no call of the run fails at a limit, both traces are equal
 abbrev pub MigratedKeepTraces : Type 0
 MigratedKeepTraces =
     (image larger schedule : Bytes) (blocks inodes : ℕ) (migrated : IsMigrated image blocks inodes larger) (started : Started) → IsTrue (are_bytes image)

@@ -1,4 +1,4 @@
-//! The image of a tree, as bytes in memory.
+//! The image of a tree as bytes in memory.
 ghost use Rattle.std.specs.Prelude.{IfOk};
 ghost use Rattle.pv_model.specs.Held.{named_tree};
 ghost use Rattle.pv_model.specs.Image.{IsWrittenImageOf};
@@ -8,12 +8,12 @@ use pv_streams::Gathered;
 use pv_tree::Tree;
 use std::alloc::{AllocError, Global};
 
-/// An image of the tree: with only the root and the nodes in an entry, its sizes and version kept. What no node uses is
-/// zero.
+/// Returns an image of the tree with its sizes and version. The image contains only the root and the nodes with a name.
+/// Unused bytes are zero.
 ///
 /// # Errors
 ///
-/// `AllocError` where memory was refused.
+/// Returns `AllocError` if memory cannot be allocated.
 pub fn to_bytes(alloc: Global, tree: &Tree) -> Result<Vec<u8>, AllocError>
     ensures { IfOk result (λ bytes. IsWrittenImageOf bytes.items (named_tree tree.now.tree)) }
 {

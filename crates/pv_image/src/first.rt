@@ -12,7 +12,7 @@ use pv_model::{ImageFault, Version};
 use pv_tree::Store;
 use std::alloc::Global;
 
-// Whether bytes begin as an image of version 1 does.
+// Returns whether bytes start with the magic number of version 1.
 fn is_first(bytes: &[u8]) -> bool
     requires { MAGIC ≤ length bytes.now }
     ensures { result ≡ bytes_eq (take 8 bytes.now) (magic V1) }
@@ -20,11 +20,11 @@ fn is_first(bytes: &[u8]) -> bool
     &bytes[..MAGIC] == Version::V1.magic()
 }
 
-/// The store of the tree that bytes hold as an image of version 1.
+/// Checks an image of version 1 and returns the store of its tree.
 ///
 /// # Errors
 ///
-/// As `mount`; also `Magic` where the bytes begin as an image of version 2 does.
+/// Returns the same errors as `mount`, and also `Magic` if the bytes start with the magic number of version 2.
 pub(crate) fn mount_first(alloc: Global, bytes: Vec<u8>) -> Result<Store, ImageFault>
     ensures mounted { IfOk result (λ store. mounted_first bytes.items ≡ Ok store) }
     ensures refused { IfErr result (λ fault. (fault ≡ ImageFault.Memory) ⊎ (mounted_first bytes.items ≡ Err fault)) }

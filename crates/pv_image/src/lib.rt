@@ -1,13 +1,14 @@
-//! Images as a whole: mounted, built of manifests, written as bytes, and those of version 1 made into images of version 2.
+//! Operations on whole images: mounting, building from manifests, writing to bytes, and migrating from version 1 to
+//! version 2.
 //!
-//! `mount`, `build`, `Manifest` and `Bundle` are those of the crates below, and `to_bytes`, in `bytes`, gives what
-//! `pv_image_write` writes as bytes in memory. `migrated` in `specs/Migrated` computes the new tree from the old bytes, or the fault; the laws below
-//! say in other words when it is which. The new tree has the same nodes under the same numbers, in an image of just the
-//! sizes that were asked for. `first` mounts bytes as an image of version 1 alone, `room` tells whether the tree has room,
-//! and `migrating` has the whole: it writes the new image to a sink.
+//! `mount`, `build`, `Manifest` and `Bundle` are reexported from lower crates. `to_bytes`, in `bytes`, returns the
+//! image that `pv_image_write` writes as bytes in memory. `migrated` in `specs/Migrated` computes the new tree or the
+//! error from the old bytes, and the laws below state in other words when each occurs. The new tree has the same nodes
+//! under the same numbers, in an image of exactly the requested sizes. `first` mounts images of version 1 only, `room`
+//! checks that a tree has room, and `migrating` writes the new image to a sink.
 #![tactic(auto)]
 
-ghost use Rattle.pv_image.specs.Migrated.{ImagesAreJudgedFirst, MigratesImages, SmallIsWantOfRoom};
+ghost use Rattle.pv_image.specs.Migrated.{ImagesAreJudgedFirst, MigratesImages, SmallLacksRoom};
 ghost use Rattle.pv_image.specs.Traces.{MigratedKeepTraces};
 
 mod bytes;
@@ -20,26 +21,26 @@ pub use migrating::{MigratingStop, migrate};
 pub use pv_image_manifest::{Bundle, Manifest, build};
 pub use pv_image_mount::mount;
 
-/// A tree comes of bytes exactly where they are an image of version 1 and there is room for its nodes; it has just these
-/// nodes, under the same numbers, in an image of version 2 of the sizes that were asked for.
+/// Migration yields a tree if and only if the bytes are an image of version 1 and there is room for its nodes. The tree
+/// has exactly these nodes, under the same numbers, in an image of version 2 of the requested sizes.
 pub fn images_are_migrated()
     ensures { MigratesImages }
 {}
 
-/// What is refused as too small is an image of version 1 for which there is no room.
-pub fn small_is_want_of_room()
-    ensures { SmallIsWantOfRoom }
+/// If migration fails with `Small`, the bytes are an image of version 1 and there is no room for its nodes.
+pub fn small_lacks_room()
+    ensures { SmallLacksRoom }
 {}
 
-/// What is refused as no image is so whatever the sizes.
+/// If migration fails because the bytes are not an image of version 1, it fails in the same way for all sizes.
 pub fn images_are_judged_first()
     ensures { ImagesAreJudgedFirst }
 {}
 
-/// With at least five times the data blocks, and at least the inodes, a schedule that starts on an image starts on the one that
-/// it becomes, with the same turns; and where the run on the first answers no ENAMETOOLONG, EFBIG or ENOSPC, the one on the second
-/// has the same text, byte for byte, and leaves a tree with equal nodes. Five is the least:
-/// `pv_laws_larger::examples::five_is_least`.
+/// If the new image has at least five times the data blocks and at least as many inodes, a schedule that starts on the
+/// old image also starts on the new one, with the same turns. If no call of the run on the old image fails with
+/// ENAMETOOLONG, EFBIG or ENOSPC, the run on the new image has the same trace, byte for byte, and leaves a tree with
+/// equal nodes. Five is the least factor: `pv_laws_steps::larger_examples::five_is_least`.
 pub fn migrated_keep_traces()
     ensures { MigratedKeepTraces }
 {}

@@ -1,8 +1,8 @@
-//! An image of version 1 made into one of version 2.
+//! Migrating an image from version 1 to version 2.
 ghost use Rattle.std.specs.Prelude.{◌≡◌, ◌⊎◌, IsTrue, Ok, Err, IfOk, IfErr, OnOk};
 ghost use Rattle.pv_model.specs.Stream.{Rose};
 ghost use Rattle.pv_image.specs.Migrated.{has_room, migrated, mounted_first, IsMigrateFault};
-ghost use Rattle.pv_image.specs.Written.{IsMigratingStop, StandsInOldBytes, TellsMigrated};
+ghost use Rattle.pv_image.specs.Written.{IsMigratingStop, AppearsInOldBytes, WritesMigrated};
 ghost use Rattle.pv_image.specs.declared.migrating.MigratingStop.TheVariants.{Refused as RefusedStop};
 
 use crate::first::mount_first;
@@ -13,12 +13,12 @@ use pv_streams::Sink;
 use pv_tree::Store;
 use std::alloc::Global;
 
-/// Why an image is not made into one of version 2, or not whole.
+/// Why an image was not migrated, or not completely.
 #[derive(Clone, Copy, Debug, PartialEq, Eq)]
 pub enum MigratingStop {
-    /// The image, the sizes, or memory was refused: nothing was written.
+    /// The image or the sizes are invalid, or memory cannot be allocated. Nothing was written.
     Refused(MigrateFault),
-    /// The sink failed: it was given a beginning of the new image.
+    /// The sink failed. It has received a prefix of the new image.
     Write,
 }
 
@@ -30,7 +30,7 @@ impl From<MigrateFault> for MigratingStop {
     }
 }
 
-// The store of the tree that bytes hold as an image of version 1, if an image of version 2 of these sizes has room for it.
+// Mounts an image of version 1, if an image of version 2 of these sizes has room for its tree.
 fn mount_roomy(
     alloc: Global,
     bytes: Vec<u8>,
@@ -50,25 +50,25 @@ fn mount_roomy(
     Ok(store)
 }
 
-/// Writes the image of version 2 of the tree that the bytes hold as an image of version 1, of so many blocks in all, and so
-/// many inodes. Each node keeps its number, its bytes and its names; what no node uses is zero. What was written is
-/// flushed.
+/// Migrates an image of version 1: writes an image of version 2 with the same tree and the given numbers of blocks and
+/// inodes, and flushes the sink. Each node keeps its number, its contents and its names. Unused bytes are zero.
 ///
-/// With at least five times the data blocks, and at least the inodes, each run that answers no ENAMETOOLONG, EFBIG or ENOSPC on
-/// the old image has the same trace on the new one, and leaves a tree with equal nodes: `migrated_keep_traces`.
+/// If the new image has at least five times the data blocks and at least as many inodes, each run without ENAMETOOLONG,
+/// EFBIG and ENOSPC on the old image has the same trace on the new one and leaves a tree with equal nodes:
+/// `migrated_keep_traces`.
 ///
 /// # Errors
 ///
-/// - `Refused(Image)`: the bytes are no image of version 1: their first fault, in the order of `ImageFault`'s variants, with
-///   the number of the least inode that has it; `Magic` also where they begin as an image of version 2 does. It comes before
-///   `Small`, and is never want of memory.
-/// - `Refused(Small)`: an image of version 2 may not have these sizes (1 to 4,096 inodes, and at most 65,535 blocks, which
-///   hold at least the first one and the inodes), or there are fewer inodes than before, or fewer data blocks than the tree
-///   needs.
-/// - `Refused(Memory)`: memory was refused.
-/// - `Write`: a write or a flush failed; the sink was given a beginning of the new image.
+/// - `Refused(Image)`: the bytes are not an image of version 1. It contains the first error in the order of
+///   `ImageFault`'s variants, with the number of the least inode that has it. The error is also `Magic` if the bytes
+///   start with the magic number of version 2. This error precedes `Small`, and it is never `Memory`.
+/// - `Refused(Small)`: an image of version 2 cannot have these sizes (1 to 4,096 inodes, and at most 65,535 blocks,
+///   which include the first block and the inode table); or there are fewer inodes than before, or fewer data blocks
+///   than the tree needs.
+/// - `Refused(Memory)`: memory cannot be allocated.
+/// - `Write`: a write or the flush failed. The sink has received a prefix of the new image.
 ///
-/// After each refusal nothing was written.
+/// If the error is `Refused`, nothing was written.
 pub fn migrate<W: Sink>(
     alloc: Global,
     bytes: Vec<u8>,
@@ -76,8 +76,8 @@ pub fn migrate<W: Sink>(
     inodes: u32,
     out: &mut W,
 ) -> Result<(), MigratingStop>
-    ensures as_written { OnOk result (TellsMigrated bytes.items blocks inodes (W.written out.old) (W.written out.new)) }
-    ensures refused { IfErr result (StandsInOldBytes bytes.items blocks inodes (W.written out.old) (W.written out.new)) }
+    ensures as_written { OnOk result (WritesMigrated bytes.items blocks inodes (W.written out.old) (W.written out.new)) }
+    ensures refused { IfErr result (AppearsInOldBytes bytes.items blocks inodes (W.written out.old) (W.written out.new)) }
     ensures kind { IfErr result IsMigratingStop }
     ensures failed { result ≡ Err MigratingStop.Write → Rose (W.failures out.old) (W.failures out.new) }
     ensures flushed { OnOk result (W.buffered out.new ≡ 0) }

@@ -4,21 +4,21 @@ ghost use Rattle.pv_model.specs.declared.version.Version.TheVariants.{V2};
 ghost use Rattle.pv_model.specs.Image.{inode_blocks};
 ghost use Rattle.pv_model.specs.Mount.{are_image_sizes};
 ghost use Rattle.pv_image.specs.Migrated.{data_blocks, has_room};
-ghost use Rattle.pv_laws_trees.specs.Kept.{EachIsNamed};
+ghost use Rattle.pv_laws_trees.specs.Preserved.{EachIsNamed};
 
 use pv_image_write::needed_blocks;
 use pv_model::limits::{BLOCK, BLOCKS_V2, INODES};
 use pv_model::{Layout, Version};
 use pv_tree::Tree;
 
-// The blocks that hold so many inodes.
+// Returns the number of blocks of the inode table.
 fn table_blocks(inodes: u32) -> usize
     ensures { result ≡ inode_blocks V2 inodes }
 {
     (inodes as usize * Layout::V2.inode_length).div_ceil(BLOCK)
 }
 
-// Whether there are images of so many blocks in all, and inodes.
+// Returns whether an image of version 2 can have these numbers of blocks and inodes.
 fn are_sizes(blocks: u32, inodes: u32) -> bool
     ensures { result ≡ are_image_sizes V2 blocks inodes }
 {
@@ -28,8 +28,8 @@ fn are_sizes(blocks: u32, inodes: u32) -> bool
         && blocks as usize <= BLOCKS_V2
 }
 
-/// Whether there is an image of these sizes, with no fewer inodes than the tree's, and with room for its nodes, each of
-/// which has a name.
+/// Returns whether an image can have these sizes, has at least as many inodes as the tree, and has room for its nodes,
+/// each of which has a name.
 #[tactic(auto, unfolding(crate::specs::Migrated::has_room))]
 pub(crate) fn has_room(tree: &Tree, blocks: u32, inodes: u32) -> bool
     requires { EachIsNamed tree.now.tree }

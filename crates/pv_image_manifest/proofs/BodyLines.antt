@@ -25,7 +25,7 @@ split_off (z ∷ zs) (suc i) x ys e =
     let next : suc i + 1 ≡ suc (i + 1) = omega arith in
     rw next (ap (λ ws. z ∷ ws) more.0, more.1, omega (arith, more.2))
 
--- what a loop over the lines of a program keeps
+-- the invariant of a loop over the lines of a program
 pub record IsTextSoFar (bytes rest : Bytes) (i : ℕ) (text : Bytes) : Type 0 where
   pub bytes-is : bytes ≡ flat_map with_line_end (take i (lines_of text))
   pub rest-is : lines_of rest ≡ drop i (lines_of text)
@@ -36,11 +36,11 @@ IsTextSoFar-start text = record { bytes-is = refl; rest-is = refl; enough = omeg
 
 pub IsTextSoFar-step : (bytes rest line following : Bytes) (i : ℕ) (text : Bytes) → lines_of rest ≡ line ∷ lines_of following → IsTextSoFar bytes rest i text
     → IsTextSoFar ((bytes ++ line) ++ 10 ∷ []) following (i + 1) text
-IsTextSoFar-step bytes rest line following i text split kept =
-    let off = split_off (lines_of text) i line (lines_of following) (sym kept.rest-is ∙ split) in
+IsTextSoFar-step bytes rest line following i text split preserved =
+    let off = split_off (lines_of text) i line (lines_of following) (sym preserved.rest-is ∙ split) in
     record {
       bytes-is =
-          append_assoc bytes line (10 ∷ []) ∙ ap (λ (bs : Bytes). bs ++ with_line_end line) kept.bytes-is
+          append_assoc bytes line (10 ∷ []) ∙ ap (λ (bs : Bytes). bs ++ with_line_end line) preserved.bytes-is
           ∙ ap (λ (bs : Bytes). flat_map with_line_end (take i (lines_of text)) ++ bs) (sym (append-nil (with_line_end line)))
           ∙ sym (flat_map-append with_line_end (take i (lines_of text)) (line ∷ [])) ∙ ap (flat_map with_line_end) (sym off.0);
       rest-is = sym off.1;
@@ -48,13 +48,13 @@ IsTextSoFar-step bytes rest line following i text split kept =
     }
 
 pub IsTextSoFar-short : (bytes rest : Bytes) (i : ℕ) (text : Bytes) (count : ℕ) → lines_of rest ≡ [] → i < count → IsTextSoFar bytes rest i text → length (lines_of text) < count
-IsTextSoFar-short bytes rest i text count none below kept =
-    let left : length (lines_of text) - i ≡ 0 = sym (length-drop i (lines_of text)) ∙ ap length (sym kept.rest-is ∙ none) in
-    omega (arith, left, below, kept.enough)
+IsTextSoFar-short bytes rest i text count none below preserved =
+    let left : length (lines_of text) - i ≡ 0 = sym (length-drop i (lines_of text)) ∙ ap length (sym preserved.rest-is ∙ none) in
+    omega (arith, left, below, preserved.enough)
 
--- ---- lines that are passed over
+-- ---- lines that are skipped
 
--- what a loop over them keeps
+-- the invariant of a loop over them
 pub record IsPassedSoFar (rest : Bytes) (i : ℕ) (text : Bytes) : Type 0 where
   pub rest-is : lines_of rest ≡ drop i (lines_of text)
   pub end : IsEnd rest text
@@ -63,13 +63,13 @@ pub IsPassedSoFar-start : (text : Bytes) → IsPassedSoFar text 0 text
 IsPassedSoFar-start text = record { rest-is = refl; end = whole_end text }
 
 pub IsPassedSoFar-step : (rest line following : Bytes) (i : ℕ) (text : Bytes) → lines_of rest ≡ line ∷ lines_of following → IsSplit rest line following → IsPassedSoFar rest i text → IsPassedSoFar following (i + 1) text
-IsPassedSoFar-step rest line following i text lines bytes kept = record {
-  rest-is = sym (split_off (lines_of text) i line (lines_of following) (sym kept.rest-is ∙ lines)).1;
-  end = end_of_end following rest text (end_after_line rest line following bytes) kept.end;
+IsPassedSoFar-step rest line following i text lines bytes preserved = record {
+  rest-is = sym (split_off (lines_of text) i line (lines_of following) (sym preserved.rest-is ∙ lines)).1;
+  end = end_of_end following rest text (end_after_line rest line following bytes) preserved.end;
 }
 
--- where no line is left, nothing more is passed over
+-- if no line remains, no more are skipped
 pub IsPassedSoFar-none : (rest : Bytes) (i count : ℕ) (text : Bytes) → lines_of rest ≡ [] → i < count → IsPassedSoFar rest i text → lines_of rest ≡ drop count (lines_of text)
-IsPassedSoFar-none rest i count text none below kept =
-    let left : length (lines_of text) - i ≡ 0 = sym (length-drop i (lines_of text)) ∙ ap length (sym kept.rest-is ∙ none) in
+IsPassedSoFar-none rest i count text none below preserved =
+    let left : length (lines_of text) - i ≡ 0 = sym (length-drop i (lines_of text)) ∙ ap length (sym preserved.rest-is ∙ none) in
     none ∙ sym (drop_all count (lines_of text) (omega (arith, left, below)))

@@ -26,7 +26,7 @@ drop_front (b ∷ front) rest (suc n) is = drop_front front rest n (omega (arith
 pub end_is_inside : (rest text : Bytes) → IsEnd rest text → length rest ≤ length text
 end_is_inside rest text end = omega (arith, ap length end.is, length-append end.front rest)
 
--- where the end of a text begins
+-- where the end of a text starts
 pub end_begins : (rest text : Bytes) → IsEnd rest text → drop (length text - length rest) text ≡ rest
 end_begins rest text end =
     ap (λ bs. drop (length text - length rest) bs) end.is

@@ -1,4 +1,4 @@
--- The entries of a manifest added one by one.
+-- Adding the entries of a manifest one by one.
 use Rattle.std.proofs.Common.{◌≡◌, ◌∙◌, ap, ℕ, suc, ◌+◌, ◌-◌, ◌<◌, true, false, List, [], ◌∷◌, length, drop, get_or, Option, None, Some, is_some, Result, Ok, Err, refl, sym, subst, arith}
 use Rattle.std.specs.Prelude.{map}
 use Rattle.std.proofs.Math.Seq.{drop-cons}
@@ -22,7 +22,7 @@ use Rattle.pv_image_manifest.specs.Contents.{entry_of_content}
 use Rattle.pv_image_manifest.specs.Entries.{entry_of_line}
 use Rattle.pv_image_manifest.specs.Reading.{RefusesManifest, manifest_before}
 
--- ---- an entry
+-- ---- one entry
 
 path-is : (path : Bytes) (content : Content) → path_of (entry_of_content path content) ≡ path
 path-is path Directory = refl
@@ -60,7 +60,7 @@ next_entry es i e within is =
     let more : suc i ≡ i + 1 = omega arith in
     drop-cons es i e within ∙ ap (λ k. get_or es i e ∷ drop k es) more ∙ ap (λ first. first ∷ drop (i + 1) es) (sym is)
 
--- what a loop over the entries keeps
+-- the invariant of a loop over the entries
 pub record IsBuiltSoFar (left : List Entry) (h : HeldTree) (m : ManifestAndLines) : Type 0 where
   pub is : add_entries (map entry_of_line left) h.tree ≡ tree_of m
   pub version : h.tree.version ≡ V1
@@ -76,25 +76,25 @@ IsBuiltSoFar-start m h is unheld =
       unheld = unheld;
     }
 
-module _ (left : List Entry) (h : HeldTree) (m : ManifestAndLines) (kept : IsBuiltSoFar left h m) (e : Entry) (rest : List Entry) (first : left ≡ e ∷ rest) where
+module _ (left : List Entry) (h : HeldTree) (m : ManifestAndLines) (preserved : IsBuiltSoFar left h m) (e : Entry) (rest : List Entry) (first : left ≡ e ∷ rest) where
   along : and_entries (add_entry e.line h.tree (entry_of_line e).1) (add_entries (map entry_of_line rest)) ≡ tree_of m
-  along = ap (λ es. add_entries (map entry_of_line es) h.tree) (sym first) ∙ kept.is
+  along = ap (λ es. add_entries (map entry_of_line es) h.tree) (sym first) ∙ preserved.is
 
   pub IsBuiltSoFar-step : {X : Type 0} (done : X) (after : HeldTree) → Makes {X = X} (Ok done) (add_entry e.line h.tree (entry_of_line e).1) h after → IsBuiltSoFar rest after m
   IsBuiltSoFar-step done after made =
       record {
         is = ap (λ r. and_entries r (add_entries (map entry_of_line rest))) (sym made.0) ∙ along;
-        version = made.1 ∙ kept.version;
-        unheld = subst IsUnheld (sym made.2) kept.unheld;
+        version = made.1 ∙ preserved.version;
+        unheld = subst IsUnheld (sym made.2) preserved.unheld;
       }
 
   pub IsBuiltSoFar-refused : (fault : ManifestFault) → add_entry e.line h.tree (entry_of_line e).1 ≡ Err fault → tree_of m ≡ Err fault
   IsBuiltSoFar-refused fault refused = sym along ∙ ap (λ r. and_entries r (add_entries (map entry_of_line rest))) refused
 
 pub IsBuiltSoFar-end : (left : List Entry) (h : HeldTree) (m : ManifestAndLines) → IsBuiltSoFar left h m → left ≡ [] → tree_of m ≡ Ok h.tree
-IsBuiltSoFar-end left h m kept none = sym kept.is ∙ ap (λ es. add_entries (map entry_of_line es) h.tree) none
+IsBuiltSoFar-end left h m preserved none = sym preserved.is ∙ ap (λ es. add_entries (map entry_of_line es) h.tree) none
 
--- a fault that comes of an entry is one of the manifest
+-- an error of an entry is one of the manifest
 pub refuses : {X : Type 0} (fault : ManifestFault) (made : Result X ManifestFault) → made ≡ Err fault → RefusesManifest fault made
 refuses (Form n) made is = is
 refuses Size made is = is

@@ -24,7 +24,7 @@ add_last (x ∷ es) e t u v is last = by (add_entry x.0 t x.1) is (λ next. add_
     by (Err fault) is h = cc
     by (Ok next) is h = h next is last
 
--- the tree of a manifest of one entry more
+-- the tree of a manifest with one more entry
 pub IsGrown-more : {X : Type 0} (m more : Manifest) (h after : HeldTree) (e : Entry) (done : X) → IsGrown m h → Makes {X = X} (Ok done) (add_entry e.line h.tree (entry_of_line e).1) h after
     → more.blocks ≡ m.blocks → more.inodes ≡ m.inodes → more.entries.items ≡ m.entries.items ++ e ∷ [] → IsGrown more after
 IsGrown-more m more h after e done grown made blocks inodes items = record {

@@ -1,4 +1,4 @@
--- Entries, read line by line.
+-- Parsing entries line by line.
 use Rattle.std.proofs.Common.{◌≡◌, ◌∙◌, ap, ℕ, zero, suc, ◌+◌, ◌≤◌, ◌<◌, ◌^◌, Bool, true, false, cond, eqb, List, [], ◌∷◌, ◌++◌, length, drop, None, Some, Result, Ok, Err, refl, sym, arith, append_assoc}
 use Rattle.std.specs.Prelude.{◌&&◌, map}
 use Rattle.std.proofs.lemmas.List.{append-nil, map_push, length-drop}
@@ -15,7 +15,7 @@ use Rattle.pv_image_manifest.specs.Entries.{entry_of_line}
 use Rattle.pv_image_manifest.specs.Reading.{IsEnd, taking_of, Takes}
 use Rattle.pv_image_manifest.proofs.Ends.{whole_end, end_of_end, end_after_line}
 
--- the entries that were read, before those that are still to be read
+-- the entries that were parsed, before those that remain
 abbrev pub after_entries : List (ℕ × ManifestEntry) → Result Listed ManifestFault → Result Listed ManifestFault
 after_entries front (Ok rest) = Ok (record rest { entries = front ++ rest.entries })
 after_entries front (Err fault) = Err fault
@@ -45,14 +45,14 @@ module _ (in_bundle : Bool) where
   abbrev from_line : List Bytes → ℕ → ℕ → Result Listed ManifestFault
   from_line ls n k = entries_from in_bundle entry_of ls n k
 
-  -- lines that belong to the entry before are left out
+  -- lines that belong to the previous entry are skipped
   skipped : (ls : List Bytes) (n k : ℕ) → k ≤ length ls → from_line ls n k ≡ from_line (drop k ls) (n + k) 0
   skipped [] n zero le = let same : n + 0 ≡ n = omega arith in rw same refl
   skipped [] n (suc k) le = absurd (omega arith)
   skipped (line ∷ ls) n zero le = let same : n + 0 ≡ n = omega arith in rw same refl
   skipped (line ∷ ls) n (suc k) le = let next : n + suc k ≡ suc n + k = omega arith in rw next (skipped ls (suc n) k (omega arith))
 
-  -- what a loop over the lines of a manifest keeps
+  -- the invariant of a loop over the lines of a manifest
   pub record IsListedSoFar (front : List Entry) (rest : Bytes) (n : ℕ) (text : Bytes) : Type 0 where
     pub is : after_entries (map entry_of_line front) (from_line (lines_of rest) n 0) ≡ from_line (lines_of text) 2 0
     pub number : n + length (lines_of rest) ≡ 2 + length (lines_of text)
@@ -65,20 +65,20 @@ module _ (in_bundle : Bool) where
       whole (Ok listed) = refl
       whole (Err fault) = refl
 
-  module _ (front : List Entry) (rest line following : Bytes) (n : ℕ) (text : Bytes) (split : lines_of rest ≡ line ∷ lines_of following) (kept : IsListedSoFar front rest n text) where
+  module _ (front : List Entry) (rest line following : Bytes) (n : ℕ) (text : Bytes) (split : lines_of rest ≡ line ∷ lines_of following) (preserved : IsListedSoFar front rest n text) where
     pub IsListedSoFar-schedule : (in_bundle && is_schedule_line line) ≡ true → from_line (lines_of text) 2 0 ≡ Ok (record { entries = map entry_of_line front; following = lines_of following })
     IsListedSoFar-schedule marks =
-        sym kept.is ∙ ap (λ ls. after_entries (map entry_of_line front) (from_line ls n 0)) split
+        sym preserved.is ∙ ap (λ ls. after_entries (map entry_of_line front) (from_line ls n 0)) split
         ∙ rw marks (ap (λ (es : List (ℕ × ManifestEntry)). Ok (record { entries = es; following = lines_of following })) (append-nil (map entry_of_line front)))
 
     pub IsListedSoFar-following : IsSplit rest line following → IsEnd following text
-    IsListedSoFar-following bytes = end_of_end following rest text (end_after_line rest line following bytes) kept.end
+    IsListedSoFar-following bytes = end_of_end following rest text (end_after_line rest line following bytes) preserved.end
 
-    -- the number of the next line fits 32 bits
+    -- the number of the next line fits in 32 bits
     pub IsListedSoFar-room : (k : ℕ) → length text + 2 < 2 ^ 32 → k ≤ length (lines_of following) → n + 1 + k < 2 ^ 32
-    IsListedSoFar-room k small le = omega (arith, kept.number, length-lines text, ap length split)
+    IsListedSoFar-room k small le = omega (arith, preserved.number, length-lines text, ap length split)
 
-    -- fewer lines are left after what a line takes
+    -- fewer lines remain after those of an entry
     pub IsListedSoFar-fewer : (k : ℕ) (left : Bytes) → lines_of left ≡ drop k (lines_of following) → length (lines_of left) < length (lines_of rest)
     IsListedSoFar-fewer k left is = omega (arith, ap length split, ap length is, length-drop k (lines_of following))
 
@@ -87,7 +87,7 @@ module _ (in_bundle : Bool) where
     at_line other =
         let one : from_line (lines_of rest) n 0 ≡ or_form n (entry_of line (lines_of following)) (from_line (lines_of following) (suc n)) =
         ap (λ ls. from_line ls n 0) split ∙ rw other refl in
-        ap (after_entries (map entry_of_line front)) (sym one) ∙ kept.is
+        ap (after_entries (map entry_of_line front)) (sym one) ∙ preserved.is
 
     pub IsListedSoFar-refused : (in_bundle && is_schedule_line line) ≡ false → entry_of line (lines_of following) ≡ None → from_line (lines_of text) 2 0 ≡ Err (Form n)
     IsListedSoFar-refused other none =
@@ -112,24 +112,24 @@ module _ (in_bundle : Bool) where
               ∙ ap (λ r. after_entries (map entry_of_line front) (onto_listed n (taking_of read_entry).0 r)) (sym left-is)
               ∙ ap (after_entries (map entry_of_line front)) (sym read_entry-is) ∙ at_line other;
           number =
-              omega (arith, kept.number, on, ap length split, ap length lines, length-drop read_entry.lines (lines_of following), takes.1);
+              omega (arith, preserved.number, on, ap length split, ap length lines, length-drop read_entry.lines (lines_of following), takes.1);
           end = end_of_end left following text end (IsListedSoFar-following bytes);
         }
 
 -- at the end of the lines
 pub IsListedSoFar-end : (in_bundle : Bool) (front : List Entry) (rest : Bytes) (n : ℕ) (text : Bytes) → lines_of rest ≡ [] → IsListedSoFar in_bundle front rest n text
     → entries_from in_bundle entry_of (lines_of text) 2 0 ≡ after_entries (map entry_of_line front) (at_end in_bundle n)
-IsListedSoFar-end in_bundle front rest n text none kept =
-    sym kept.is ∙ ap (λ ls. after_entries (map entry_of_line front) (entries_from in_bundle entry_of ls n 0)) none
+IsListedSoFar-end in_bundle front rest n text none preserved =
+    sym preserved.is ∙ ap (λ ls. after_entries (map entry_of_line front) (entries_from in_bundle entry_of ls n 0)) none
 
 module _ (front : List Entry) (rest : Bytes) (n : ℕ) (text : Bytes) (none : lines_of rest ≡ []) where
   pub IsListedSoFar-unended : (in_bundle : Bool) → in_bundle ≡ true → IsListedSoFar in_bundle front rest n text → entries_from in_bundle entry_of (lines_of text) 2 0 ≡ Err (Form n)
-  IsListedSoFar-unended true is kept = IsListedSoFar-end true front rest n text none kept
-  IsListedSoFar-unended false is kept = absurd cc
+  IsListedSoFar-unended true is preserved = IsListedSoFar-end true front rest n text none preserved
+  IsListedSoFar-unended false is preserved = absurd cc
 
   pub IsListedSoFar-ended : (in_bundle : Bool) → in_bundle ≡ false → IsListedSoFar in_bundle front rest n text
       → entries_from in_bundle entry_of (lines_of text) 2 0 ≡ Ok (record { entries = map entry_of_line front; following = lines_of rest })
-  IsListedSoFar-ended true is kept = absurd cc
-  IsListedSoFar-ended false is kept =
-      IsListedSoFar-end false front rest n text none kept
+  IsListedSoFar-ended true is preserved = absurd cc
+  IsListedSoFar-ended false is preserved =
+      IsListedSoFar-end false front rest n text none preserved
       ∙ rw none (ap (λ (es : List (ℕ × ManifestEntry)). Ok (record { entries = es; following = [] })) (append-nil (map entry_of_line front)))

@@ -44,7 +44,7 @@ room-some t why refused = by (is_too_long t) (fits t) refused
     by false true is = cc
     by false false is = refl
 
--- a larger tree lacks it too
+-- a larger tree does not fit either
 lacks-along : (t u : Tree) → IsNoLarger u t → lacks_room u ≡ true → lacks_room t ≡ true
 lacks-along t u less lacks =
     by (is_too_long t) (fits t) (is_too_long u) (fits u) refl refl (smaller-not_too_long t u less) (smaller-fits t u less) lacks
@@ -52,9 +52,9 @@ lacks-along t u less lacks =
     by : (long fit long' fit' : Bool) → is_too_long t ≡ long → fits t ≡ fit → (long' ≡ true → is_too_long t ≡ true) → (fits t ≡ true → fit' ≡ true) → (long' || not fit') ≡ true → (long || not fit) ≡ true
     by true fit long' fit' p q longer room is = refl
     by false false long' fit' p q longer room is = refl
-    by false true true fit' p q longer room is = let wrong = longer refl in cc
+    by false true true fit' p q longer room is = let invalid = longer refl in cc
     by false true false true p q longer room is = cc
-    by false true false false p q longer room is = let wrong = room q in cc
+    by false true false false p q longer room is = let invalid = room q in cc
 
 pub in-room : (line : ℕ) (t : Tree) → refusal t ≡ None → if_room line t ≡ Ok t
 in-room line t allowed = ap (λ b. cond b (Err (Room line)) (Ok t)) (room-none t allowed)
@@ -121,7 +121,7 @@ module _ (t : Tree) (w : IsWellFormed t) (d : ℕ) (name : Bytes) (x : Bool) (di
       ap (λ o. with_content_of (filled []) n0 o (overwrite (bytes_of o) 0 (b ∷ bytes))) (file-there [])
       ∙ ap (λ bs. with_node (filled []) n0 (file_node x bs)) (overwrite_nothing (b ∷ bytes)) ∙ file-filled (b ∷ bytes)
 
-  -- the same of a tree that a file without bytes was made in
+  -- the same for a tree in which an empty file was created
   pub file-written-in : (bytes : Bytes) (u : Tree) (node : Node) (n : ℕ) → u ≡ with_new_node t d name node → node ≡ file_node x [] → n ≡ n0 → overwritten u n 0 bytes ≡ filled bytes
   file-written-in bytes u node n is empty number =
       ap (λ v. overwritten v n 0 bytes) is ∙ ap (λ made. overwritten (with_new_node t d name made) n 0 bytes) empty ∙ ap (λ m. overwritten (filled []) m 0 bytes) number
@@ -149,6 +149,6 @@ module _ (t : Tree) (w : IsWellFormed t) (d : ℕ) (name : Bytes) (x : Bool) (di
         subst (λ o. IsNoLonger t.version (node_at (filled []) k) o) (sym alike) (no_longer-self t.version (node_at (filled []) k))) (cases_eq k n0);
   }
 
-  -- where there is no room for the empty file, there is none for the file
+  -- if there is no room for the empty file, there is none for the file
   pub no-room-empty : (bytes : Bytes) (why : Space) → refusal (filled []) ≡ Some why → lacks_room (filled bytes) ≡ true
   no-room-empty bytes why refused = lacks-along (filled bytes) (filled []) (empty-smaller bytes) (room-some (filled []) why refused)

@@ -14,7 +14,7 @@ and_false : (x : Bool) → (x && false) ≡ false
 and_false true = refl
 and_false false = refl
 
--- sizes that are held at the greatest make of a bundle what they do
+-- saturated sizes lead to the same result
 sizes_held : (b i : ℕ) (listed : Listed) → if_sizes b i listed ≡ if_sizes (up_to_greatest b) (up_to_greatest i) listed
 sizes_held b i listed =
     elim (cases_lt 4294967295 i) [
@@ -40,7 +40,7 @@ sizes_refused b i listed e = ap (λ t. cond t (Ok (record { blocks = b; inodes =
 pub sizes_taken : (b i : ℕ) (listed : Listed) → true ≡ are_sizes b i → if_sizes b i listed ≡ Ok (record { blocks = b; inodes = i; listed = listed })
 sizes_taken b i listed e = ap (λ t. cond t (Ok (record { blocks = b; inodes = i; listed = listed })) (Err Size)) (sym e)
 
--- a refusal that is kept along
+-- an error that is passed on
 pub refuses_along : {X Y : Type 0} (fault : ManifestFault) (read : Result X ManifestFault) (other : Result Y ManifestFault)
     → ((f : ManifestFault) → read ≡ Err f → other ≡ Err f) → RefusesManifest fault read → RefusesManifest fault other
 refuses_along (Form n) read other along r = along (Form n) r

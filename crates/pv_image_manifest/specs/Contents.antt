@@ -1,4 +1,4 @@
--- What entries of a manifest make, as the definitions have it.
+-- The entries of a manifest, as in the specification.
 use Rattle.std.specs.Prelude.{ℕ, Bool, true, not, [], ◌==◌}
 use Rattle.pv_model.specs.Bytes.{Bytes}
 use Rattle.pv_model.specs.Grammar.Manifests.{is_manifest_path}
@@ -7,18 +7,18 @@ use Rattle.pv_model.specs.Tree.{directory_node, file_node, link_node, is_link_te
 use Rattle.pv_image_manifest.specs.declared.entry.Content.{Content}
 use Rattle.pv_image_manifest.specs.declared.entry.Content.TheVariants.{Directory, File, Link, Name}
 
--- a byte of a link's text
+-- a byte that the target of a symbolic link can contain
 abbrev pub is_link_byte : ℕ → Bool
 is_link_byte b = not (b == 0)
 
--- a link has a text that a link may have, and a further name the path of an entry
+-- the target of a symbolic link is valid, and the source of another name is the path of an entry
 abbrev pub is_content : Content → Bool
 is_content Directory = true
 is_content (File executable bytes) = true
 is_content (Link text) = is_link_text text.items
 is_content (Name source) = is_manifest_path source.items
 
--- what a content makes under a path
+-- the entry of a path and its contents
 abbrev pub entry_of_content : Bytes → Content → ManifestEntry
 entry_of_content path Directory = make path (directory_node [])
 entry_of_content path (File executable bytes) = make path (file_node executable bytes.items)

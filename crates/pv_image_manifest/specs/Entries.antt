@@ -1,4 +1,4 @@
--- The entries of a manifest as the definitions have them.
+-- The entries of a manifest with their lines.
 use Rattle.std.specs.Prelude.{ℕ}
 use Rattle.pv_model.specs.Manifest.{Entry as ManifestEntry}
 use Rattle.pv_image_manifest.specs.declared.entry.Entry.{Entry}

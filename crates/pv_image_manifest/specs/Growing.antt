@@ -14,7 +14,7 @@ pub record IsGrown (m : Manifest) (h : HeldTree) : Type 0 where
   pub version : h.tree.version ≡ V1
   pub unheld : IsUnheld h.holds
 
--- the tree has what was to be made, or is as before where there is a fault
+-- the tree is that of the specification; or there is the same error, and the tree is the old one
 abbrev pub Grows : Option ManifestFault → Result Tree ManifestFault → Tree → Tree → Type 0
 Grows None made before after = made ≡ Ok after
 Grows (Some fault) made before after = (made ≡ Err fault) × (after ≡ before)

@@ -1,4 +1,4 @@
--- What the readers of manifests and bundles answer, by what the bytes spell.
+-- The results of the parsers of manifests and bundles.
 use Rattle.std.specs.Prelude.{◌≡◌, ℕ, ◌≤◌, List, [], ◌++◌, length, drop, map, Option, None, Some, Result, Ok, Err}
 use Rattle.std.specs.Borrow.{Bor}
 use Rattle.std.specs.Global.{Vec}
@@ -20,44 +20,45 @@ pub record IsEnd (rest text : Bytes) : Type 0 where
   pub front : Bytes
   pub is : text ≡ front ++ rest
 
--- sizes, each held at the greatest of 32 bits
+-- sizes, each saturated to 32 bits
 abbrev pub held_sizes : ℕ × ℕ → ℕ × ℕ
 held_sizes p = (up_to_greatest p.0, up_to_greatest p.1)
 
--- what a line takes: the entry that it makes, and how many of the lines after it belong to that
+-- the entry of a line, and the number of lines after it that belong to it
 abbrev pub taking_of : ReadEntry → Taking
 taking_of t = (entry_of_content t.path.items t.content, t.lines)
 
--- nothing is taken where nothing was to be taken; else what is, of the lines that stand there
+-- the parser returns the grammar's entry, whose lines are present, or fails if the grammar does
 abbrev pub Takes : Option ReadEntry → Option Taking → List Bytes → Type 0
 Takes None taking following = taking ≡ None
 Takes (Some t) taking following = (taking ≡ Some (taking_of t)) × (t.lines ≤ length following)
 
--- what a refusal says of a manifest: nothing, where memory was refused
+-- the error agrees with the grammar's result; out of memory agrees with every result
 abbrev pub RefusesManifest : {X : Type 0} → ManifestFault → Result X ManifestFault → Type 0
 RefusesManifest Memory read = Unit {0}
 RefusesManifest fault read = read ≡ Err fault
 
--- entries and the lines after them are what was to be read, or their fault is
+-- the entries and the lines after them, or the error, agree with the grammar's result
 abbrev pub GivesListed : Result (Vec Entry × Bor Bytes) ManifestFault → Result Listed ManifestFault → Type 0
 GivesListed (Ok p) read = read ≡ Ok (record { entries = map entry_of_line p.0.items; following = lines_of p.1.now })
 GivesListed (Err fault) read = RefusesManifest fault read
 
--- a manifest as the definitions have it, with the lines after it
+-- a manifest of the specification, with the lines after it
 abbrev pub manifest_before : Manifest → List Bytes → ManifestAndLines
 manifest_before m lines = record { blocks = m.blocks; inodes = m.inodes; listed = record { entries = map entry_of_line m.entries.items; following = lines } }
 
--- a manifest and the lines after it are what was to be read, or the fault is
+-- the manifest and the lines after it, or the error, agree with the grammar's result
 abbrev pub GivesManifestAndRest : Result (Manifest × Bor Bytes) ManifestFault → Result ManifestAndLines ManifestFault → Type 0
 GivesManifestAndRest (Ok p) read = read ≡ Ok (manifest_before p.0 (lines_of p.1.now))
 GivesManifestAndRest (Err fault) read = RefusesManifest fault read
 
--- a manifest that stands alone is what was to be read, or its fault is
+-- the manifest, with no lines after it, or the error, agrees with the grammar's result
 abbrev pub GivesManifest : Result Manifest ManifestFault → Result ManifestAndLines ManifestFault → Type 0
 GivesManifest (Ok m) read = read ≡ Ok (manifest_before m [])
 GivesManifest (Err fault) read = RefusesManifest fault read
 
--- a bundle is what was to be read: the lines after its manifest are those from the byte on where its schedule begins; or its fault is
+-- the bundle or the error agrees with the grammar's result: the lines after its manifest are those from the offset of
+-- its schedule on
 abbrev pub GivesBundle : Result Bundle ManifestFault → Bytes → Result ManifestAndLines ManifestFault → Type 0
 GivesBundle (Ok b) bytes read = read ≡ Ok (manifest_before b.manifest (lines_of (drop b.schedule_at bytes)))
 GivesBundle (Err fault) bytes read = RefusesManifest fault read

@@ -1,4 +1,4 @@
-//! The tree that a manifest makes, on the blocks of an image.
+//! Building the tree of a manifest, on the blocks of an image.
 ghost use Rattle.std.specs.Prelude.{◌≡◌, ℕ, [], None, IsTrue, IsSome, IfSome, false, Option, option_and_then, option_map};
 ghost use Rattle.pv_image_manifest.specs.Building.{Makes, GivesStore};
 ghost use Rattle.pv_image_manifest.specs.Contents.{is_content, entry_of_content};
@@ -10,7 +10,7 @@ ghost use Rattle.pv_model.specs.Tree.{root, node_at, file_node, find_entry, is_d
 ghost use Rattle.pv_model.specs.Walk.{components};
 ghost use Rattle.pv_model.specs.declared.version.Version.TheVariants.{V1};
 ghost use Rattle.pv_tree.specs.Changes.{new_node};
-ghost use Rattle.pv_laws_trees.specs.Tree.{Stands};
+ghost use Rattle.pv_laws_trees.specs.Tree.{Appears};
 
 use crate::entry::{Content, Entry};
 use crate::manifest::Manifest;
@@ -20,11 +20,11 @@ use pv_text::components::split_component;
 use pv_tree::{Store, Tree};
 use std::alloc::Global;
 
-// The directory under a name of a directory.
+// Returns the directory that has this name in a directory.
 fn enter(tree: &Tree, directory: u16, name: &[u8]) -> Option<u16>
     requires { IsTrue (is_directory_at tree.now.tree directory) }
     ensures entered { (onward : ℕ → Option (ℕ × Bytes)) → enter_directory tree.now.tree onward (find_entry tree.now.tree directory name.now) ≡ option_and_then onward result }
-    ensures stands { IfSome result (λ n. Stands tree.now.tree n) }
+    ensures appears { IfSome result (λ n. Appears tree.now.tree n) }
 {
     tree.invariant();
     let number = tree.find(directory, name)?;
@@ -35,11 +35,11 @@ fn enter(tree: &Tree, directory: u16, name: &[u8]) -> Option<u16>
     }
 }
 
-// The directory that is to contain what a path of a manifest names, and its name there.
+// Returns the parent directory of a manifest path, with the last name of the path.
 fn container<'a>(tree: &Tree, path: &'a [u8]) -> Option<(u16, &'a [u8])>
     requires { IsTrue (is_manifest_path path.now) }
     ensures found { container_in tree.now.tree (components path.now) root ≡ option_map (λ p. (p.0, p.1.now)) result }
-    ensures stands { IfSome result (λ p. Stands tree.now.tree p.0) }
+    ensures appears { IfSome result (λ p. Appears tree.now.tree p.0) }
     ensures name { IfSome result (λ p. IsTrue (is_name V1 p.1.now)) }
 {
     tree.invariant();
@@ -52,7 +52,7 @@ fn container<'a>(tree: &Tree, path: &'a [u8]) -> Option<(u16, &'a [u8])>
     Some((directory, name))
 }
 
-// The file or link that a path of a manifest names.
+// Returns the file or symbolic link at a manifest path.
 fn source_of(tree: &Tree, path: &[u8]) -> Option<u16>
     requires { IsTrue (is_manifest_path path.now) }
     ensures found { source_in tree.now.tree path.now ≡ result }
@@ -69,7 +69,8 @@ fn source_of(tree: &Tree, path: &[u8]) -> Option<u16>
     }
 }
 
-// Makes a directory, a file without bytes, or a link. After an `Err` the tree is of no use, here and below.
+// Creates a directory, an empty file or a symbolic link. If it fails, the tree must be discarded; this applies to the
+// functions below too.
 fn make_node(
     tree: &mut Tree,
     line: u32,
@@ -77,7 +78,7 @@ fn make_node(
     name: &[u8],
     kind: NewNode,
 ) -> Result<(), ManifestFault>
-    requires directory { Stands tree.old.tree directory }
+    requires directory { Appears tree.old.tree directory }
     requires name { IsTrue (is_name tree.old.tree.version name.now) }
     requires absent { find_entry tree.old.tree directory name.now ≡ None }
     requires text { IsTrue (is_node tree.old.tree.version (new_node kind)) }
@@ -89,7 +90,7 @@ fn make_node(
     Ok(())
 }
 
-// The kind of a file.
+// Returns the kind of a file.
 fn file_kind(executable: bool) -> NewNode<'static>
     ensures { new_node result ≡ file_node executable [] }
 {
@@ -100,7 +101,7 @@ fn file_kind(executable: bool) -> NewNode<'static>
     }
 }
 
-// Makes a file with its bytes.
+// Creates a file with its bytes.
 fn make_file(
     tree: &mut Tree,
     line: u32,
@@ -109,7 +110,7 @@ fn make_file(
     executable: bool,
     bytes: &[u8],
 ) -> Result<(), ManifestFault>
-    requires directory { Stands tree.old.tree directory }
+    requires directory { Appears tree.old.tree directory }
     requires name { IsTrue (is_name tree.old.tree.version name.now) }
     requires absent { find_entry tree.old.tree directory name.now ≡ None }
     ensures { Makes result (if_room line (with_new_node tree.old.tree directory name.now (file_node executable bytes.now))) tree.old tree.new }
@@ -124,7 +125,7 @@ fn make_file(
     Ok(())
 }
 
-// Gives the file or link under a path a further name.
+// Adds a name to the file or symbolic link at a path.
 fn link_source(
     tree: &mut Tree,
     line: u32,
@@ -132,7 +133,7 @@ fn link_source(
     name: &[u8],
     source: &[u8],
 ) -> Result<(), ManifestFault>
-    requires directory { Stands tree.old.tree directory }
+    requires directory { Appears tree.old.tree directory }
     requires name { IsTrue (is_name tree.old.tree.version name.now) }
     requires absent { find_entry tree.old.tree directory name.now ≡ None }
     requires source { IsTrue (is_manifest_path source.now) }
@@ -147,7 +148,7 @@ fn link_source(
     Ok(())
 }
 
-// Makes what an entry of a manifest makes, under a name that a directory has not.
+// Creates the node or name of an entry. The directory does not have this name.
 fn make(
     tree: &mut Tree,
     line: u32,
@@ -155,7 +156,7 @@ fn make(
     name: &[u8],
     content: &Content,
 ) -> Result<(), ManifestFault>
-    requires directory { Stands tree.old.tree directory }
+    requires directory { Appears tree.old.tree directory }
     requires name { IsTrue (is_name tree.old.tree.version name.now) }
     requires absent { find_entry tree.old.tree directory name.now ≡ None }
     requires content { IsTrue (is_content content.now) }
@@ -185,14 +186,20 @@ pub(crate) fn add(tree: &mut Tree, entry: &Entry) -> Result<(), ManifestFault>
     make(tree, entry.line, directory, name, &entry.content)
 }
 
-/// The tree that a manifest makes: the root, and each entry in turn, in an image of the first version. The
-/// slots of its directories are put in the order of the names.
+/// Builds the tree of a manifest in an image of version 1: the root, then each entry in order. The slots of the
+/// directories are sorted by name.
 ///
-/// Of the least line whose entry can't be made, `Err(Parent(n))` says that what is to contain it is no
-/// directory, else `Err(Exists(n))` that its name is there, else `Err(Source(n))` that what it is to be a
-/// further name of is no file or link, and else `Err(Room(n))` that a node would be longer than any may be,
-/// or that the image has not the inodes or the blocks. `Err(Memory)` says that memory was refused, which
-/// is asked for before the first entry is made.
+/// # Errors
+///
+/// Returns the error of the first line whose entry cannot be created. For one line, the first of these that applies is
+/// returned:
+///
+/// - `Parent(n)`: the parent of the path is not a directory.
+/// - `Exists(n)`: the name exists already.
+/// - `Source(n)`: the entry adds a name, and the path of its source is not a file or a symbolic link.
+/// - `Room(n)`: a node would exceed the maximum length, or the image has too few inodes or blocks.
+///
+/// Returns `Memory` if memory cannot be allocated. All memory is allocated before the first entry is created.
 pub fn build(alloc: Global, manifest: &Manifest) -> Result<Store, ManifestFault>
     ensures { GivesStore result (tree_of (manifest_before manifest.now [])) }
 {

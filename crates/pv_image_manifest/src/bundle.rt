@@ -8,22 +8,24 @@ use crate::reading::read;
 use pv_model::ManifestFault;
 use std::alloc::Global;
 
-/// A bundle: its manifest, and where the text of its schedule begins.
+/// A bundle: its manifest, and the offset of its schedule.
 #[derive(Drop)]
 pub struct Bundle {
     /// The manifest.
     pub manifest: Manifest,
-    /// The number of the byte, counted from 0, at which the schedule's text begins: the one after the line
-    /// `schedule`, or how many bytes the bundle has, where nothing stands after that.
+    /// The offset at which the text of the schedule starts: after the line `schedule`. If nothing follows that line, it
+    /// is the length of the bundle.
     pub schedule_at: usize,
 }
 
 impl Bundle {
-    /// The bundle that bytes spell. The schedule's text is not read.
+    /// Parses a bundle. The text of the schedule is not parsed.
     ///
-    /// `Err(Form(n))` names the least line, counted from 1, that has not the form of a manifest's line, and the
-    /// line after the last where no line `schedule` stands; `Err(Size)` says that the form of all lines is right
-    /// and the image's sizes are not; `Err(Memory)` says that memory was refused.
+    /// # Errors
+    ///
+    /// Returns `Form(n)` for the first line, counted from 1, that does not have the form of a line of a manifest; if
+    /// there is no line `schedule`, this is the line after the last. Returns `Size` if all lines have the right form
+    /// and the sizes of the image are invalid. Returns `Memory` if memory cannot be allocated.
     pub fn parse(alloc: Global, bytes: &[u8]) -> Result<Bundle, ManifestFault>
         requires { length bytes.now + 1 < 2 ^ 32 }
         ensures exact { GivesBundle result bytes.now (read_bundle bytes.now) }

@@ -1,4 +1,4 @@
-//! A tree that grows entry by entry, and goes on after a fault.
+//! A tree that grows entry by entry, also after an error.
 ghost use Rattle.std.specs.Prelude.{◌≡◌, IsTrue, IfOk, IfErr};
 ghost use Rattle.pv_model.specs.Grammar.Manifests.{add_entry, are_sizes, data_blocks};
 ghost use Rattle.pv_model.specs.Manifest.{empty_tree};
@@ -13,7 +13,7 @@ use pv_tree::Tree;
 use std::alloc::Global;
 use std::marker::Model;
 
-/// The tree that entries made so far. A contract sees the tree.
+/// The tree that the entries so far have built. Contracts see the tree.
 #[derive(Drop)]
 pub struct Growing {
     tree: Box<Tree>,
@@ -32,9 +32,11 @@ impl Model for Growing {
 }
 
 impl Growing {
-    /// The tree of the root alone, in an image of these sizes.
+    /// Creates a tree with only a root, in an image of these sizes.
     ///
-    /// `Err(Memory)` says that memory was refused; no other fault comes.
+    /// # Errors
+    ///
+    /// Returns `Memory` if memory cannot be allocated, and no other error.
     pub fn new(alloc: Global, blocks: u16, inodes: u16) -> Result<Growing, ManifestFault>
         requires { IsTrue (are_sizes blocks inodes) }
         ensures tree { IfOk result (λ growing. growing ≡ empty_tree (data_blocks blocks inodes) inodes) }
@@ -49,10 +51,12 @@ impl Growing {
         Ok(Growing { tree, manifest })
     }
 
-    /// Adds what an entry makes: the tree with it, and no fault; or where it can't be made the tree as before, and why, as
-    /// `build` says it.
+    /// Adds an entry. Returns the tree with the entry and no error. If the entry cannot be created, returns the old
+    /// tree and the error, as `build` defines it.
     ///
-    /// `Err(Memory)` says that memory was refused; no other fault comes.
+    /// # Errors
+    ///
+    /// Returns `Memory` if memory cannot be allocated, and no other error.
     pub fn with(
         self,
         alloc: Global,

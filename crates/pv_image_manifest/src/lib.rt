@@ -1,30 +1,30 @@
-//! Manifests and bundles as their texts spell them.
+//! Manifests and bundles: parsing their texts, and building the tree of a manifest.
 //!
-//! A manifest tells the sizes of an image and the entries of its tree; a bundle is a manifest, the line `schedule`, and
-//! a schedule. `entry` and `manifest` say what these are, and `reading` and `bundle` read whole texts; below them
-//! `taking` reads one line with the lines that belong to it (`read_entry`), `lines` the first line and lines that are
-//! passed over, and `paths` the paths of entries. `building` makes the tree of a manifest, entry by entry, and `growing` has it as
-//! far as it is made. Each reader answers exactly what `pv_model`'s grammar of manifests gives, and a fault names the least line
-//! that has no form.
+//! A manifest has the sizes of an image and the entries of its tree. A bundle is a manifest, the line `schedule`, and a
+//! schedule. `manifest` and `entry` define the values, and `reading` and `bundle` parse whole texts. `entry_lines`
+//! parses a line with the lines that belong to it (`read_entry`), `lines` the first line and skipped lines, and `paths`
+//! the paths of entries. `building` builds the tree of a manifest entry by entry, and `growing` is a tree under
+//! construction. Each parser returns exactly what the grammar of `pv_model` defines, and an error contains the number
+//! of the first invalid line.
 #![tactic(auto)]
 
 mod building;
 mod bundle;
 mod entry;
+mod entry_lines;
 mod growing;
 mod lines;
 mod manifest;
 mod paths;
 mod read_entry;
 mod reading;
-mod taking;
 
 pub use building::build;
 pub use bundle::Bundle;
 pub use entry::{Content, Entry};
+pub use entry_lines::taken_by;
 pub use growing::Growing;
 pub use lines::{are_image_sizes, sizes};
 pub use manifest::Manifest;
 pub use paths::is_manifest_path;
 pub use read_entry::ReadEntry;
-pub use taking::taken_by;

@@ -1,4 +1,4 @@
-//! The first line of a manifest, and lines that are passed over.
+//! The first line of a manifest, and lines that are skipped.
 ghost use Rattle.std.specs.Prelude.{◌≡◌, ◌&&◌, ◌<◌, ◌≤◌, length, take, drop, flat_map, option_map, IfOk, IfSome, IfNone};
 ghost use Rattle.pv_model.specs.Grammar.Lines.{lines_of};
 ghost use Rattle.pv_model.specs.Grammar.Manifests.{are_sizes, sizes_of, is_schedule_line, with_line_end};
@@ -9,7 +9,8 @@ use pv_text::arguments::two_sizes;
 use pv_text::lines::{split_line, split_word};
 use std::alloc::{AllocError, Global};
 
-/// The blocks and inodes that the first line of a manifest tells, each held at 4,294,967,295.
+/// Parses the first line of a manifest: the numbers of blocks and inodes. A number greater than 4,294,967,295 is parsed
+/// as 4,294,967,295.
 pub fn sizes(line: &[u8]) -> Option<(u32, u32)>
     ensures { result ≡ option_map held_sizes (sizes_of line.now) }
 {
@@ -21,7 +22,7 @@ pub fn sizes(line: &[u8]) -> Option<(u32, u32)>
     }
 }
 
-/// Whether an image may have these sizes.
+/// Returns whether an image can have these sizes.
 pub fn are_image_sizes(blocks: u32, inodes: u32) -> bool
     ensures { result ≡ are_sizes blocks inodes }
 {
@@ -31,21 +32,25 @@ pub fn are_image_sizes(blocks: u32, inodes: u32) -> bool
     (inodes + 15) / 16 < blocks && blocks <= BLOCKS_V1 as u32
 }
 
-// Whether a line is the one with which a schedule begins.
+// Returns whether a line is the one that precedes a schedule.
 fn is_schedule(line: &[u8]) -> bool
     ensures { result ≡ is_schedule_line line.now }
 {
     line == b"schedule".as_slice()
 }
 
-/// Whether a line ends a manifest: in a bundle, the line `schedule`.
+/// Returns whether a line ends a manifest. In a bundle, the line `schedule` does.
 pub fn ends_manifest(in_bundle: bool, line: &[u8]) -> bool
     ensures { result ≡ (in_bundle && is_schedule_line line.now) }
 {
     in_bundle && is_schedule(line)
 }
 
-/// The first lines of a text, so many, each with its end, if there are so many.
+/// Returns the first `count` lines of a text, each with a line feed, or `None` if there are fewer.
+///
+/// # Errors
+///
+/// Returns `AllocError` if memory cannot be allocated.
 pub fn program_text(alloc: Global, count: u32, text: &[u8]) -> Result<Option<Vec<u8>>, AllocError>
     ensures fewer { IfOk result (λ o. IfNone o (length (lines_of text.now) < count)) }
     ensures enough { IfOk result (λ o. IfSome o (λ bytes. count ≤ length (lines_of text.now))) }
@@ -64,7 +69,7 @@ pub fn program_text(alloc: Global, count: u32, text: &[u8]) -> Result<Option<Vec
     Ok(Some(bytes))
 }
 
-/// The text after its first lines, so many: nothing where it has no more.
+/// Returns the text after its first `count` lines. It is empty if there are no more.
 pub fn after_lines(count: u32, text: &[u8]) -> &[u8]
     ensures lines { lines_of result.now ≡ drop count (lines_of text.now) }
     ensures end { IsEnd result.now text.now }

@@ -1,15 +1,15 @@
-//! What a manifest is.
+//! Manifests.
 ghost use Rattle.std.specs.Prelude.{IsTrue};
 ghost use Rattle.pv_model.specs.Grammar.Manifests.{are_sizes};
 
 use crate::entry::Entry;
 
-/// A manifest: the sizes of an image, and the entries of its tree in their order.
+/// A manifest: the sizes of an image, and the entries of its tree in order.
 #[derive(Drop)]
 pub struct Manifest {
-    /// The blocks of the image, from 2 to 8,192.
+    /// The number of blocks of the image, from 2 to 8,192.
     pub blocks: u16,
-    /// The inodes of the image, from 1 to 4,096.
+    /// The number of inodes of the image, from 1 to 4,096.
     pub inodes: u16,
     /// The entries, in the order of their lines.
     pub entries: Vec<Entry>,

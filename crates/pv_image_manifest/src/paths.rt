@@ -1,7 +1,7 @@
-//! Paths of entries, and texts of links.
+//! The paths of entries, and the targets of symbolic links.
 ghost use Rattle.std.specs.Prelude.{◌≡◌};
 ghost use Rattle.std.specs.List.{list_all};
-ghost use Rattle.pv_model.specs.Grammar.Manifests.{is_manifest_path as spells_manifest_path};
+ghost use Rattle.pv_model.specs.Grammar.Manifests.{is_manifest_path as encodes_manifest_path};
 ghost use Rattle.pv_model.specs.Tree.{is_link_text as may_be_link_text};
 ghost use Rattle.pv_image_manifest.specs.Contents.{is_link_byte};
 
@@ -9,9 +9,9 @@ use pv_model::limits::LINK_TEXT;
 use pv_model::{Version, is_name};
 use pv_text::components::split_component;
 
-/// Whether a path is a slash, and one or more names joined by single slashes.
+/// Returns whether a path is a slash followed by one or more names that are separated by single slashes.
 pub fn is_manifest_path(path: &[u8]) -> bool
-    ensures { result ≡ spells_manifest_path path.now }
+    ensures { result ≡ encodes_manifest_path path.now }
 {
     let [b'/', names @ ..] = path else {
         return false;
@@ -27,14 +27,14 @@ pub fn is_manifest_path(path: &[u8]) -> bool
     true
 }
 
-// Whether no byte is 0.
+// Returns whether no byte is 0.
 fn has_link_bytes(text: &[u8]) -> bool
     ensures { result ≡ list_all is_link_byte text.now }
 {
     text.iter().all(|b| *b != 0)
 }
 
-/// Whether a link may have this text: it has 1 to 1,023 bytes, none of them 0.
+/// Returns whether a text can be the target of a symbolic link: it has 1 to 1,023 bytes, and none is 0.
 pub fn is_link_text(text: &[u8]) -> bool
     ensures { result ≡ may_be_link_text text.now }
 {

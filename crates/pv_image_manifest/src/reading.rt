@@ -1,19 +1,19 @@
-//! Whole manifests, alone or in a bundle.
+//! Parsing whole manifests, alone or in a bundle.
 ghost use Rattle.std.specs.Prelude.{◌≡◌, ◌+◌, ◌<◌, ◌^◌, [], length, false, IfOk};
 ghost use Rattle.pv_model.specs.Grammar.Lines.{lines_of};
 ghost use Rattle.pv_model.specs.Grammar.Manifests.{entry_of, entries_from, manifest_by, read_manifest};
 ghost use Rattle.pv_image_manifest.specs.Reading.{IsEnd, GivesListed, GivesManifest, GivesManifestAndRest};
 
 use crate::entry::Entry;
+use crate::entry_lines::taken_by;
 use crate::lines::{after_lines, are_image_sizes, ends_manifest, sizes};
 use crate::manifest::Manifest;
-use crate::taking::taken_by;
 use pv_model::ManifestFault;
 use pv_text::lines::split_line;
 use std::alloc::Global;
 
-// The entries that the lines of a manifest from the second on spell, and the text after them: in a bundle that
-// after the line `schedule`, and else nothing.
+// Parses the entries from the second line on, and returns them with the text after them. In a bundle, this is the text
+// after the line `schedule`; otherwise it is empty.
 fn entries(
     alloc: Global,
     in_bundle: bool,
@@ -50,7 +50,7 @@ fn entries(
     }
 }
 
-/// The manifest that a text spells, alone or in a bundle, and the text after it.
+/// Parses a manifest, alone or in a bundle, and returns it with the text after it.
 pub(crate) fn read(
     alloc: Global,
     in_bundle: bool,
@@ -80,11 +80,13 @@ pub(crate) fn read(
 }
 
 impl Manifest {
-    /// The manifest that bytes spell.
+    /// Parses a manifest.
     ///
-    /// `Err(Form(n))` names the least line, counted from 1, that has not the form of a manifest's line, and
-    /// line 1 of a text of no lines; `Err(Size)` says that the form of all lines is right and the image's sizes
-    /// are not; `Err(Memory)` says that memory was refused.
+    /// # Errors
+    ///
+    /// Returns `Form(n)` for the first line, counted from 1, that does not have the form of a line of a manifest; in an
+    /// empty text, this is line 1. Returns `Size` if all lines have the right form and the sizes of the image are
+    /// invalid. Returns `Memory` if memory cannot be allocated.
     pub fn parse(alloc: Global, bytes: &[u8]) -> Result<Manifest, ManifestFault>
         requires { length bytes.now + 1 < 2 ^ 32 }
         ensures { GivesManifest result (read_manifest bytes.now) }

@@ -33,14 +33,14 @@ times_no : (k : ℕ) (xs : List ℕ) (i : ℕ) → i < length xs → (get_or xs 
 unfolding times
 times_no k xs i within differs = count_by_more_no (λ other. other == k) xs i 0 within differs
 
--- the counts, with the first numbers counted
+-- the counts after the first numbers are counted
 abbrev pub AreCounted : List ℕ → List ℕ → List ℕ → Type 0
 AreCounted old numbers new = (k : ℕ) → k < length old → get_or new k 0 ≡ get_or old k 0 + times k numbers
 
 pub none_counted : (old : List ℕ) → AreCounted old [] old
 none_counted old k within = let none = times_none k in omega (arith, none)
 
--- a place does not reach its type's end
+-- a count does not overflow
 pub room_to_count : (old new numbers : List ℕ) (i : ℕ) → i < length numbers → get_or numbers i 0 < length old → ((k : ℕ) → get_or old k 0 + length numbers < 2 ^ 32) → AreCounted old (take i numbers) new
     → get_or new (get_or numbers i 0) 0 + 1 < 2 ^ 32
 room_to_count old new numbers i within there few counted =

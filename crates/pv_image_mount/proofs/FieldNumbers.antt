@@ -1,10 +1,10 @@
--- Numbers in bytes, and where inodes stand.
+-- Numbers in bytes, and the position of inodes.
 use Rattle.std.proofs.Common.{◌≡◌, ℕ, zero, suc, ◌+◌, ◌*◌, ◌≤◌, ◌<◌, length, take, drop, get_or, ap, sym, ◌∙◌, refl, arith, drop-cons}
 use Rattle.byteorder.specs.Endian.{little_from}
 use Rattle.pv_model.specs.Bytes.{Bytes}
 use Rattle.pv_model.specs.Image.{number_of}
 
--- a number is read as the definitions spell it
+-- a number that is read is that of the specification
 pub little_from-number_of : (i n : ℕ) (xs : Bytes) → i + n ≤ length xs → little_from i n xs ≡ number_of (take n (drop i xs))
 little_from-number_of i zero xs within = refl
 little_from-number_of i (suc n) xs within =

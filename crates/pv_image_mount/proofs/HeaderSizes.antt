@@ -1,4 +1,4 @@
--- What the sizes of an image tell.
+-- The consequences of valid sizes of an image.
 use Rattle.std.proofs.Common.{◌+◌, ◌*◌, ◌≤◌, length}
 use Rattle.std.proofs.lemmas.Bool.{and_parts, leb-true}
 use Rattle.std.specs.Prelude.{◌&&◌, ◌==◌, nat_le}

@@ -1,4 +1,4 @@
--- The blocks that inodes use, and which of them are refused.
+-- The blocks that inodes use, and which of them are invalid.
 use Rattle.std.proofs.Common.{◌≡◌, ℕ, zero, suc, ◌+◌, ◌-◌, ◌≤◌, List, [], ◌∷◌, ◌++◌, Bool, true, false, ap, sym, ◌∙◌, refl, arith, ltb-false, ◌%◌}
 use Rattle.std.proofs.lemmas.Bool.{or_parts, or_right}
 use Rattle.std.proofs.lemmas.Grind.{flat_map-append}
@@ -11,7 +11,7 @@ use Rattle.pv_blocks.specs.BlockSet.{is_member}
 use Rattle.pv_model.specs.declared.version.Version.{Version}
 use Rattle.pv_model.specs.Bytes.{Bytes}
 use Rattle.pv_model.specs.Image.{size, used_content, used_index}
-use Rattle.pv_model.specs.Mount.{has_bad_block, has_bad_inode, is_data_block, is_free, kind, stands_twice, used_before, used_by}
+use Rattle.pv_model.specs.Mount.{has_bad_block, has_bad_inode, is_data_block, is_free, kind, appears_twice, used_before, used_by}
 use Rattle.pv_model.specs.Room.{entry_length, greatest_length}
 use Rattle.pv_image_mount.specs.Claims.{is_refused, is_taken_by, HasUsedBefore}
 
@@ -40,7 +40,7 @@ or_flips a b = elim a as (λ a. (a || b) ≡ (b || a)) [ true ↦ sym (or_right 
 -- ---- inodes
 
 module _ (v : Version) (bytes : Bytes) where
-  -- the size of an inode that is not at fault
+  -- the size of a valid inode
   pub size_fits : (n : ℕ) → has_bad_inode v bytes n ≡ false → is_free v bytes n ≡ false → size v bytes n ≤ greatest_length v
   unfolding has_bad_inode
   size_fits n fine used =
@@ -62,11 +62,11 @@ module _ (v : Version) (bytes : Bytes) where
   pub used_by-used : (n : ℕ) → is_free v bytes n ≡ false → used_by v bytes n ≡ used_content v bytes n ++ used_index v bytes n
   used_by-used n used = ap (λ b. cond b [] (used_content v bytes n ++ used_index v bytes n)) used
 
-  -- what is at fault is what the set refuses
+  -- a block is invalid by the specification if and only if the set rejects it
   pub bad_block-refused : (used : BlockSet) (n : ℕ) → HasUsedBefore used v bytes n → is_refused (is_data_block v bytes) (is_member used) (used_by v bytes n) ≡ has_bad_block v bytes n
   unfolding has_bad_block is_refused
   bad_block-refused used n has =
-      ap (λ b. list_any (λ k. not (is_data_block v bytes k)) (used_by v bytes n) || stands_twice ◌==◌ (used_by v bytes n) || b)
+      ap (λ b. list_any (λ k. not (is_data_block v bytes k)) (used_by v bytes n) || appears_twice ◌==◌ (used_by v bytes n) || b)
       (same_tests (is_member used) (λ k. list_any (λ o. o == k) (used_before v bytes n)) has (used_by v bytes n))
 
   pub used_before_more : (n : ℕ) → 1 ≤ n → used_before v bytes (n + 1) ≡ used_before v bytes n ++ used_by v bytes n

@@ -1,4 +1,4 @@
--- The contents of inodes, and how long they are.
+-- The contents of inodes, and their length.
 use Rattle.std.proofs.Common.{◌≡◌, ℕ, suc, ◌+◌, ◌-◌, ◌*◌, ◌≤◌, ◌<◌, List, [], ◌∷◌, ◌++◌, length, drop, get_or, Bool, true, false, ap, sym, subst, ◌∙◌, refl, arith, ltb-true}
 use Rattle.std.proofs.lemmas.Bool.{and_parts, or_parts}
 use Rattle.std.proofs.lemmas.List.{length-append, length-drop, length-take-le}
@@ -8,13 +8,13 @@ use Rattle.std.specs.List.{list_any}
 use Rattle.pv_model.specs.declared.version.Version.{Version}
 use Rattle.pv_model.specs.Bytes.{Bytes}
 use Rattle.pv_model.specs.Image.{block, block_count, content, inode, inode_blocks, size, used_content, used_index}
-use Rattle.pv_model.specs.Mount.{block_number, inode_number, has_bad_block, has_bad_inode, is_data_block, is_free, stands_twice, used_before, used_by}
+use Rattle.pv_model.specs.Mount.{block_number, inode_number, has_bad_block, has_bad_inode, is_data_block, is_free, appears_twice, used_before, used_by}
 use Rattle.pv_model.specs.Room.{rounded_up}
 use Rattle.pv_image_mount.proofs.InodeBlocks.{size_fits, used_by-used}
 use Rattle.pv_image_mount.proofs.PointerRows.{length-row, used_content-rows, used_index-row}
 use Rattle.pv_image_mount.specs.Rows.{pointer_row}
 
--- what no element passes, the i-th does not
+-- if no element passes a test, element i does not
 pub none_at : {X : Type 0} (p : X → Bool) (xs : List X) (i : ℕ) (d : X) → list_any p xs ≡ false → i < length xs → p (get_or xs i d) ≡ false
 none_at p xs i d none within =
     elim (p (get_or xs i d)) as (λ b. p (get_or xs i d) ≡ b → b ≡ false) [
@@ -22,7 +22,7 @@ none_at p xs i d none within =
       | false ↦ λ is. refl
     ] refl
 
--- lists that are all as long
+-- concatenations of lists of equal length
 length_flat : {A : Type 0} (f : ℕ → List A) (m : ℕ) (xs : List ℕ) → ((i : ℕ) → i < length xs → length (f (get_or xs i 0)) ≡ m) → length (flat_map f xs) ≡ m * length xs
 length_flat f m [] each = let e : 0 ≡ m * 0 = omega arith in e
 length_flat f m (x ∷ xs) each =
@@ -50,8 +50,8 @@ module _ (v : Version) (bytes : Bytes) where
         let blocks = used_by v bytes n in
         let outside = list_any (λ k. not (is_data_block v bytes k)) in
         let before = list_any (λ k. list_any (λ other. other == k) (used_before v bytes n)) blocks in
-        let first = or_parts (outside blocks || stands_twice ◌==◌ blocks) before block_fine in
-        sym (ap outside (used_by-used v bytes n used)) ∙ (or_parts (outside blocks) (stands_twice ◌==◌ blocks) first.0).0
+        let first = or_parts (outside blocks || appears_twice ◌==◌ blocks) before block_fine in
+        sym (ap outside (used_by-used v bytes n used)) ∙ (or_parts (outside blocks) (appears_twice ◌==◌ blocks) first.0).0
 
     parts : (list_any (λ k. not (is_data_block v bytes k)) (used_content v bytes n) ≡ false) × (list_any (λ k. not (is_data_block v bytes k)) (used_index v bytes n) ≡ false)
     parts =
@@ -84,7 +84,7 @@ module _ (v : Version) (bytes : Bytes) where
         let following : length (drop (512 * k) bytes) ≡ total - 512 * k = length-drop (512 * k) bytes in
         length-take-le 512 (drop (512 * k) bytes) (omega (arith, following, whole, within))
 
-    -- a content is as long as it is said to be
+    -- contents have the length in their inode
     pub length_content : length bytes ≡ 512 * block_number bytes → length (content v bytes n) ≡ size v bytes n
     length_content whole =
         let all = flat_map (block bytes) (used_content v bytes n) in

@@ -1,4 +1,4 @@
--- Lists that get the numbers that they lack.
+-- Lists to which missing numbers are added.
 use Rattle.std.proofs.Common.{◌≡◌, ℕ, zero, suc, ◌+◌, ◌≤◌, ◌<◌, List, [], ◌∷◌, ◌++◌, length, get_or, take, true, false, cond, inl, inr, ap, sym, subst, ◌∙◌, refl, arith, ltb-true, ltb-false}
 use Rattle.std.proofs.lemmas.Bool.{eqb-true, or_cases, or_left, or_right}
 use Rattle.std.proofs.lemmas.Bool.Decides.{nat_tests}
@@ -19,13 +19,13 @@ among_last : (xs : List ℕ) (k j : ℕ) → is_among (xs ++ k ∷ []) j ≡ (k 
 among_last xs k j =
     list_any-append (λ other. other == j) xs (k ∷ []) ∙ ap (λ b. is_among xs j || b) (or_none (k == j)) ∙ or_flips (is_among xs j) (k == j)
 
--- whether it stands there
-pub record StandsAt (xs : List ℕ) (k : ℕ) : Type 0 where
+-- the position of a number in a list
+pub record AppearsAt (xs : List ℕ) (k : ℕ) : Type 0 where
   pub at : ℕ
   pub within : at < length xs
   pub is : get_or xs at 0 ≡ k
 
-pub among_at : (xs : List ℕ) (k : ℕ) → is_among xs k ≡ true → StandsAt xs k
+pub among_at : (xs : List ℕ) (k : ℕ) → is_among xs k ≡ true → AppearsAt xs k
 among_at [] k is = absurd cc
 among_at (x ∷ xs) k is =
     elim (or_cases (x == k) (is_among xs k) is) [
@@ -72,7 +72,7 @@ last_front xs k i within =
       | false ↦ get_or_append_left xs (k ∷ []) 0 i within
     ]
 
--- what holds of each number at its place, and of the new one from a place on
+-- a property of each number at its position, and of the new one
 last_each : (P : ℕ → ℕ → Type 0) (xs : List ℕ) (k : ℕ) → ((i : ℕ) → i < length xs → P i (get_or xs i 0)) → ((i : ℕ) → length xs ≤ i → P i k)
     → (i : ℕ) → i < length (with_number_last xs k) → P i (get_or (with_number_last xs k) i 0)
 last_each P xs k old new =

@@ -1,10 +1,12 @@
 -- Lemmas of the check of an image.
+--
 -- - numbers and sizes: FieldNumbers, HeaderSizes
--- - blocks: PointerRows (rows of pointers), Refusals (which lists of blocks are refused), InodeBlocks (the blocks of the inodes before
---   one), InodeContents (contents and how long they are)
--- - slots: SlotRows (slot by slot), SortedNames (names in order), BadContents (what is at fault, by what the inode is)
--- - places: SlotTargets (which inodes directories name), Counting (names), Joining (lists that get what they lack), Reaching
--- - Mounted: the image that bytes are which pass
+-- - blocks: PointerRows (sequences of pointers), Refusals (lists of blocks that are invalid), InodeBlocks (the blocks
+--   of the inodes before one), InodeContents (contents and their length)
+-- - slots: SlotRows (slot by slot), SortedNames (sorted names), BadContents (errors, by the kind of the inode)
+-- - places: SlotTargets (the inodes that directories name), Counting (names), Joining (lists to which missing numbers
+--   are added), Reaching
+-- - Mounted: the image of bytes that pass
 pub mod BadContents
 pub mod Counting
 pub mod FieldNumbers

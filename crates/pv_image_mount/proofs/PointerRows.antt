@@ -1,4 +1,4 @@
--- Rows of pointers, and how many an inode uses.
+-- Sequences of pointers, and their number in an inode.
 use Rattle.std.proofs.Common.{◌≡◌, ℕ, zero, suc, ◌+◌, ◌-◌, ◌*◌, ◌≤◌, ◌<◌, List, [], ◌∷◌, ◌++◌, length, take, drop, get_or, min, ap, sym, subst, ◌∙◌, refl, arith}
 use Rattle.std.proofs.lemmas.List.{drop-drop, drop_all, drop_more, flat_map_more, length-take, take_all, take_min, take_more, take_rest}
 use Rattle.std.specs.Prelude.{flat_map}
@@ -9,7 +9,7 @@ use Rattle.pv_model.specs.Image.{field, pointers, index_pointers, block, block_c
 use Rattle.pv_model.specs.Room.{rounded_up, greatest_length}
 use Rattle.pv_image_mount.specs.Rows.{pointed_row, pointer_row}
 
--- one pointer more
+-- one more pointer
 pointers_more : (n : ℕ) (bytes : Bytes) → pointers (n + 1) bytes ≡ pointers n bytes ++ field bytes (2 * n) 2 ∷ []
 pointers_more zero bytes = refl
 pointers_more (suc n) bytes =
@@ -26,7 +26,7 @@ take-pointers zero n bytes few = refl
 take-pointers (suc k) zero bytes few = absurd (omega arith)
 take-pointers (suc k) (suc n) bytes few = ap (λ ps. field bytes 0 2 ∷ ps) (take-pointers k n (drop 2 bytes) (omega arith))
 
--- an inode points to all index blocks that it uses
+-- an inode has pointers to all index blocks that it uses
 index_fits : (v : Version) (size : ℕ) → size ≤ greatest_length v → rounded_up (rounded_up size 512 - 10) 256 ≤ index_pointers v
 index_fits V1 size most = omega arith
 index_fits V2 size most = omega arith
@@ -39,20 +39,20 @@ pub row_more : (n : ℕ) (bytes : Bytes) → pointer_row (n + 1) bytes ≡ point
 unfolding pointer_row
 row_more n bytes = pointers_more n bytes
 
--- the index blocks that an inode uses
+-- the index blocks of an inode
 pub used_index-row : (v : Version) (bytes : Bytes) (n : ℕ) → size v bytes n ≤ greatest_length v
     → used_index v bytes n ≡ pointer_row (rounded_up (block_count v bytes n - 10) 256) (drop 28 (inode v bytes n))
 unfolding pointer_row
 used_index-row v bytes n most =
     take-pointers (rounded_up (block_count v bytes n - 10) 256) (index_pointers v) (drop 28 (inode v bytes n)) (index_fits v (size v bytes n) most)
 
--- the blocks of its content
+-- the blocks of its contents
 pub used_content-rows : (v : Version) (bytes : Bytes) (n : ℕ)
     → used_content v bytes n ≡ take (block_count v bytes n) (pointer_row 10 (drop 8 (inode v bytes n)) ++ flat_map (λ k. pointer_row 256 (block bytes k)) (used_index v bytes n))
 unfolding pointer_row
 used_content-rows v bytes n = refl
 
--- one more list joined after a front
+-- one more list after a prefix
 pub joined_more : {X : Type 0} (front : List X) (f : ℕ → List X) (xs : List ℕ) (i : ℕ) → i < length xs → (list new part : List X)
     → list ≡ front ++ flat_map f (take i xs) → new ≡ list ++ part → part ≡ f (get_or xs i 0) → new ≡ front ++ flat_map f (take (i + 1) xs)
 joined_more front f xs i within list new part so_far more is =
@@ -67,7 +67,7 @@ pub length-row : (n : ℕ) (bytes : Bytes) → length (pointer_row n bytes) ≡ 
 unfolding pointer_row
 length-row n bytes = length-pointers n bytes
 
--- the first of a row
+-- a prefix of a sequence
 pub take-row : (k n : ℕ) (bytes : Bytes) → take k (pointer_row n bytes) ≡ pointer_row (min k n) bytes
 unfolding pointer_row
 take-row k n bytes =
@@ -84,7 +84,7 @@ pub get_or-row : (n i : ℕ) (bytes : Bytes) → i < n → get_or (pointer_row n
 unfolding pointer_row
 get_or-row n i bytes within = get_or-pointers n i bytes within
 
--- a row from one of its pointers on
+-- a sequence from one of its pointers on
 pub row_from : (n i : ℕ) (bytes : Bytes) → i < n → drop i (pointer_row n bytes) ≡ field bytes (2 * i) 2 ∷ drop (i + 1) (pointer_row n bytes)
 row_from n i bytes within =
     let row = pointer_row n bytes in
@@ -94,13 +94,13 @@ row_from n i bytes within =
 pub row_end : (n i : ℕ) (bytes : Bytes) → n ≤ i → drop i (pointer_row n bytes) ≡ []
 row_end n i bytes past = drop_all i (pointer_row n bytes) (subst (λ m. m ≤ i) (sym (length-row n bytes)) past)
 
--- the first of two lists, the second after the first
+-- a prefix of the concatenation of two lists
 take_across : {X : Type 0} (n : ℕ) (xs ys : List X) → take n (xs ++ ys) ≡ take n xs ++ take (n - length xs) ys
 take_across zero xs ys = ap (λ m. take m ys) (let none : 0 ≡ 0 - length xs = omega arith in none)
 take_across (suc n) [] ys = ap (λ m. take m ys) (let all : suc n ≡ suc n - 0 = omega arith in all)
 take_across (suc n) (x ∷ xs) ys = ap (λ l. x ∷ l) (take_across n xs ys) ∙ ap (λ m. x ∷ take n xs ++ take m ys) (let same : n - length xs ≡ suc n - suc (length xs) = omega arith in same)
 
--- those of one block, and of the others
+-- the pointers in one block, and those in the others
 pub pointed-cons : (count : ℕ) (bytes : Bytes) (k : ℕ) (ks : List ℕ) → pointed_row count bytes (k ∷ ks) ≡ pointer_row (min count 256) (block bytes k) ++ pointed_row (count - 256) bytes ks
 pointed-cons count bytes k ks =
     let row = pointer_row 256 (block bytes k) in
@@ -108,7 +108,7 @@ pointed-cons count bytes k ks =
     take_across count row others ∙ ap (λ l. l ++ take (count - length row) others) (take-row count 256 (block bytes k))
     ∙ ap (λ m. pointer_row (min count 256) (block bytes k) ++ take (count - m) others) (length-row 256 (block bytes k))
 
--- the same from one of the blocks on, to which pointers lead
+-- the same from one of the blocks on
 pub pointed_from : (count : ℕ) (bytes : Bytes) (n i : ℕ) (index : Bytes) → i < n
     → pointed_row (count - 256 * i) bytes (drop i (pointer_row n index))
     ≡ pointer_row (min (count - 256 * i) 256) (block bytes (field index (2 * i) 2)) ++ pointed_row (count - 256 * (i + 1)) bytes (drop (i + 1) (pointer_row n index))
@@ -122,7 +122,7 @@ pointed_from count bytes n i index within =
 pub pointed_end : (count : ℕ) (bytes : Bytes) (n i : ℕ) (index : Bytes) → n ≤ i → pointed_row count bytes (drop i (pointer_row n index)) ≡ []
 pointed_end count bytes n i index past = ap (pointed_row count bytes) (row_end n i index past) ∙ take_all count [] (omega arith)
 
--- the blocks of an inode's content: those to which it points, and those to which its index blocks do
+-- the blocks of an inode's contents: those to which it points, and those to which its index blocks point
 pub used_content-parts : (v : Version) (bytes : Bytes) (n : ℕ)
     → used_content v bytes n ≡ pointer_row (min (block_count v bytes n) 10) (drop 8 (inode v bytes n)) ++ pointed_row (block_count v bytes n - 10) bytes (used_index v bytes n)
 used_content-parts v bytes n =

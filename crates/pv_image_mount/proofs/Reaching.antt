@@ -1,4 +1,4 @@
--- What slots lead to from the root.
+-- The inodes that are reachable from the root.
 use Rattle.std.proofs.Common.{◌≡◌, ℕ, zero, suc, ◌+◌, ◌-◌, ◌≤◌, ◌<◌, List, [], ◌∷◌, length, get_or, Bool, true, false, cond, inl, inr, ap, sym, subst, ◌∙◌, refl, arith, ltb-true, ltb-false}
 use Rattle.std.proofs.lemmas.Bool.{eqb-true, or_cases, or_left, or_right}
 use Rattle.std.proofs.lemmas.List.FromFn.{get_or-range_with_len, length-range_with_len}
@@ -21,10 +21,10 @@ use Rattle.pv_image_mount.specs.Places.{is_among, joined, targets_of, HasEach}
 -- ---- lists
 
 any_of : (p q : ℕ → Bool) (xs : List ℕ) (i : ℕ) → i < length xs → q (get_or xs i 0) ≡ true → p (get_or xs i 0) ≡ true → list_any p (filter q xs) ≡ true
-any_of p q [] i within kept is = absurd (omega arith)
-any_of p q (x ∷ xs) zero within kept is = ap (λ b. list_any p (cond b (x ∷ filter q xs) (filter q xs))) kept ∙ or_left (p x) (list_any p (filter q xs)) is
-any_of p q (x ∷ xs) (suc i) within kept is =
-    let rest = any_of p q xs i (omega arith) kept is in
+any_of p q [] i within preserved is = absurd (omega arith)
+any_of p q (x ∷ xs) zero within preserved is = ap (λ b. list_any p (cond b (x ∷ filter q xs) (filter q xs))) preserved ∙ or_left (p x) (list_any p (filter q xs)) is
+any_of p q (x ∷ xs) (suc i) within preserved is =
+    let rest = any_of p q xs i (omega arith) preserved is in
     elim (q x) as (λ b. list_any p (cond b (x ∷ filter q xs) (filter q xs)) ≡ true) [
       | true ↦ or_right (p x) (list_any p (filter q xs)) rest
       | false ↦ rest
@@ -32,16 +32,16 @@ any_of p q (x ∷ xs) (suc i) within kept is =
 
 record IsOneOf (p q : ℕ → Bool) : Type 0 where
   one : ℕ
-  kept : q one ≡ true
+  preserved : q one ≡ true
   is : p one ≡ true
 
 one_of : (p q : ℕ → Bool) (xs : List ℕ) → list_any p (filter q xs) ≡ true → IsOneOf p q
 one_of p q [] is = absurd cc
 one_of p q (x ∷ xs) is =
     elim (q x) as (λ b. q x ≡ b → list_any p (cond b (x ∷ filter q xs) (filter q xs)) ≡ true → IsOneOf p q) [
-      | true ↦ λ kept some.
+      | true ↦ λ preserved some.
           elim (or_cases (p x) (list_any p (filter q xs)) some) [
-            | inl here ↦ record { one = x; kept = kept; is = here }
+            | inl here ↦ record { one = x; preserved = preserved; is = here }
             | inr following ↦ one_of p q xs following
           ]
       | false ↦ λ dropped some. one_of p q xs some
@@ -89,13 +89,13 @@ module _ (v : Version) (bytes : Bytes) where
       or_right (n == root) (list_any (is_reached_within v bytes steps) (filter (has_slot_for v bytes n) numbers))
       (any_of (is_reached_within v bytes steps) (has_slot_for v bytes n) numbers (d - 1) within (ap (has_slot_for v bytes n) there ∙ slot) (ap (is_reached_within v bytes steps) there ∙ is))
 
-  -- ---- going on
+  -- ---- the search
 
-  -- a number is reached in so many steps
+  -- a number is reachable in n steps
   abbrev IsReachedIn : ℕ → ℕ → Type 0
   IsReachedIn steps n = (is_reached_within v bytes steps n ≡ true) × IsNumber bytes n
 
-  -- the numbers that are reached, in the order in which they were found, and how many were gone on from
+  -- the visited numbers in order, and how many of them are expanded
   pub record IsVisited (seen : BlockSet) (order : List ℕ) (at : ℕ) : Type 0 where
     pub each : HasEach seen order
     pub begun : is_among order root ≡ true
@@ -149,15 +149,15 @@ module _ (v : Version) (bytes : Bytes) where
         within = omega (arith, longer, less);
       }
 
-  -- no more are found than there are inodes
+  -- no more are visited than there are inodes
   pub few_visited : (seen : BlockSet) (order : List ℕ) (at : ℕ) → IsVisited seen order at → length order ≤ inode_number bytes + 1
   few_visited seen order at visited =
       length-le_from_distinct_below order (inode_number bytes + 1) visited.each.once
       (λ q is.
       let among : is_among order q ≡ true = sym (same_tests (λ y. q == y) (λ y. y == q) (eq_flips q) order) ∙ is in
-      let stands = among_at order q among in
-      let most = (visited.reached stands.at stands.within).1.1 in
-      let same = stands.is in
+      let appears = among_at order q among in
+      let most = (visited.reached appears.at appears.within).1.1 in
+      let same = appears.is in
       omega (arith, most, same))
 
   all_found : (seen : BlockSet) (order : List ℕ) (at : ℕ) → IsVisited seen order at → length order ≤ at → (steps n : ℕ) → is_reached_within v bytes steps n ≡ true → is_among order n ≡ true
@@ -169,22 +169,22 @@ module _ (v : Version) (bytes : Bytes) where
         | inr following ↦
             let parent = one_of (is_reached_within v bytes steps) (has_slot_for v bytes n) (inode_numbers bytes) following in
             let d = parent.one in
-            let stands = among_at order d (all_found seen order at visited all steps d parent.is) in
-            let inside = stands.within in
-            let slot : is_among (targets_of v bytes (get_or order stands.at 0)) n ≡ true = ap (λ m. is_among (targets_of v bytes m) n) stands.is ∙ sym (slot_for-among v bytes n d) ∙ parent.kept in
-            let target = among_at (targets_of v bytes (get_or order stands.at 0)) n slot in
-            subst (λ m. is_among order m ≡ true) target.is (visited.closed stands.at (omega (arith, inside, all)) target.at target.within)
+            let appears = among_at order d (all_found seen order at visited all steps d parent.is) in
+            let inside = appears.within in
+            let slot : is_among (targets_of v bytes (get_or order appears.at 0)) n ≡ true = ap (λ m. is_among (targets_of v bytes m) n) appears.is ∙ sym (slot_for-among v bytes n d) ∙ parent.preserved in
+            let target = among_at (targets_of v bytes (get_or order appears.at 0)) n slot in
+            subst (λ m. is_among order m ≡ true) target.is (visited.closed appears.at (omega (arith, inside, all)) target.at target.within)
       ]
 
-  -- where all were gone on from, they are what is reached
+  -- if all are expanded, they are the reachable ones
   pub visited_all : (seen : BlockSet) (order : List ℕ) (at : ℕ) → IsVisited seen order at → length order ≤ at → (k : ℕ) → is_member seen k ≡ is_reached_within v bytes (inode_number bytes) k
   visited_all seen order at visited all k =
       visited.each.members k
       ∙ same_truth (is_among order k) (is_reached_within v bytes (inode_number bytes) k)
       (λ is.
-      let stands = among_at order k is in
-      let inside = stands.within in
+      let appears = among_at order k is in
+      let inside = appears.within in
       let few = few_visited seen order at visited in
-      let known = (visited.reached stands.at inside).0 in
-      later stands.at (inode_number bytes) k (omega (arith, inside, few)) (subst (λ n. is_reached_within v bytes stands.at n ≡ true) stands.is known))
+      let known = (visited.reached appears.at inside).0 in
+      later appears.at (inode_number bytes) k (omega (arith, inside, few)) (subst (λ n. is_reached_within v bytes appears.at n ≡ true) appears.is known))
       (all_found seen order at visited all (inode_number bytes) k)

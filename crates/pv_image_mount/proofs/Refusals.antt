@@ -1,4 +1,4 @@
--- Which lists of blocks are refused, and what is left to be claimed of one.
+-- Lists of blocks that are invalid, and the rest of a list that remains to be claimed.
 use Rattle.std.proofs.Common.{◌≡◌, ℕ, List, [], ◌∷◌, ◌++◌, Bool, true, false, ap, sym, ◌∙◌, refl, arith}
 use Rattle.std.proofs.lemmas.Bool.{or_parts, or_from, or_right, true_from_ne_false}
 use Rattle.std.proofs.lemmas.Bool.Decides.{nat_tests}
@@ -7,8 +7,8 @@ use Rattle.std.proofs.lemmas.List.Sorted.{IsPermutation-append_comm, list_any-Is
 use Rattle.std.proofs.lemmas.Map.Keys.{IsDistinct-IsPermutation}
 use Rattle.std.specs.Prelude.{not, ◌||◌, ◌==◌}
 use Rattle.std.specs.List.{list_any}
-use Rattle.pv_laws_images.proofs.Ranges.{apart-once, distinct-once, once-apart, once-distinct}
-use Rattle.pv_model.specs.Mount.{stands_twice}
+use Rattle.pv_laws_trees.proofs.Ranges.{apart-once, distinct-once, once-apart, once-distinct}
+use Rattle.pv_model.specs.Mount.{appears_twice}
 use Rattle.pv_image_mount.proofs.InodeBlocks.{or_none, same_tests}
 use Rattle.pv_image_mount.specs.Claims.{is_refused, is_taken_by}
 
@@ -18,14 +18,14 @@ eq_flips a b = grind (arith, nat_tests)
 moved : (b a t : Bool) → (b || (a || t)) ≡ ((a || b) || t)
 moved b a t = elim a as (λ a. (b || (a || t)) ≡ ((a || b) || t)) [ true ↦ or_right b true refl | false ↦ refl ]
 
--- tests that fail together
+-- two tests that fail together are equal
 same_false : (a b : Bool) → (a ≡ false → b ≡ false) → (b ≡ false → a ≡ false) → a ≡ b
 same_false true true there back = refl
 same_false true false there back = back refl
 same_false false true there back = sym (there refl)
 same_false false false there back = refl
 
--- what passes neither of two tests
+-- numbers that pass neither of two tests
 neither : (p q : ℕ → Bool) (xs : List ℕ) → list_any p xs ≡ false → list_any q xs ≡ false → list_any (λ k. p k || q k) xs ≡ false
 neither p q [] left right = refl
 neither p q (x ∷ xs) left right =
@@ -41,7 +41,7 @@ neither-parts p q (x ∷ xs) none =
     let rest = neither-parts p q xs parts.1 in
     (or_from (p x) (list_any p xs) here.0 rest.0, or_from (q x) (list_any q xs) here.1 rest.1)
 
-once_flips : (xs ys : List ℕ) → stands_twice ◌==◌ (xs ++ ys) ≡ false → stands_twice ◌==◌ (ys ++ xs) ≡ false
+once_flips : (xs ys : List ℕ) → appears_twice ◌==◌ (xs ++ ys) ≡ false → appears_twice ◌==◌ (ys ++ xs) ≡ false
 once_flips xs ys once =
     distinct-once ◌==◌ (ys ++ xs) (IsDistinct-IsPermutation ◌==◌ eq_flips (xs ++ ys) (ys ++ xs) (IsPermutation-append_comm xs ys) (once-distinct ◌==◌ (xs ++ ys) once))
 
@@ -57,25 +57,25 @@ module _ (may_be_used : ℕ → Bool) where
   abbrev may_not : ℕ → Bool
   may_not k = not (may_be_used k)
 
-  -- each block of a list may be used, stands there once, and is not taken
+  -- each block of a list is valid, occurs once, and is not taken
   pub record AreFree (taken : ℕ → Bool) (blocks : List ℕ) : Type 0 where
     pub may_be : list_any may_not blocks ≡ false
-    pub once : stands_twice ◌==◌ blocks ≡ false
+    pub once : appears_twice ◌==◌ blocks ≡ false
     pub free : list_any taken blocks ≡ false
 
   pub free-parts : (taken : ℕ → Bool) (xs : List ℕ) → is_refused may_be_used taken xs ≡ false → AreFree taken xs
   unfolding is_refused
   free-parts taken xs fine =
-      let front = or_parts (list_any may_not xs || stands_twice ◌==◌ xs) (list_any taken xs) fine in
-      let parts = or_parts (list_any may_not xs) (stands_twice ◌==◌ xs) front.0 in
+      let front = or_parts (list_any may_not xs || appears_twice ◌==◌ xs) (list_any taken xs) fine in
+      let parts = or_parts (list_any may_not xs) (appears_twice ◌==◌ xs) front.0 in
       record { may_be = parts.0; once = parts.1; free = front.1 }
 
   free-all : (taken : ℕ → Bool) (xs : List ℕ) → AreFree taken xs → is_refused may_be_used taken xs ≡ false
   unfolding is_refused
   free-all taken xs are =
-      or_from (list_any may_not xs || stands_twice ◌==◌ xs) (list_any taken xs) (or_from (list_any may_not xs) (stands_twice ◌==◌ xs) are.may_be are.once) are.free
+      or_from (list_any may_not xs || appears_twice ◌==◌ xs) (list_any taken xs) (or_from (list_any may_not xs) (appears_twice ◌==◌ xs) are.may_be are.once) are.free
 
-  -- the front of a list, and what is after it
+  -- a prefix of a list, and the rest
   free-front : (taken : ℕ → Bool) (xs ys : List ℕ) → AreFree taken (xs ++ ys) → AreFree taken xs × AreFree (is_taken_by taken xs) ys
   free-front taken xs ys are =
       let may = or_parts (list_any may_not xs) (list_any may_not ys) (sym (list_any-append may_not xs ys) ∙ are.may_be) in
@@ -94,7 +94,7 @@ module _ (may_be_used : ℕ → Bool) where
         free = list_any-append taken xs ys ∙ or_from (list_any taken xs) (list_any taken ys) front.free parts.1;
       }
 
-  -- after a front that is not refused, what follows decides
+  -- after a valid prefix, the rest decides
   refused_after : (taken : ℕ → Bool) (xs ys : List ℕ) → is_refused may_be_used taken xs ≡ false
       → is_refused may_be_used (is_taken_by taken xs) ys ≡ is_refused may_be_used taken (xs ++ ys)
   refused_after taken xs ys fine =
@@ -103,7 +103,7 @@ module _ (may_be_used : ℕ → Bool) where
       (λ following. free-all taken (xs ++ ys) (free-append taken xs ys front (free-parts (is_taken_by taken xs) ys following)))
       (λ all. free-all (is_taken_by taken xs) ys (free-front taken xs ys (free-parts taken (xs ++ ys) all)).1)
 
-  -- a front that is refused decides
+  -- an invalid prefix decides
   refused_front : (taken : ℕ → Bool) (xs ys : List ℕ) → is_refused may_be_used taken xs ≡ true → is_refused may_be_used taken (xs ++ ys) ≡ true
   refused_front taken xs ys is =
       true_from_ne_false (is_refused may_be_used taken (xs ++ ys)) (λ all.
@@ -112,7 +112,7 @@ module _ (may_be_used : ℕ → Bool) where
 
   same_refused : (taken other : ℕ → Bool) → ((k : ℕ) → taken k ≡ other k) → (xs : List ℕ) → is_refused may_be_used taken xs ≡ is_refused may_be_used other xs
   unfolding is_refused
-  same_refused taken other same xs = ap (λ b. list_any may_not xs || stands_twice ◌==◌ xs || b) (same_tests taken other same xs)
+  same_refused taken other same xs = ap (λ b. list_any may_not xs || appears_twice ◌==◌ xs || b) (same_tests taken other same xs)
 
   pub refused_flips : (taken : ℕ → Bool) (xs ys : List ℕ) → is_refused may_be_used taken (xs ++ ys) ≡ is_refused may_be_used taken (ys ++ xs)
   refused_flips taken xs ys =
@@ -144,7 +144,7 @@ module _ (may_be_used : ℕ → Bool) where
   one_taken taken x is = true_from_ne_false (is_refused may_be_used taken (x ∷ [])) (λ fine. let new = (or_parts (taken x) false (free-parts taken (x ∷ []) fine).free).0 in cc)
 
   module _ (first : ℕ → Bool) (blocks : List ℕ) where
-    -- what is left of the blocks decides with what is taken now as all of them did with what was taken first
+    -- the rest of the blocks with the set now decides as all blocks with the initial set do
     pub record IsLeft (now : ℕ → Bool) (left : List ℕ) : Type 0 where
       pub refused : is_refused may_be_used now left ≡ is_refused may_be_used first blocks
       pub taken : (k : ℕ) → is_taken_by now left k ≡ is_taken_by first blocks k
@@ -171,7 +171,7 @@ module _ (may_be_used : ℕ → Bool) where
     pub none_left-taken : (now : ℕ → Bool) (left : List ℕ) → left ≡ [] → IsLeft now left → (k : ℕ) → now k ≡ is_taken_by first blocks k
     none_left-taken now left none before k = sym (ap (λ l. is_taken_by now l k) none) ∙ before.taken k
 
-    -- two fronts that are claimed, one after the other
+    -- two prefixes that are claimed in sequence
     pub two_less : (middle new : ℕ → Bool) (xs ys zs : List ℕ) → blocks ≡ xs ++ (ys ++ zs) → is_refused may_be_used first xs ≡ false → ((k : ℕ) → middle k ≡ is_taken_by first xs k)
         → is_refused may_be_used middle ys ≡ false → ((k : ℕ) → new k ≡ is_taken_by middle ys k) → IsLeft new zs
     two_less middle new xs ys zs split fine more fine_too more_too =

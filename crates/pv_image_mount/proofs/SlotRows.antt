@@ -1,4 +1,4 @@
--- The slots of a directory's content, one by one.
+-- The slots of a directory's contents, one by one.
 use Rattle.std.proofs.Common.{◌≡◌, ℕ, zero, suc, ◌+◌, ◌*◌, ◌/◌, ◌≤◌, ◌<◌, ◌-◌, List, [], ◌∷◌, ◌++◌, length, take, drop, get_or, map, Bool, true, false, ap, sym, subst, ◌∙◌, refl, arith, ltb-false}
 use Rattle.std.proofs.lemmas.Bool.{eq-eqb, or_from, or_parts}
 use Rattle.std.proofs.lemmas.Cmp.{nat_list_cmp_total}
@@ -14,14 +14,14 @@ use Rattle.std.specs.declared.cmp.Ordering.TheVariants.{Less, Equal, Greater}
 use Rattle.pv_model.specs.declared.version.Version.{Version}
 use Rattle.pv_model.specs.declared.version.Version.TheVariants.{V1, V2}
 use Rattle.pv_model.specs.Bytes.{Bytes}
-use Rattle.pv_model.specs.Mount.{inode_number, is_bad_slot, is_free, slot_length, slot_name, slot_number, slots_of, stands_twice}
+use Rattle.pv_model.specs.Mount.{inode_number, is_bad_slot, is_free, slot_length, slot_name, slot_number, slots_of, appears_twice}
 use Rattle.pv_model.specs.Room.{entry_length}
 use Rattle.pv_model.specs.Tree.{greatest_name, is_name}
 use Rattle.pv_image_mount.proofs.InodeContents.{none_at}
 use Rattle.pv_image_mount.proofs.SortedNames.{once_rising}
 use Rattle.pv_image_mount.specs.Slots.{name_key, slot_at, slot_key, NamesAscend}
 
--- a slot is within the content
+-- a slot is within the contents
 pub slot_within : (v : Version) (i len : ℕ) → i < len / entry_length v → entry_length v * i + entry_length v ≤ len
 slot_within V1 i len less = omega arith
 slot_within V2 i len less = omega arith
@@ -90,7 +90,7 @@ name_short v bytes slot fine =
     let first = or_parts (no_number || free || long) no_name fine in
     ltb-false (greatest_name v) (slot_length slot) (or_parts (no_number || free) long first.0).1
 
--- so it is in a slot of a content in which none is bad
+-- so it is in a slot of contents without invalid slots
 pub name_fits : (v : Version) (bytes content slot : Bytes) (count i : ℕ) → list_any (is_bad_slot v bytes) (slots_of v count content) ≡ false → i < count
     → slot ≡ slot_at v content i → length slot ≡ entry_length v → 4 + slot_length slot ≤ length slot
 name_fits v bytes content slot count i none less is whole =
@@ -111,8 +111,8 @@ names_more now v content k names new name before more is =
     ap (map now) more ∙ map-append now names (name ∷ []) ∙ ap (λ l. l ++ now name ∷ []) before ∙ ap (λ x. map slot_name (slots_of v k content) ++ x ∷ []) is
     ∙ map-slots_more slot_name v content k
 
--- no name stands twice in slots whose names ascend
-pub ascending_once : (v : Version) (content : Bytes) (count : ℕ) → NamesAscend v count content → stands_twice bytes_eq (map slot_name (slots_of v count content)) ≡ false
+-- ascending names are distinct
+pub ascending_once : (v : Version) (content : Bytes) (count : ℕ) → NamesAscend v count content → appears_twice bytes_eq (map slot_name (slots_of v count content)) ≡ false
 ascending_once v content count up =
     let slots = slots_of v count content in
     once_rising nat_list_cmp_total texts_ties slot_name slots [] (λ k within.
@@ -145,9 +145,9 @@ none_by_key name (slot ∷ slots) none =
     let parts = or_parts (name_key name == slot_key slot) (list_any (◌==◌ (name_key name)) (map slot_key slots)) none in
     or_from (bytes_eq name (slot_name slot)) (list_any (bytes_eq name) (map slot_name slots)) (key_differs name (slot_name slot) parts.0) (none_by_key name slots parts.1)
 
--- no name stands twice where no key does
-pub once_by_key : (slots : List Bytes) → stands_twice ◌==◌ (map slot_key slots) ≡ false → stands_twice bytes_eq (map slot_name slots) ≡ false
+-- names with distinct keys are distinct
+pub once_by_key : (slots : List Bytes) → appears_twice ◌==◌ (map slot_key slots) ≡ false → appears_twice bytes_eq (map slot_name slots) ≡ false
 once_by_key [] once = refl
 once_by_key (slot ∷ slots) once =
-    let parts = or_parts (list_any (◌==◌ (slot_key slot)) (map slot_key slots)) (stands_twice ◌==◌ (map slot_key slots)) once in
-    or_from (list_any (bytes_eq (slot_name slot)) (map slot_name slots)) (stands_twice bytes_eq (map slot_name slots)) (none_by_key (slot_name slot) slots parts.0) (once_by_key slots parts.1)
+    let parts = or_parts (list_any (◌==◌ (slot_key slot)) (map slot_key slots)) (appears_twice ◌==◌ (map slot_key slots)) once in
+    or_from (list_any (bytes_eq (slot_name slot)) (map slot_name slots)) (appears_twice bytes_eq (map slot_name slots)) (none_by_key (slot_name slot) slots parts.0) (once_by_key slots parts.1)

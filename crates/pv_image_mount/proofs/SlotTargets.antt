@@ -1,4 +1,4 @@
--- The numbers in directories' slots.
+-- The inode numbers in the slots of directories.
 use Rattle.std.proofs.Common.{◌≡◌, ℕ, ◌+◌, ◌/◌, ◌≤◌, ◌<◌, List, [], ◌∷◌, ◌++◌, length, get_or, map, true, false, cond, ap, sym, subst, ◌∙◌, refl, arith}
 use Rattle.std.proofs.lemmas.Bool.{and_parts, eqb-true, leb-true, or_parts}
 use Rattle.std.proofs.lemmas.List.{get_or-map, length-map, map-append}
@@ -9,7 +9,7 @@ use Rattle.pv_model.specs.declared.version.Version.{Version}
 use Rattle.pv_model.specs.declared.version.Version.TheVariants.{V1, V2}
 use Rattle.pv_model.specs.Bytes.{Bytes}
 use Rattle.pv_model.specs.Image.{content, size}
-use Rattle.pv_model.specs.Mount.{has_bad_content, has_bad_inode, has_slot_for, inode_number, inode_numbers, is_bad_slot, is_free, kind, name_count, slot_length, slot_name, slot_number, slots_at, slots_of, stands_twice}
+use Rattle.pv_model.specs.Mount.{has_bad_content, has_bad_inode, has_slot_for, inode_number, inode_numbers, is_bad_slot, is_free, kind, name_count, slot_length, slot_name, slot_number, slots_at, slots_of, appears_twice}
 use Rattle.pv_model.specs.Room.{entry_length, greatest_length}
 use Rattle.pv_model.specs.Tree.{greatest_name, is_name}
 use Rattle.pv_image_mount.proofs.BadContents.{used_kind}
@@ -59,7 +59,7 @@ module _ (v : Version) (bytes : Bytes) where
   unfolding targets_of
   targets-other n differs = ap (λ b. map slot_number (cond b (slots_of v (size v bytes n / entry_length v) (content v bytes n)) [])) differs
 
-  -- a directory has a slot for what is among its targets
+  -- a directory has a slot for a number if and only if it is among its targets
   pub slot_for-among : (k d : ℕ) → has_slot_for v bytes k d ≡ is_among (targets_of v bytes d) k
   unfolding targets_of
   slot_for-among k d = any_mapped k (slots_at v bytes d)
@@ -70,7 +70,7 @@ module _ (v : Version) (bytes : Bytes) where
       let slots = flat_map (slots_at v bytes) (inode_numbers bytes) in
       length-filter (λ slot. slot_number slot == k) slots ∙ count_mapped k slots ∙ ap (count_by (λ other. other == k)) (flat_mapped (slots_at v bytes) (inode_numbers bytes))
 
-  -- a directory has few
+  -- the number of targets of a directory is limited
   pub few_targets : (n : ℕ) → has_bad_inode v bytes n ≡ false → length (targets_of v bytes n) ≤ 2540
   few_targets n fine =
       elim (kind v bytes n == 1) as (λ b. (kind v bytes n == 1) ≡ b → length (targets_of v bytes n) ≤ 2540) [
@@ -95,13 +95,13 @@ module _ (v : Version) (bytes : Bytes) where
       let both = and_parts (nat_le 1 (slot_number slot)) (nat_le (slot_number slot) (inode_number bytes)) yes in
       (leb-true 1 (slot_number slot) both.0, leb-true (slot_number slot) (inode_number bytes) both.1)
 
-  -- each is an inode's number
+  -- each target is the number of an inode
   pub target_number : (n : ℕ) → has_bad_content v bytes n ≡ false → (i : ℕ) → i < length (targets_of v bytes n) → IsNumber bytes (get_or (targets_of v bytes n) i 0)
   unfolding targets_of has_bad_content
   target_number n fine i within =
       let slots = slots_at v bytes n in
       let text = (kind v bytes n == 4) && list_any (λ b. b == 0) (content v bytes n) in
-      let first = or_parts (list_any (is_bad_slot v bytes) slots || stands_twice bytes_eq (map slot_name slots)) text fine in
-      let none = (or_parts (list_any (is_bad_slot v bytes) slots) (stands_twice bytes_eq (map slot_name slots)) first.0).0 in
+      let first = or_parts (list_any (is_bad_slot v bytes) slots || appears_twice bytes_eq (map slot_name slots)) text fine in
+      let none = (or_parts (list_any (is_bad_slot v bytes) slots) (appears_twice bytes_eq (map slot_name slots)) first.0).0 in
       let inner : i < length slots = subst (λ m. i < m) (length-map slots slot_number) within in
       subst (IsNumber bytes) (sym (get_or-map slot_number slots i [] 0 inner)) (good_slot (get_or slots i []) (none_at (is_bad_slot v bytes) slots i [] none inner))

@@ -1,4 +1,4 @@
--- Names, or keys of them, that are put into order: one that stands twice has neighbours.
+-- Sorted names or keys: equal ones are neighbours.
 use Rattle.std.proofs.Common.{◌≡◌, ℕ, ◌+◌, ◌-◌, ◌≤◌, ◌<◌, List, [], ◌∷◌, length, get_or, map, Bool, true, false, ap, sym, ◌∙◌, refl, arith}
 use Rattle.std.proofs.lemmas.Bool.{or_from, or_parts}
 use Rattle.std.proofs.lemmas.Cmp.{eq_by_cmp_equiv, on_total}
@@ -12,9 +12,9 @@ use Rattle.std.specs.List.Sorted.{IsSorted}
 use Rattle.std.specs.Ordering.{eq_by_cmp, is_eq, is_lt, ordering_reverse}
 use Rattle.std.specs.declared.cmp.Ordering.{Ordering}
 use Rattle.std.specs.declared.cmp.Ordering.TheVariants.{Less, Equal, Greater}
-use Rattle.pv_model.specs.Mount.{stands_twice}
+use Rattle.pv_model.specs.Mount.{appears_twice}
 
--- what is not above another, and differs from it, is below it
+-- if one is not above another and differs from it, it is below it
 less_from : (o p : Ordering) → o ≡ ordering_reverse p → is_lt p ≡ false → is_eq o ≡ false → o ≡ Less
 less_from o p is low differs =
     elim p as (λ q. o ≡ ordering_reverse q → is_lt q ≡ false → o ≡ Less) [
@@ -23,7 +23,7 @@ less_from o p is low differs =
       | Greater ↦ λ at never. at
     ] is low
 
--- values as they are compared: an order, and the test that it makes
+-- values as they are compared: an order, and its test for equality
 module _ {X K : Type 0} {eq : K → K → Bool} {cmp : K → K → Ordering} (total : IsTotalOrder cmp) (tied : (a b : K) → eq a b ≡ eq_by_cmp cmp a b) (now : X → K) where
   abbrev same : X → X → Bool
   same x y = eq (now x) (now y)
@@ -47,22 +47,22 @@ module _ {X K : Type 0} {eq : K → K → Bool} {cmp : K → K → Ordering} (to
   all-none x [] all = refl
   all-none x (y ∷ ys) all = or_from (eq (now x) (now y)) (list_any (eq (now x)) (map now ys)) all.0 (all-none x ys all.1)
 
-  once-distinct : (xs : List X) → stands_twice eq (map now xs) ≡ false → IsDistinct same xs
+  once-distinct : (xs : List X) → appears_twice eq (map now xs) ≡ false → IsDistinct same xs
   once-distinct [] once = IsDistinct-from_apart same [] (λ i j d less within. absurd (omega arith))
   once-distinct (x ∷ xs) once =
-      let parts = or_parts (list_any (eq (now x)) (map now xs)) (stands_twice eq (map now xs)) once in
+      let parts = or_parts (list_any (eq (now x)) (map now xs)) (appears_twice eq (map now xs)) once in
       IsDistinct-cons same x xs (none-all x xs parts.0) (once-distinct xs parts.1)
 
-  distinct-once : (xs : List X) → IsDistinct same xs → stands_twice eq (map now xs) ≡ false
+  distinct-once : (xs : List X) → IsDistinct same xs → appears_twice eq (map now xs) ≡ false
   distinct-once [] apart = refl
-  distinct-once (x ∷ xs) apart = or_from (list_any (eq (now x)) (map now xs)) (stands_twice eq (map now xs)) (all-none x xs (IsDistinct-head same x xs apart)) (distinct-once xs (IsDistinct-tail same x xs apart))
+  distinct-once (x ∷ xs) apart = or_from (list_any (eq (now x)) (map now xs)) (appears_twice eq (map now xs)) (all-none x xs (IsDistinct-head same x xs apart)) (distinct-once xs (IsDistinct-tail same x xs apart))
 
-  -- neighbours that are the same
+  -- equal neighbours
   pub twice_found : (old new : List X) (i : ℕ) (a b : X) → IsPermutation old new → 1 ≤ i → i < length new → eq (now (get_or new (i - 1) a)) (now (get_or new i b)) ≡ true
-      → stands_twice eq (map now old) ≡ true
+      → appears_twice eq (map now old) ≡ true
   twice_found old new i a b moved low high is =
       let within : i - 1 < length new = omega arith in
-      elim (stands_twice eq (map now old)) as (λ t. stands_twice eq (map now old) ≡ t → t ≡ true) [
+      elim (appears_twice eq (map now old)) as (λ t. appears_twice eq (map now old) ≡ t → t ≡ true) [
         | true ↦ λ twice. refl
         | false ↦ λ once.
             let apart = apart_from_distinct same new (i - 1) i b (IsDistinct-IsPermutation same (λ x y. eq_flips (now x) (now y)) old new moved (once-distinct old once)) (omega arith) high in
@@ -70,7 +70,7 @@ module _ {X K : Type 0} {eq : K → K → Bool} {cmp : K → K → Ordering} (to
             absurd cc
       ] refl
 
-  -- no neighbours are the same, whatever stands past the end
+  -- neighbours are not equal, whatever is past the end
   pub pair_apart : (xs : List X) (i : ℕ) (d a b : X) → 1 ≤ i → i < length xs → eq (now (get_or xs (i - 1) a)) (now (get_or xs i b)) ≡ false
       → eq (now (get_or xs (i - 1) d)) (now (get_or xs i d)) ≡ false
   pair_apart xs i d a b low high differs =
@@ -94,13 +94,13 @@ module _ {X K : Type 0} {eq : K → K → Bool} {cmp : K → K → Ordering} (to
       less_from (order x y) (order y x) (order_total.antisymm x y) (up k d (omega arith) within) (sym (tied (now x) (now y)) ∙ apart) in
       rising-distinct xs d rises
 
-  -- a list in which each comes after the one before it
-  pub once_rising : (xs : List X) (d : X) → ((k : ℕ) → k + 1 < length xs → order (get_or xs k d) (get_or xs (k + 1) d) ≡ Less) → stands_twice eq (map now xs) ≡ false
+  -- a list in which each element follows the previous one
+  pub once_rising : (xs : List X) (d : X) → ((k : ℕ) → k + 1 < length xs → order (get_or xs k d) (get_or xs (k + 1) d) ≡ Less) → appears_twice eq (map now xs) ≡ false
   once_rising xs d rises = distinct-once xs (rising-distinct xs d rises)
 
-  -- a list in order in which no neighbours are the same
+  -- a sorted list without equal neighbours
   pub once_sorted : (old new : List X) → IsPermutation old new → IsSorted order new
-      → ((k : ℕ) → k < length new → (e : X) → 1 ≤ k → eq (now (get_or new (k - 1) e)) (now (get_or new k e)) ≡ false) → stands_twice eq (map now old) ≡ false
+      → ((k : ℕ) → k < length new → (e : X) → 1 ≤ k → eq (now (get_or new (k - 1) e)) (now (get_or new k e)) ≡ false) → appears_twice eq (map now old) ≡ false
   once_sorted [] new moved up differ = refl
   once_sorted (x ∷ xs) new moved up differ =
       distinct-once (x ∷ xs) (IsDistinct-IsPermutation same (λ a b. eq_flips (now a) (now b)) new (x ∷ xs) (IsPermutation-sym (x ∷ xs) new moved) (apart-distinct new x up differ))

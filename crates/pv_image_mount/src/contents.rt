@@ -1,4 +1,4 @@
-//! The contents of inodes.
+//! Reading the contents of inodes.
 ghost use Rattle.std.specs.Prelude.{◌≡◌, ◌<◌, ℕ, false, flat_map, length, slice_index, IfOk};
 ghost use Rattle.pv_model.specs.Image.{block, content, used_content};
 ghost use Rattle.pv_model.specs.Mount.{block_number, has_bad_block, has_bad_inode, is_free};
@@ -9,7 +9,7 @@ use pv_model::limits::BLOCK;
 use std::alloc::{AllocError, Global};
 
 impl Image<'_> {
-    // The blocks of the content of an inode in use, in order.
+    // Returns the blocks of an inode's contents, in order. The inode is in use.
     fn content_blocks(&self, alloc: Global, n: u16) -> Result<Vec<u16>, AllocError>
         requires number { IsNumber self.now.bytes.now n }
         requires inode { has_bad_inode self.now.version self.now.bytes.now n ≡ false }
@@ -21,7 +21,7 @@ impl Image<'_> {
         self.used_content(alloc, n, index.as_slice())
     }
 
-    // The bytes of blocks, one block after the other.
+    // Returns the concatenation of blocks.
     fn gather(&self, alloc: Global, blocks: &[u16]) -> Result<Vec<u8>, AllocError>
         requires { (i : ℕ) → i < length blocks.now → slice_index blocks.now i < block_number self.now.bytes.now }
         ensures { IfOk result (λ bytes. bytes.items ≡ flat_map (block self.now.bytes.now) blocks.now) }
@@ -33,7 +33,7 @@ impl Image<'_> {
         Ok(bytes)
     }
 
-    /// The content of an inode in use.
+    /// Returns the contents of an inode in use.
     pub(crate) fn content(&self, alloc: Global, n: u16) -> Result<Vec<u8>, AllocError>
         requires number { IsNumber self.now.bytes.now n }
         requires inode { has_bad_inode self.now.version self.now.bytes.now n ≡ false }

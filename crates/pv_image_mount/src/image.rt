@@ -1,4 +1,4 @@
-//! Bytes whose sizes are in order, and the fields of their inodes.
+//! Images with valid sizes, and the fields of their inodes.
 ghost use Rattle.std.specs.Prelude.{◌≡◌, ◌+◌, ◌*◌, ◌<◌, ◌≤◌, length, IfOk, IfErr};
 ghost use Rattle.pv_model.specs.declared.format.TheConstants.{HEADER, MAGIC};
 ghost use Rattle.pv_model.specs.declared.limits.TheConstants.{BLOCK, INODES};
@@ -13,7 +13,7 @@ use pv_model::format::{
 use pv_model::limits::{BLOCK, INODES};
 use pv_model::{ImageFault, Version};
 
-// The version whose image begins as the bytes do.
+// Returns the version whose magic number the bytes start with.
 fn version_of(bytes: &[u8]) -> Option<Version>
     requires { MAGIC ≤ length bytes.now }
     ensures { result ≡ version_of bytes.now }
@@ -27,14 +27,14 @@ fn version_of(bytes: &[u8]) -> Option<Version>
     }
 }
 
-// The blocks that hold so many inodes.
+// Returns the number of blocks that contain this many inodes.
 fn inode_blocks(version: Version, inodes: u16) -> usize
     ensures { result ≡ inode_blocks version inodes }
 {
     (inodes as usize * version.layout().inode_length).div_ceil(BLOCK)
 }
 
-// Whether an image may have these sizes.
+// Returns whether an image can have these sizes.
 fn are_image_sizes(version: Version, blocks: u16, inodes: u16) -> bool
     ensures { result ≡ are_image_sizes version blocks inodes }
 {
@@ -44,7 +44,7 @@ fn are_image_sizes(version: Version, blocks: u16, inodes: u16) -> bool
         && blocks <= version.layout().greatest_blocks
 }
 
-// Whether the sizes that the bytes tell are allowed, and their own.
+// Returns whether the sizes in the header are valid and match the length of the bytes.
 fn has_sizes(version: Version, bytes: &[u8]) -> bool
     requires { HEADER ≤ length bytes.now }
     ensures { result ≡ has_sizes version bytes.now }
@@ -54,10 +54,10 @@ fn has_sizes(version: Version, bytes: &[u8]) -> bool
         && bytes.len() == BLOCK * blocks as usize
 }
 
-/// The bytes of an image whose sizes are in order.
+/// The bytes of an image with valid sizes.
 #[derive(Clone, Copy)]
 pub(crate) struct Image<'a> {
-    /// All bytes.
+    /// All bytes of the image.
     pub(crate) bytes: &'a [u8],
     /// The version of the format.
     pub(crate) version: Version,
@@ -73,7 +73,7 @@ pub(crate) struct Image<'a> {
 }
 
 impl<'a> Image<'a> {
-    /// The image that bytes hold, if they begin as one and have the sizes that they tell.
+    /// Creates an image from bytes, if they start with a magic number and have the sizes in their header.
     pub(crate) fn read(bytes: &'a [u8]) -> Result<Image<'a>, ImageFault>
         ensures bytes { IfOk result (λ image. image.bytes.now ≡ bytes.now) }
         ensures sizes { IfOk result (λ image. HasSizes bytes.now image.version) }
@@ -96,7 +96,7 @@ impl<'a> Image<'a> {
         })
     }
 
-    /// The bytes of an inode.
+    /// Returns the bytes of an inode.
     pub(crate) fn inode(&self, n: u16) -> &'a [u8]
         requires { IsNumber self.now.bytes.now n }
         ensures bytes { result.now ≡ inode self.now.version self.now.bytes.now n }
@@ -107,7 +107,7 @@ impl<'a> Image<'a> {
         &self.bytes[start..start + length]
     }
 
-    /// What an inode is, as the number of its kind.
+    /// Returns the kind field of an inode.
     pub(crate) fn kind(&self, n: u16) -> u8
         requires { IsNumber self.now.bytes.now n }
         ensures { result ≡ kind self.now.version self.now.bytes.now n }
@@ -115,7 +115,7 @@ impl<'a> Image<'a> {
         u8_at(self.inode(n), KIND_AT)
     }
 
-    /// The length of an inode's content, in bytes.
+    /// Returns the length of an inode's contents in bytes.
     pub(crate) fn size(&self, n: u16) -> u32
         requires { IsNumber self.now.bytes.now n }
         ensures { result ≡ size self.now.version self.now.bytes.now n }
@@ -123,7 +123,7 @@ impl<'a> Image<'a> {
         u32_at(self.inode(n), SIZE_AT)
     }
 
-    /// The number of entries that name an inode, as it is stored.
+    /// Returns the link count that is stored in an inode.
     pub(crate) fn stored_count(&self, n: u16) -> u32
         requires { IsNumber self.now.bytes.now n }
         ensures { result ≡ stored_count self.now.version (inode self.now.version self.now.bytes.now n) }
@@ -134,7 +134,7 @@ impl<'a> Image<'a> {
         }
     }
 
-    /// The bytes of a block.
+    /// Returns the bytes of a block.
     pub(crate) fn block(&self, k: u16) -> &'a [u8]
         requires { k < block_number self.now.bytes.now }
         ensures bytes { result.now ≡ block self.now.bytes.now k }
@@ -144,7 +144,7 @@ impl<'a> Image<'a> {
         &self.bytes[start..start + BLOCK]
     }
 
-    /// Whether a block is a data block.
+    /// Returns whether a block is a data block.
     pub(crate) fn is_data_block(&self, k: u16) -> bool
         ensures { result ≡ is_data_block self.now.version self.now.bytes.now k }
     {

@@ -1,4 +1,4 @@
-//! The sorts and sizes of inodes.
+//! Checking the kinds and sizes of inodes.
 ghost use Rattle.std.specs.Prelude.{◌≡◌, IfNone, IfSome};
 ghost use Rattle.pv_model.specs.Mount.{has_bad_inode, PassesLeast, PassesNone};
 ghost use Rattle.pv_image_mount.specs.Numbers.{IsNumber};
@@ -8,7 +8,7 @@ use pv_model::format::{DIRECTORY, FREE, LINK};
 use pv_model::limits::LINK_TEXT;
 
 impl Image<'_> {
-    // Whether an inode is of no sort, or has a size that its sort may not have.
+    // Returns whether an inode has an invalid kind, or a size that is invalid for its kind.
     #[tactic(auto, unfolding(pv_model::specs::Mount::has_bad_inode))]
     fn has_bad_inode(&self, n: u16) -> bool
         requires { IsNumber self.now.bytes.now n }
@@ -26,7 +26,7 @@ impl Image<'_> {
             || (kind == LINK && (size < 1 || size as usize > LINK_TEXT))
     }
 
-    /// The least inode that is of no sort, or has a size that its sort may not have.
+    /// Returns the least inode with an invalid kind, or a size that is invalid for its kind.
     pub(crate) fn least_bad_inode(&self) -> Option<u16>
         ensures none { IfNone result (PassesNone self.now.bytes.now (has_bad_inode self.now.version self.now.bytes.now)) }
         ensures least { IfSome result (PassesLeast self.now.bytes.now (has_bad_inode self.now.version self.now.bytes.now)) }

@@ -1,13 +1,12 @@
-//! The check of an image: what is at fault in bytes, if anything is; and `mount`, in `mounting`, the store of the tree that
-//! they hold.
+//! Checking and mounting images. `check` returns the first error of the specification that the bytes have, or the
+//! version of their tree; `mount`, in `mounting`, returns the store of the tree.
 //!
-//! `check` answers the definitions' first fault of the bytes, or the version of the tree that they hold. It goes over
-//! the inodes four times, as the format orders its faults: `inodes` tests sorts and sizes, `used_blocks` the blocks
-//! that inodes use, `slots` what directories and links contain, and `places` where inodes stand in the tree.
-//! Below them `fields` reads numbers that stand in bytes, `image` has `Image`, bytes whose sizes are in order,
-//! `contents` the contents of inodes, `targets` the inodes that directories name, and `reach` those that are reached
-//! from the root. Each pass reads a content once; where the names of a directory do not ascend from slot to
-//! slot, a key of each is sorted, and where two keys are the same, the names are.
+//! The check makes four passes over the inodes, in the order in which the format lists errors: `inodes` checks kinds
+//! and sizes, `used_blocks` the blocks that inodes use, `slots` the contents of directories and symbolic links, and
+//! `places` the position of inodes in the tree. `fields` reads numbers, `image` defines `Image`, `contents` reads the
+//! contents of inodes, `targets` the inodes that directories name, and `reach` finds the inodes that are reachable from
+//! the root. Each pass reads the contents of an inode once. If the names of a directory do not ascend from slot to
+//! slot, their keys are sorted to find duplicates; if two keys are equal, the names are sorted.
 #![tactic(auto)]
 
 ghost use Rattle.std.specs.Prelude.{◌≡◌, ◌⊎◌, IfErr, IfOk};
@@ -30,13 +29,13 @@ pub use mounting::mount;
 use pv_model::{ImageFault, Version};
 use std::alloc::Global;
 
-/// Tests whether bytes are an image: the answer is the version of its format. It takes memory for the content of one
-/// inode at a time, for the names in it and their keys, and for a count of each inode's names.
+/// Checks whether bytes are an image, and returns the version of its format. It allocates memory for the contents of
+/// one inode at a time, for the names in them and their keys, and for the link count of each inode.
 ///
 /// # Errors
 ///
-/// The first fault in the order of `ImageFault`'s variants, with the number of the least inode that has it; `Memory`
-/// where memory was refused.
+/// Returns the first error in the order of `ImageFault`'s variants, with the number of the least inode that has it.
+/// Returns `Memory` if memory cannot be allocated.
 pub fn check(alloc: Global, bytes: &[u8]) -> Result<Version, ImageFault>
     ensures accepted { IfOk result (λ version. (t : Tree) × (mounted bytes.now ≡ Ok t) × (t.version ≡ version)) }
     ensures refused { IfErr result (λ fault. (fault ≡ ImageFault.Memory) ⊎ (mounted bytes.now ≡ Err fault)) }

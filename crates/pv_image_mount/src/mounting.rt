@@ -1,4 +1,4 @@
-//! Images that are put into use.
+//! Mounting images.
 ghost use Rattle.std.specs.Prelude.{◌≡◌, ◌⊎◌, Ok, Err, IfOk, IfErr};
 ghost use Rattle.pv_model.specs.Mount.{mounted};
 
@@ -9,12 +9,12 @@ use pv_model::format::INODES_AT;
 use pv_tree::Store;
 use std::alloc::Global;
 
-/// The store of the tree that the bytes of an image hold: the bytes are its blocks from then on, and nothing is copied.
+/// Checks an image and returns the store of its tree. The vector becomes the store's blocks, so nothing is copied.
 ///
 /// # Errors
 ///
-/// As `check`: the first fault in the order of `ImageFault`'s variants, with the number of the least inode that has it;
-/// `Memory` where memory was refused.
+/// Returns the same errors as `check`: the first one in the order of `ImageFault`'s variants, with the number of the
+/// least inode that has it, or `Memory` if memory cannot be allocated.
 pub fn mount(alloc: Global, bytes: Vec<u8>) -> Result<Store, ImageFault>
     ensures mounted { IfOk result (λ store. mounted bytes.items ≡ Ok store) }
     ensures refused { IfErr result (λ fault. (fault ≡ ImageFault.Memory) ⊎ (mounted bytes.items ≡ Err fault)) }

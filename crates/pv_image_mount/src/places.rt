@@ -1,4 +1,4 @@
-//! Where inodes stand in the tree.
+//! Checking the position of inodes in the tree.
 ghost use Rattle.std.specs.Prelude.{◌≡◌, ◌+◌, ◌≤◌, ◌<◌, ℕ, length, slice_index, IfNone, IfOk, IfSome};
 ghost use Rattle.pv_blocks.specs.BlockSet.{is_member};
 ghost use Rattle.pv_model.specs.Mount.{has_bad_block, has_bad_content, has_bad_inode, has_bad_place, inode_number, is_reached_within, may_be_named, name_count, PassesLeast, PassesNone};
@@ -11,7 +11,8 @@ use pv_model::limits::ROOT;
 use std::alloc::{AllocError, Global};
 
 impl Image<'_> {
-    // Whether an inode may have so many names: the root none, another directory one, a file or link at least one.
+    // Returns whether an inode can have `count` names: the root has none, every other directory has one, and a file or
+    // symbolic link has at least one.
     fn may_be_named(&self, n: u16, count: u32) -> bool
         requires { IsNumber self.now.bytes.now n }
         ensures { result ≡ may_be_named self.now.version self.now.bytes.now n count }
@@ -26,8 +27,8 @@ impl Image<'_> {
         }
     }
 
-    // Whether an inode's names are none that it may have, or not so many as it says, or it is not reached from the
-    // root. How many names each inode has, and which are reached, is told.
+    // Returns whether an inode has an invalid number of names, or a stored link count that differs from it, or is not
+    // reachable from the root. `counts` has the number of names of each inode, and `reached` the reachable inodes.
     #[tactic(auto, unfolding(pv_model::specs::Mount::has_bad_place))]
     fn has_bad_place(&self, n: u16, counts: &[u32], reached: &BlockSet) -> bool
         requires number { IsNumber self.now.bytes.now n }
@@ -43,8 +44,8 @@ impl Image<'_> {
         !self.may_be_named(n, count) || self.stored_count(n) != count || !reached.contains(n)
     }
 
-    /// The least inode that has no place in the tree: its names are none that it may have, or not so many as it says,
-    /// or it is not reached from the root.
+    /// Returns the least inode without a valid position in the tree: its number of names is invalid or differs from the
+    /// stored link count, or it is not reachable from the root.
     pub(crate) fn least_bad_place(&self, alloc: Global) -> Result<Option<u16>, AllocError>
         requires inodes { PassesNone self.now.bytes.now (has_bad_inode self.now.version self.now.bytes.now) }
         requires blocks { PassesNone self.now.bytes.now (has_bad_block self.now.version self.now.bytes.now) }

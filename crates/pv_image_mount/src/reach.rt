@@ -1,4 +1,4 @@
-//! Which inodes slots lead to from the root.
+//! Finding the inodes that are reachable from the root.
 ghost use Rattle.std.specs.Prelude.{◌≡◌, ◌≤◌, ℕ, IfOk, OnOk};
 ghost use Rattle.pv_blocks.specs.BlockSet.{is_member};
 ghost use Rattle.pv_model.specs.Mount.{has_bad_block, has_bad_content, has_bad_inode, inode_number, is_reached_within, PassesNone};
@@ -9,7 +9,7 @@ use pv_blocks::BlockSet;
 use pv_model::limits::ROOT;
 use std::alloc::{AllocError, Global};
 
-// Adds to a set, and to the end of its list, the numbers that they lack.
+// Adds the numbers that are not in a set to the set, and appends them to the list of its elements.
 fn add_unseen(seen: &mut BlockSet, order: &mut Vec<u16>, numbers: &[u16]) -> Result<(), AllocError>
     requires { HasEach seen.old order.old.items }
     ensures order { OnOk result (order.new.items ≡ joined order.old.items numbers.now) }
@@ -25,7 +25,7 @@ fn add_unseen(seen: &mut BlockSet, order: &mut Vec<u16>, numbers: &[u16]) -> Res
 }
 
 impl Image<'_> {
-    /// The inodes to which slots lead from the root.
+    /// Returns the inodes that are reachable from the root.
     pub(crate) fn reached(&self, alloc: Global) -> Result<BlockSet, AllocError>
         requires inodes { PassesNone self.now.bytes.now (has_bad_inode self.now.version self.now.bytes.now) }
         requires blocks { PassesNone self.now.bytes.now (has_bad_block self.now.version self.now.bytes.now) }

@@ -1,9 +1,9 @@
-//! The slots of directories, and what is at fault in the contents of inodes.
+//! Checking the slots of directories and the contents of inodes.
 ghost use Rattle.std.specs.Prelude.{◌≡◌, ◌==◌, ◌+◌, ◌*◌, ◌/◌, ◌<◌, ◌≤◌, bytes_eq, false, length, map, ◌↔◌, IsTrue, IfNone, IfOk, IfSome};
 ghost use Rattle.std.specs.Cmp.Lexicographic.{slice_cmp};
 ghost use Rattle.std.specs.List.{list_any};
 ghost use Rattle.std.specs.Ordering.{nat_cmp, is_lt};
-ghost use Rattle.pv_model.specs.Mount.{has_bad_block, has_bad_content, has_bad_inode, is_bad_slot, kind, slot_length, slot_name, slots_at, slots_of, stands_twice, PassesLeast, PassesNone};
+ghost use Rattle.pv_model.specs.Mount.{has_bad_block, has_bad_content, has_bad_inode, is_bad_slot, kind, slot_length, slot_name, slots_at, slots_of, appears_twice, PassesLeast, PassesNone};
 ghost use Rattle.pv_model.specs.Room.{entry_length};
 ghost use Rattle.pv_image_mount.specs.Numbers.{IsNumber};
 ghost use Rattle.pv_image_mount.specs.Slots.{are_bad_slots, name_key, slot_at, slot_key, NamesAscend};
@@ -14,10 +14,10 @@ use pv_model::format::{DIRECTORY, FREE, LINK, NAME_AT, NAME_LENGTH_AT, NUMBER_AT
 use pv_model::is_name;
 use std::alloc::{AllocError, Global};
 
-// In the key of a name, a byte counts so many times as much as the one after it.
+// The base of the hash of names: each byte has this many times the weight of the next.
 const FACTOR: u64 = 0x9E37_79B9_7F4A_7C15;
 
-// The name in a slot.
+// Returns the name in a slot.
 fn slot_name(slot: &[u8]) -> &[u8]
     requires { 4 + slot_length slot.now ≤ length slot.now }
     ensures { result.now ≡ slot_name slot.now }
@@ -26,14 +26,14 @@ fn slot_name(slot: &[u8]) -> &[u8]
     &slot[NAME_AT..NAME_AT + length]
 }
 
-// Whether a name comes before another one.
+// Returns whether a name precedes another one.
 fn is_before(name: &[u8], other: &[u8]) -> bool
     ensures { result ≡ is_lt (slice_cmp nat_cmp name.now other.now) }
 {
     name < other
 }
 
-// The key of a name: a sum of its bytes, of which the last 64 bits are left. Equal names have equal keys.
+// Returns the key of a name: a 64-bit hash of its bytes. Equal names have equal keys.
 fn key_of(name: &[u8]) -> u64
     ensures { result ≡ name_key name.now }
 {
@@ -44,9 +44,9 @@ fn key_of(name: &[u8]) -> u64
     key
 }
 
-// Whether a key stands twice among keys, which are put into order.
+// Returns whether two keys are equal. It sorts the keys.
 fn are_keys_shared(keys: &mut [u64]) -> bool
-    ensures { result ≡ stands_twice ◌==◌ keys.old }
+    ensures { result ≡ appears_twice ◌==◌ keys.old }
 {
     keys.sort_unstable();
     for i in 1..keys.len() {
@@ -57,9 +57,9 @@ fn are_keys_shared(keys: &mut [u64]) -> bool
     false
 }
 
-// Whether a name stands twice among names, which are put into order.
-fn stands_twice(names: &mut [&[u8]]) -> bool
-    ensures { result ≡ stands_twice bytes_eq (map (λ name. name.now) names.old) }
+// Returns whether two names are equal. It sorts the names.
+fn appears_twice(names: &mut [&[u8]]) -> bool
+    ensures { result ≡ appears_twice bytes_eq (map (λ name. name.now) names.old) }
 {
     names.sort_unstable();
     for i in 1..names.len() {
@@ -71,7 +71,7 @@ fn stands_twice(names: &mut [&[u8]]) -> bool
 }
 
 impl Image<'_> {
-    // A slot of a directory's content.
+    // Returns slot `i` in the contents of a directory.
     pub(crate) fn slot<'b>(&self, content: &'b [u8], i: usize) -> &'b [u8]
         requires { i < length content.now / entry_length self.now.version }
         ensures bytes { result.now ≡ slot_at self.now.version content.now i }
@@ -82,14 +82,14 @@ impl Image<'_> {
         &content[start..start + length]
     }
 
-    // How many slots a directory's content has.
+    // Returns the number of slots in the contents of a directory.
     pub(crate) fn slot_count(&self, content: &[u8]) -> usize
         ensures { result ≡ length content.now / entry_length self.now.version }
     {
         content.len() / self.version.layout().slot_length
     }
 
-    // Whether a slot's number is that of no inode in use, or its name is none.
+    // Returns whether the number in a slot is not that of an inode in use, or its name is invalid.
     fn is_bad_slot(&self, slot: &[u8]) -> bool
         requires { length slot.now ≡ entry_length self.now.version }
         ensures { result ≡ is_bad_slot self.now.version self.now.bytes.now slot.now }
@@ -102,7 +102,7 @@ impl Image<'_> {
         length > self.version.layout().name_limit || !is_name(self.version, slot_name(slot))
     }
 
-    // Whether a slot of a directory's content is none.
+    // Returns whether the contents of a directory have an invalid slot.
     fn has_bad_slot(&self, content: &[u8]) -> bool
         ensures { result ≡ list_any (is_bad_slot self.now.version self.now.bytes.now) (slots_of self.now.version (length content.now / entry_length self.now.version) content.now) }
     {
@@ -114,7 +114,7 @@ impl Image<'_> {
         false
     }
 
-    // Whether the names in the slots of a directory's content ascend from slot to slot, as in images that are written.
+    // Returns whether the names of a directory ascend from slot to slot, as in images that this program writes.
     fn names_ascend(&self, content: &[u8]) -> bool
         requires { list_any (is_bad_slot self.now.version self.now.bytes.now) (slots_of self.now.version (length content.now / entry_length self.now.version) content.now) ≡ false }
         ensures { IsTrue result ↔ NamesAscend self.now.version (length content.now / entry_length self.now.version) content.now }
@@ -128,7 +128,7 @@ impl Image<'_> {
         true
     }
 
-    // The names in the slots of a directory's content.
+    // Returns the names in the slots of a directory.
     fn names<'b>(&self, alloc: Global, content: &'b [u8]) -> Result<Vec<&'b [u8]>, AllocError>
         requires { list_any (is_bad_slot self.now.version self.now.bytes.now) (slots_of self.now.version (length content.now / entry_length self.now.version) content.now) ≡ false }
         ensures { IfOk result (λ names. map (λ name. name.now) names.items ≡ map slot_name (slots_of self.now.version (length content.now / entry_length self.now.version) content.now)) }
@@ -141,7 +141,7 @@ impl Image<'_> {
         Ok(names)
     }
 
-    // The keys of the names in the slots of a directory's content.
+    // Returns the keys of the names in the slots of a directory.
     fn keys(&self, alloc: Global, content: &[u8]) -> Result<Vec<u64>, AllocError>
         requires { list_any (is_bad_slot self.now.version self.now.bytes.now) (slots_of self.now.version (length content.now / entry_length self.now.version) content.now) ≡ false }
         ensures { IfOk result (λ keys. keys.items ≡ map slot_key (slots_of self.now.version (length content.now / entry_length self.now.version) content.now)) }
@@ -154,8 +154,8 @@ impl Image<'_> {
         Ok(keys)
     }
 
-    // Whether a slot of a directory's content is none, or a name stands twice. Names that ascend need not be sorted,
-    // nor those of which no two have the same key: numbers are sorted in less time than names.
+    // Returns whether the contents of a directory have an invalid slot or a duplicate name. If the names ascend, or
+    // their keys are distinct, they need not be sorted. Sorting keys is faster than sorting names.
     fn are_bad_slots(&self, alloc: Global, content: &[u8]) -> Result<bool, AllocError>
         ensures { IfOk result (λ bad. bad ≡ are_bad_slots self.now.version self.now.bytes.now (slots_of self.now.version (length content.now / entry_length self.now.version) content.now)) }
     {
@@ -170,10 +170,10 @@ impl Image<'_> {
             return Ok(false);
         }
         let mut names = self.names(alloc, content)?;
-        Ok(stands_twice(names.as_mut_slice()))
+        Ok(appears_twice(names.as_mut_slice()))
     }
 
-    // Whether a directory's slots, or a link's text, are none.
+    // Returns whether the slots of a directory or the target of a symbolic link are invalid.
     fn has_bad_content(&self, alloc: Global, n: u16) -> Result<bool, AllocError>
         requires number { IsNumber self.now.bytes.now n }
         requires inode { has_bad_inode self.now.version self.now.bytes.now n ≡ false }
@@ -192,8 +192,8 @@ impl Image<'_> {
         }
     }
 
-    /// The least inode with a content that none has: a directory with a slot that is none, or with a name twice, or
-    /// a link whose text has a byte 0.
+    /// Returns the least inode with invalid contents: a directory with an invalid slot or a duplicate name, or a
+    /// symbolic link whose target contains a zero byte.
     pub(crate) fn least_bad_content(&self, alloc: Global) -> Result<Option<u16>, AllocError>
         requires inodes { PassesNone self.now.bytes.now (has_bad_inode self.now.version self.now.bytes.now) }
         requires blocks { PassesNone self.now.bytes.now (has_bad_block self.now.version self.now.bytes.now) }

@@ -1,4 +1,4 @@
-//! The inodes for which directories have slots.
+//! The inodes that the slots of directories name.
 ghost use Rattle.std.specs.Prelude.{◌≡◌, ◌+◌, ◌/◌, ◌≤◌, ◌<◌, ◌^◌, ℕ, false, length, map, slice_index, IfOk};
 ghost use Rattle.pv_model.specs.Mount.{has_bad_block, has_bad_content, has_bad_inode, inode_number, name_count, slot_number, slots_of, PassesNone};
 ghost use Rattle.pv_model.specs.Room.{entry_length};
@@ -10,7 +10,7 @@ use crate::image::Image;
 use pv_model::format::{DIRECTORY, NUMBER_AT};
 use std::alloc::{AllocError, Global};
 
-// Counts numbers, each at its own place.
+// Adds to each count the number of occurrences of its index.
 fn add_counts(counts: &mut [u32], numbers: &[u16])
     requires within { (i : ℕ) → i < length numbers.now → slice_index numbers.now i < length counts.old }
     requires few { (k : ℕ) → slice_index counts.old k + length numbers.now < 2 ^ 32 }
@@ -22,7 +22,7 @@ fn add_counts(counts: &mut [u32], numbers: &[u16])
 }
 
 impl Image<'_> {
-    // The numbers in the slots of a directory's content.
+    // Returns the inode numbers in the slots of a directory.
     fn slot_numbers(&self, alloc: Global, content: &[u8]) -> Result<Vec<u16>, AllocError>
         ensures { IfOk result (λ list. list.items ≡ map slot_number (slots_of self.now.version (length content.now / entry_length self.now.version) content.now)) }
     {
@@ -34,7 +34,7 @@ impl Image<'_> {
         Ok(numbers)
     }
 
-    /// The numbers in the slots of a directory; none of what is no directory.
+    /// Returns the inode numbers in the slots of a directory, or an empty list if the inode is not a directory.
     pub(crate) fn targets(&self, alloc: Global, n: u16) -> Result<Vec<u16>, AllocError>
         requires number { IsNumber self.now.bytes.now n }
         requires inode { has_bad_inode self.now.version self.now.bytes.now n ≡ false }
@@ -49,7 +49,7 @@ impl Image<'_> {
         }
     }
 
-    /// How many slots each inode has, at the place of its number.
+    /// Returns the number of slots that name each inode, indexed by inode number.
     pub(crate) fn name_counts(&self, alloc: Global) -> Result<Vec<u32>, AllocError>
         requires inodes { PassesNone self.now.bytes.now (has_bad_inode self.now.version self.now.bytes.now) }
         requires blocks { PassesNone self.now.bytes.now (has_bad_block self.now.version self.now.bytes.now) }

@@ -1,4 +1,4 @@
-//! The blocks that inodes use.
+//! Checking the blocks that inodes use.
 ghost use Rattle.std.specs.Prelude.{◌≡◌, ◌+◌, ◌*◌, ◌≤◌, ◌<◌, ◌++◌, ℕ, false, length, slice_index, IfNone, IfOk, IfSome, OnOk};
 ghost use Rattle.pv_blocks.specs.BlockSet.{is_member};
 ghost use Rattle.pv_model.specs.Image.{block_count, size, used_content, used_index};
@@ -15,13 +15,13 @@ use pv_model::format::{DIRECT, FREE, INDEX_POINTERS_AT, POINTED, POINTERS_AT};
 use pv_model::limits::BLOCK;
 use std::alloc::{AllocError, Global};
 
-// Blocks of content to which an inode points itself.
+// The number of blocks to which an inode points directly.
 const DIRECT_BLOCKS: usize = DIRECT as usize;
 
-// Blocks of content to which an index block points.
+// The number of blocks to which an index block points.
 const POINTED_BLOCKS: usize = POINTED as usize;
 
-// Adds pointers that stand in bytes, so many.
+// Appends `count` pointers that are stored in bytes.
 fn add_pointers(list: &mut Vec<u16>, bytes: &[u8], count: usize) -> Result<(), AllocError>
     requires { 2 * count ≤ length bytes.now }
     ensures { OnOk result (list.new.items ≡ list.old.items ++ pointer_row count bytes.now) }
@@ -33,7 +33,7 @@ fn add_pointers(list: &mut Vec<u16>, bytes: &[u8], count: usize) -> Result<(), A
 }
 
 impl Image<'_> {
-    // How many blocks an inode's content takes.
+    // Returns the number of blocks of an inode's contents.
     fn block_count(&self, n: u16) -> usize
         requires { IsNumber self.now.bytes.now n }
         ensures { result ≡ block_count self.now.version self.now.bytes.now n }
@@ -41,7 +41,7 @@ impl Image<'_> {
         self.size(n).div_ceil(BLOCK as u32) as usize
     }
 
-    /// The index blocks that an inode uses.
+    /// Returns the index blocks of an inode.
     pub(crate) fn used_index(&self, alloc: Global, n: u16) -> Result<Vec<u16>, AllocError>
         requires number { IsNumber self.now.bytes.now n }
         requires size { size self.now.version self.now.bytes.now n ≤ greatest_length self.now.version }
@@ -56,7 +56,7 @@ impl Image<'_> {
         Ok(list)
     }
 
-    /// The blocks of an inode's content, in order, by the index blocks that it uses.
+    /// Returns the blocks of an inode's contents, in order. `index` has its index blocks.
     pub(crate) fn used_content(
         &self,
         alloc: Global,
@@ -82,8 +82,8 @@ impl Image<'_> {
         Ok(list)
     }
 
-    // Puts the blocks to which pointers that stand in bytes lead, so many, into the set of those in use, one by one, up
-    // to one that is no data block or is in use already; whether there is one.
+    // Adds the blocks of `count` pointers, which are stored in bytes, to the set of used blocks. It stops at a block
+    // that is not a data block or is used already, and returns whether there was one.
     fn claim_row(&self, bytes: &[u8], count: usize, used: &mut BlockSet) -> bool
         requires { 2 * count ≤ length bytes.now }
         ensures refused { result ≡ is_refused (is_data_block self.now.version self.now.bytes.now) (is_member used.old) (pointer_row count bytes.now) }
@@ -99,8 +99,7 @@ impl Image<'_> {
         false
     }
 
-    // The same for so many pointers that stand in index blocks, block by block. The pointers to index blocks stand in
-    // bytes.
+    // Does the same for `count` pointers in index blocks, block by block. `index` has the pointers to the index blocks.
     fn claim_pointed(&self, index: &[u8], count: usize, used: &mut BlockSet) -> bool
         requires room { 2 * rounded_up count 256 ≤ length index.now }
         requires within { (i : ℕ) → i < rounded_up count 256 → slice_index (pointer_row (rounded_up count 256) index.now) i < block_number self.now.bytes.now }
@@ -117,8 +116,8 @@ impl Image<'_> {
         false
     }
 
-    // The same for all blocks of an inode in use. Its index blocks come first: each is a data block by the time that the
-    // pointers in it are read.
+    // Does the same for all blocks of an inode in use. The index blocks come first, so that each is known to be a data
+    // block before its pointers are read.
     fn claim_used(&self, n: u16, used: &mut BlockSet) -> bool
         requires number { IsNumber self.now.bytes.now n }
         requires size { size self.now.version self.now.bytes.now n ≤ greatest_length self.now.version }
@@ -138,7 +137,8 @@ impl Image<'_> {
         self.claim_pointed(index, pointed, used)
     }
 
-    // Whether a block that an inode uses is no data block, or is used already. If not, the set has its blocks, too.
+    // Returns whether an inode uses a block that is not a data block or is used already. If not, adds its blocks to the
+    // set.
     fn has_bad_block(&self, n: u16, used: &mut BlockSet) -> bool
         requires number { IsNumber self.now.bytes.now n }
         requires inode { has_bad_inode self.now.version self.now.bytes.now n ≡ false }
@@ -152,7 +152,7 @@ impl Image<'_> {
         self.claim_used(n, used)
     }
 
-    /// The least inode that uses a block that is no data block, or that is used already.
+    /// Returns the least inode that uses a block that is not a data block or is used already.
     pub(crate) fn least_bad_block(&self) -> Option<u16>
         requires { PassesNone self.now.bytes.now (has_bad_inode self.now.version self.now.bytes.now) }
         ensures none { IfNone result (PassesNone self.now.bytes.now (has_bad_block self.now.version self.now.bytes.now)) }

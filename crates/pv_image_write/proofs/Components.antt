@@ -1,11 +1,11 @@
--- Bytes that are joined of parts.
+-- Concatenations of parts.
 use Rattle.std.proofs.Common.{◌≡◌, ℕ, zero, suc, ◌+◌, ◌-◌, ◌*◌, ◌<◌, ◌≤◌, [], ◌++◌, length, take, drop, replicate, ap, sym, ◌∙◌, arith}
 use Rattle.std.proofs.lemmas.List.{append_assoc, append-nil, length-append, length-replicate}
 use Rattle.std.proofs.Math.Seq.{take-append_seam, drop-append_seam}
 use Rattle.pv_model.specs.Bytes.{Bytes}
-use Rattle.pv_image_write.specs.Spelling.{padded, joined}
+use Rattle.pv_image_write.specs.Encoding.{padded, joined}
 
--- the front, and what is after it, by its length
+-- a prefix of a concatenation and the rest, by its length
 pub front-is : (n : ℕ) (xs ys : Bytes) → length xs ≡ n → take n (xs ++ ys) ≡ xs
 front-is n xs ys long = ap (λ k. take k (xs ++ ys)) (sym long) ∙ take-append_seam xs ys
 
@@ -25,7 +25,7 @@ joined-more part n (suc k) =
     let next : n + suc k ≡ suc (n + k) = omega arith in
     (before.0 ++ part (suc (n + k)), ap (joined part) next ∙ ap (λ (xs : Bytes). xs ++ part (suc (n + k))) before.1 ∙ append_assoc (joined part n) before.0 (part (suc (n + k))))
 
--- the part of a number stands after those of the lesser ones
+-- the part of a number follows those of the lesser ones
 pub joined-at : (part : ℕ → Bytes) (n m : ℕ) → n < m → (more : Bytes) × (joined part m ≡ joined part n ++ (part (suc n) ++ more))
 joined-at part n m less =
     let found = joined-more part (suc n) (m - suc n) in

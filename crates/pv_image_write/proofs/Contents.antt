@@ -1,4 +1,4 @@
--- The content of a node: its length, and the slots of a directory.
+-- The contents of a node: their length, and the slots of a directory.
 use Rattle.std.proofs.Common.{◌≡◌, ℕ, suc, ◌+◌, ◌-◌, ◌*◌, ◌<◌, ◌≤◌, [], ◌∷◌, ◌++◌, length, replicate, Some, refl, ap, ◌∙◌, arith}
 use Rattle.std.specs.Prelude.{flat_map, slice_get}
 use Rattle.std.proofs.lemmas.List.{length-append}
@@ -8,15 +8,15 @@ use Rattle.pv_model.specs.Bytes.{Bytes, little_endian}
 use Rattle.pv_model.specs.Image.{IsSlot, AreSlots, no_slot, one_more}
 use Rattle.pv_model.specs.Room.{entry_length, node_length}
 use Rattle.pv_model.specs.Tree.{Entries, Node, directory_node, file_node, link_node, greatest_name}
-use Rattle.pv_image_write.specs.Spelling.{padded, slot_of, contained}
+use Rattle.pv_image_write.specs.Encoding.{padded, slot_of, contained}
 use Rattle.pv_image_write.proofs.Components.{length-padded}
 use Rattle.pv_image_write.proofs.Ranges.{two-bytes}
 
--- what holds of each entry of a list
+-- a property of each entry of a list
 abbrev pub Each : (Bytes × ℕ → Type 0) → Entries → Type 0
 Each P es = (i : ℕ) (e : Bytes × ℕ) → slice_get es i ≡ Some e → P e
 
--- an entry whose name has room in a slot
+-- an entry whose name fits in a slot
 abbrev pub HasShortName : Version → Bytes × ℕ → Type 0
 HasShortName v e = length e.0 ≤ greatest_name v
 
@@ -43,7 +43,7 @@ slot-is v e short small = record {
   number = little_endian 2 e.1;
   unread = 0;
   left = replicate (entry_length v - length (little_endian 2 e.1 ++ length e.0 ∷ 0 ∷ e.0)) 0;
-  is_spelled = refl;
+  is_encoded = refl;
   two_bytes = refl;
   is_number = two-bytes e.1 small;
   is_whole = length-slot_of v e short;
@@ -55,7 +55,7 @@ slots-are v (e ∷ es) short small =
     one_more (slot_of v e) (flat_map (slot_of v) es) e.0 e.1 es (slot-is v e (short 0 e refl) (small 0 e refl))
     (slots-are v es (λ i f is. short (suc i) f is) (λ i f is. small (suc i) f is))
 
--- the entries of a node
+-- the same for the entries of a node
 abbrev pub EachOf : (Bytes × ℕ → Type 0) → Node → Type 0
 EachOf P (directory_node es) = Each P es
 EachOf P (file_node executable bytes) = Unit {0}

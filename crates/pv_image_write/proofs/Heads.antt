@@ -1,4 +1,4 @@
--- What is read of an inode that is written.
+-- Reading an inode that is written.
 use Rattle.std.proofs.Common.{◌≡◌, ℕ, ◌+◌, ◌-◌, ◌*◌, ◌<◌, ◌≤◌, List, ◌∷◌, ◌++◌, length, take, drop, replicate, refl, ap, sym, ◌∙◌, arith}
 use Rattle.std.specs.List.{range_with_len}
 use Rattle.std.proofs.lemmas.List.{append_assoc, length-append, drop-drop}
@@ -8,12 +8,12 @@ use Rattle.pv_model.specs.declared.version.Version.TheVariants.{V1, V2}
 use Rattle.pv_model.specs.Bytes.{Bytes, little_endian}
 use Rattle.pv_model.specs.Image.{number_of, field, pointers, inode_length, index_pointers, stored_count}
 use Rattle.pv_model.specs.Room.{greatest_length}
-use Rattle.pv_image_write.specs.Spelling.{padded, spelled, blocks_for, index_for, direct_for, before_size, after_pointers, inode_bytes}
+use Rattle.pv_image_write.specs.Encoding.{padded, encoded, blocks_for, index_for, direct_for, before_size, after_pointers, inode_bytes}
 use Rattle.pv_image_write.specs.Writable.{names_end}
 use Rattle.pv_image_write.proofs.Components.{front-is, past-is, length-padded}
-use Rattle.pv_image_write.proofs.Ranges.{length-little_endian, two-bytes, four-bytes, length-spelled_row, pointers-spelled, pointers-add}
+use Rattle.pv_image_write.proofs.Ranges.{length-little_endian, two-bytes, four-bytes, length-encoded_row, pointers-encoded, pointers-add}
 
--- a content that an inode may have needs no more index blocks than it has pointers to
+-- contents within the maximum length need no more index blocks than an inode has pointers to
 pub index-few : (v : Version) (size : ℕ) → size ≤ greatest_length v → index_for size ≤ index_pointers v
 index-few V1 size short = omega arith
 index-few V2 size short = omega arith
@@ -22,42 +22,42 @@ pub size-small : (v : Version) (size : ℕ) → size ≤ greatest_length v → s
 size-small V1 size short = omega arith
 size-small V2 size short = omega arith
 
--- pointers begin with a row that is spelled there
-pub row-read : (a m n : ℕ) (rest : Bytes) → m ≤ n → a + m ≤ 65536 → (more : List ℕ) × (pointers n (spelled (range_with_len a m) ++ rest) ≡ range_with_len a m ++ more)
+-- pointers start with a sequence that is encoded there
+pub row-read : (a m n : ℕ) (rest : Bytes) → m ≤ n → a + m ≤ 65536 → (more : List ℕ) × (pointers n (encoded (range_with_len a m) ++ rest) ≡ range_with_len a m ++ more)
 row-read a m n rest few small =
-    let bytes = spelled (range_with_len a m) ++ rest in
+    let bytes = encoded (range_with_len a m) ++ rest in
     let all : n ≡ m + (n - m) = omega arith in
     let more = pointers (n - m) (drop (2 * m) bytes) in
-    (more, ap (λ k. pointers k bytes) all ∙ pointers-add m (n - m) bytes ∙ ap (λ (ks : List ℕ). ks ++ more) (pointers-spelled a m rest small))
+    (more, ap (λ k. pointers k bytes) all ∙ pointers-add m (n - m) bytes ∙ ap (λ (ks : List ℕ). ks ++ more) (pointers-encoded a m rest small))
 
-pub row-taken : (a m n : ℕ) (rest : Bytes) → m ≤ n → a + m ≤ 65536 → take m (pointers n (spelled (range_with_len a m) ++ rest)) ≡ range_with_len a m
+pub row-taken : (a m n : ℕ) (rest : Bytes) → m ≤ n → a + m ≤ 65536 → take m (pointers n (encoded (range_with_len a m) ++ rest)) ≡ range_with_len a m
 row-taken a m n rest few small =
     let found = row-read a m n rest few small in
     ap (take m) found.1 ∙ front-is m (range_with_len a m) found.0 (length-range_with_len a m)
 
 module _ (v : Version) (sort count size k : ℕ) (short : size ≤ greatest_length v) where
   direct_row : Bytes
-  direct_row = padded 20 (spelled (range_with_len k (direct_for size)))
+  direct_row = padded 20 (encoded (range_with_len k (direct_for size)))
 
   index_row : Bytes
-  index_row = padded (2 * index_pointers v) (spelled (range_with_len (k + blocks_for size) (index_for size)))
+  index_row = padded (2 * index_pointers v) (encoded (range_with_len (k + blocks_for size) (index_for size)))
 
   after_size : Bytes
   after_size = direct_row ++ (index_row ++ after_pointers v count)
 
   length-direct : length direct_row ≡ 20
   unfolding direct_row
-  length-direct = length-padded 20 (spelled (range_with_len k (direct_for size))) (omega (arith, length-spelled_row k (direct_for size)))
+  length-direct = length-padded 20 (encoded (range_with_len k (direct_for size))) (omega (arith, length-encoded_row k (direct_for size)))
 
   length-index : length index_row ≡ 2 * index_pointers v
   unfolding index_row
   length-index =
-      length-padded (2 * index_pointers v) (spelled (range_with_len (k + blocks_for size) (index_for size)))
-      (omega (arith, length-spelled_row (k + blocks_for size) (index_for size), index-few v size short))
+      length-padded (2 * index_pointers v) (encoded (range_with_len (k + blocks_for size) (index_for size)))
+      (omega (arith, length-encoded_row (k + blocks_for size) (index_for size), index-few v size short))
 
-  spelled-inode : inode_bytes v sort count size k ≡ (sort ∷ 0 ∷ before_size v count) ++ (little_endian 4 size ++ after_size)
+  encoded-inode : inode_bytes v sort count size k ≡ (sort ∷ 0 ∷ before_size v count) ++ (little_endian 4 size ++ after_size)
   unfolding inode_bytes after_size direct_row index_row
-  spelled-inode = refl
+  encoded-inode = refl
 
   length-front : (w : Version) → length (sort ∷ 0 ∷ before_size w count) ≡ 4
   length-front V1 = refl
@@ -70,7 +70,7 @@ module _ (v : Version) (sort count size k : ℕ) (short : size ≤ greatest_leng
   pub length-inode_bytes : length (inode_bytes v sort count size k) ≡ inode_length v
   unfolding after_size
   length-inode_bytes =
-      let whole = ap length spelled-inode ∙ length-append (sort ∷ 0 ∷ before_size v count) (little_endian 4 size ++ after_size) in
+      let whole = ap length encoded-inode ∙ length-append (sort ∷ 0 ∷ before_size v count) (little_endian 4 size ++ after_size) in
       omega (
         arith,
         whole,
@@ -89,7 +89,7 @@ module _ (v : Version) (sort count size k : ℕ) (short : size ≤ greatest_leng
   kind-inode = omega arith
 
   following-four : drop 4 (inode_bytes v sort count size k) ≡ little_endian 4 size ++ after_size
-  following-four = ap (drop 4) spelled-inode ∙ past-is 4 (sort ∷ 0 ∷ before_size v count) (little_endian 4 size ++ after_size) (length-front v)
+  following-four = ap (drop 4) encoded-inode ∙ past-is 4 (sort ∷ 0 ∷ before_size v count) (little_endian 4 size ++ after_size) (length-front v)
 
   pub size-inode : field (inode_bytes v sort count size k) 4 4 ≡ size
   size-inode =
@@ -108,19 +108,19 @@ module _ (v : Version) (sort count size k : ℕ) (short : size ≤ greatest_leng
       sym (drop-drop 20 8 (inode_bytes v sort count size k)) ∙ ap (drop 20) following-eight
       ∙ past-is 20 direct_row (index_row ++ after_pointers v count) length-direct
 
-  -- the pointers to blocks of content begin with those that are used
-  pub direct-inode : (rest : Bytes) × (drop 8 (inode_bytes v sort count size k) ≡ spelled (range_with_len k (direct_for size)) ++ rest)
+  -- the pointers to blocks of contents start with those in use
+  pub direct-inode : (rest : Bytes) × (drop 8 (inode_bytes v sort count size k) ≡ encoded (range_with_len k (direct_for size)) ++ rest)
   unfolding after_size direct_row padded
   direct-inode =
-      let row = spelled (range_with_len k (direct_for size)) in
+      let row = encoded (range_with_len k (direct_for size)) in
       let zeros = replicate (20 - length row) 0 in
       (zeros ++ (index_row ++ after_pointers v count), following-eight ∙ append_assoc row zeros (index_row ++ after_pointers v count))
 
   -- and so do those to index blocks
-  pub index-inode : (rest : Bytes) × (drop 28 (inode_bytes v sort count size k) ≡ spelled (range_with_len (k + blocks_for size) (index_for size)) ++ rest)
+  pub index-inode : (rest : Bytes) × (drop 28 (inode_bytes v sort count size k) ≡ encoded (range_with_len (k + blocks_for size) (index_for size)) ++ rest)
   unfolding index_row padded
   index-inode =
-      let row = spelled (range_with_len (k + blocks_for size) (index_for size)) in
+      let row = encoded (range_with_len (k + blocks_for size) (index_for size)) in
       let zeros = replicate (2 * index_pointers v - length row) 0 in
       (zeros ++ after_pointers v count, following-direct ∙ append_assoc row zeros (after_pointers v count))
 

@@ -15,7 +15,7 @@ use Rattle.pv_model.specs.Numbered.{Numbered, at_number, numbered_from}
 use Rattle.pv_model.specs.Room.{node_length, greatest_length}
 use Rattle.pv_model.specs.Tree.{Entries, Node, directory_node, file_node, link_node, Tree, node_at, entries_of, entries_at, is_directory, is_name, names_of, root}
 use Rattle.pv_laws_trees.proofs.Numbered.{at_number-below}
-use Rattle.pv_image_write.specs.Spelling.{contained, content_of, taken, taken_of, inode_of, blocks_of, taken_before, first_data, first_of, first_block, image_bytes, inode_bytes, content_blocks}
+use Rattle.pv_image_write.specs.Encoding.{contained, content_of, taken, taken_of, inode_of, blocks_of, taken_before, first_data, first_of, first_block, image_bytes, inode_bytes, content_blocks}
 use Rattle.pv_image_write.specs.Writable.{IsWritable}
 use Rattle.pv_image_write.proofs.Contents.{Each, EachOf, HasShortName, length-contained, slots-are}
 use Rattle.pv_image_write.proofs.Heads.{kind-inode, count-inode}
@@ -58,7 +58,7 @@ module _ (u : Tree) (w : IsWritable u) where
     short : length (contained u.version node) ≤ greatest_length u.version
     short = subst (λ o. length (content_of u.version o) ≤ greatest_length u.version) at (w.short (suc n))
 
-    -- its blocks lie below the end
+    -- its blocks are within the image
     below_end : first_of u (suc n) + taken (length (contained u.version node)) ≤ first_data u.version u.inodes + u.blocks
     unfolding first_of
     below_end =
@@ -124,7 +124,7 @@ module _ (u : Tree) (w : IsWritable u) where
   each zero from within = absurd (omega arith)
   each (suc n) from within = holds-any n (omega arith) (node_at u (suc n)) refl
 
-  -- ---- the blocks that are used
+  -- ---- the blocks in use
 
   used_of : ℕ × Node → List ℕ
   used_of e = used_content u.version (image_bytes u) e.0 ++ used_index u.version (image_bytes u) e.0
@@ -172,7 +172,7 @@ module _ (u : Tree) (w : IsWritable u) where
       ∙ sym (range_with_len-add (first_of u (suc j)) k (m - k))
       ∙ ap (range_with_len (first_of u (suc j))) (sym whole)
 
-  -- all of them stand in a row
+  -- all of them are consecutive
   pub used-image : used_blocks (image_bytes u) u ≡ range_with_len (first_data u.version u.inodes) (taken_before u (suc u.inodes))
   unfolding used_of
   used-image =
@@ -256,7 +256,7 @@ module _ (u : Tree) (w : IsWritable u) where
     each_named = w.each_named;
   }
 
-  -- ---- and zeros
+  -- ---- the zeros
 
   free-inodes : list_all (λ b. b == 0) (flat_map (inode u.version (image_bytes u)) (free_numbers u)) ≡ true
   free-inodes = list_all-picked (inode u.version (image_bytes u)) (λ b. b == 0) (λ n. is_none (node_at u n)) 1 u.inodes by

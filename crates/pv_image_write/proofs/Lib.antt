@@ -1,7 +1,9 @@
 -- Lemmas of written images.
--- - Law: the bytes are an image of the tree, read off Places, Heads (inodes), Contents and Reading; Ranges, Components, Listed below them
+--
+-- - Law: the bytes are an image of the tree, from Places, Heads (inodes), Contents and Reading; Ranges, Components and
+--   Listed are below them
 -- - NamedTrees, PlacedTrees: the tree that is written
--- - Windows (what was written and what is in the window), Writing (node by node)
+-- - Windows (the bytes that were written, and those in the window), Writing (node by node)
 pub mod Ranges
 pub mod Components
 pub mod Listed

@@ -19,19 +19,19 @@ use Rattle.pv_model.specs.Room.{entry_length}
 use Rattle.pv_model.specs.Tree.{Entries, Node, directory_node, file_node, link_node, Tree, node_at, entries_of, entries_at, is_directory, is_directory_at, find_entry, greatest_name, is_name, is_name_byte, IsWellFormed}
 use Rattle.pv_laws_trees.proofs.Changes.{entries-good}
 use Rattle.pv_laws_trees.proofs.Entries.{by_name, tied_itself, find_after}
-use Rattle.pv_image_write.specs.Spelling.{slot_of}
+use Rattle.pv_image_write.specs.Encoding.{slot_of}
 
--- the name that stands before an index
+-- the name before an index
 abbrev pub name_before : Entries → ℕ → Option Bytes
 name_before es zero = None
 name_before es (suc i) = option_map (λ e. e.0) (slice_get es i)
 
--- so many entries are spelled, and this is the name of the last of them
+-- the first i entries are encoded, and this is the name of the last of them
 pub record IsListing (v : Version) (es : Entries) (i : ℕ) (before bytes : Bytes) (last : Option Bytes) : Type 0 where
-  pub spelled : bytes ≡ before ++ flat_map (slot_of v) (take i es)
+  pub encoded : bytes ≡ before ++ flat_map (slot_of v) (take i es)
   pub last_name : last ≡ name_before es i
 
--- ---- what stands at an index
+-- ---- the entry at an index
 
 pub get-some : {X : Type 0} (xs : List X) (i : ℕ) → i < length xs → (x : X) × (slice_get xs i ≡ Some x)
 get-some [] i below = absurd (omega arith)
@@ -48,7 +48,7 @@ take-get [] i x is = cc
 take-get (y ∷ xs) zero x is = let same : y ≡ x = cc in ap (λ z. z ∷ []) same
 take-get {X = X} (y ∷ xs) (suc i) x is = ap (λ (zs : List X). y ∷ zs) (take-get xs i x is)
 
--- the front of a pair that is found, and that there is one
+-- the first component of a pair that is found, and its existence
 pub front-some : (o : Option (Bytes × ℕ)) (name next : Bytes) (node : ℕ) → o ≡ Some (name, node) → option_map (λ e. e.0) o ≡ Some next → name ≡ next
 front-some o name next node is first = let got : Some name ≡ Some next = sym (ap (option_map (λ (e : Bytes × ℕ). e.0)) is) ∙ first in cc
 
@@ -58,7 +58,7 @@ some-is m n is = cc
 pub front-none : (o : Option (Bytes × ℕ)) (next : Bytes) → o ≡ None → option_map (λ e. e.0) o ≡ Some next → ⊥
 front-none o next is first = let got : None ≡ Some next = sym (ap (option_map (λ (e : Bytes × ℕ). e.0)) is) ∙ first in cc
 
--- ---- entries in order
+-- ---- sorted entries
 
 below-get : (q : Bytes) (es : Entries) (i : ℕ) (e : Bytes × ℕ) → below_all by_name q es ≡ true → slice_get es i ≡ Some e → is_lt (by_name q e.0) ≡ true
 below-get q [] i e below is = cc
@@ -105,7 +105,7 @@ next-at (f ∷ es) sorted (suc (suc i)) e is =
     ∙ ap (λ o. next_name o es) (sym last)
     ∙ next-at es parts.1 (suc i) e is
 
--- and its number is found
+-- and its node is found
 pub find-at : (es : Entries) → is_sorted by_name es ≡ true → (i : ℕ) (e : Bytes × ℕ) → slice_get es i ≡ Some e → find by_name e.0 es ≡ Some e.1
 find-at [] sorted i e is = cc
 find-at (f ∷ es) sorted zero e is =
@@ -118,15 +118,15 @@ find-at (f ∷ es) sorted (suc i) e is =
 -- ---- the loop
 
 pub listing-start : (v : Version) (es : Entries) (before : Bytes) → IsListing v es 0 before before None
-listing-start v es before = record { spelled = sym (append-nil before); last_name = refl }
+listing-start v es before = record { encoded = sym (append-nil before); last_name = refl }
 
 pub listing-step : (v : Version) (es : Entries) (i : ℕ) (before bytes : Bytes) (last : Option Bytes) (e : Bytes × ℕ) → IsListing v es i before bytes last → slice_get es i ≡ Some e
     → (new : Bytes) → new ≡ bytes ++ slot_of v e → IsListing v es (i + 1) before new (Some e.0)
 listing-step v es i before bytes last e so_far is new next =
     subst (λ k. IsListing v es k before new (Some e.0)) (sym (add-one i))
     (record {
-      spelled =
-          next ∙ ap (λ (xs : Bytes). xs ++ slot_of v e) so_far.spelled
+      encoded =
+          next ∙ ap (λ (xs : Bytes). xs ++ slot_of v e) so_far.encoded
           ∙ append_assoc before (flat_map (slot_of v) (take i es)) (slot_of v e)
           ∙ ap (λ (xs : Bytes). before ++ (flat_map (slot_of v) (take i es) ++ xs)) (sym (append-nil (slot_of v e)))
           ∙ ap (λ (xs : Bytes). before ++ xs) (sym (flat_map-append (slot_of v) (take i es) (e ∷ [])) ∙ ap (flat_map (slot_of v)) (sym (take-get es i e is)));
@@ -141,7 +141,7 @@ size_entries (Some (directory_node es)) n is size = let same : length es ≡ n =
 size_entries (Some (file_node executable bytes)) n is size = cc
 size_entries (Some (link_node text)) n is size = cc
 
--- one slot more has room where there is room for all
+-- one more slot has room if there is room for all
 pub slot-room : (v : Version) (i n : ℕ) → i < n → entry_length v * i + entry_length v ≤ entry_length v * n
 slot-room V1 i n below = omega arith
 slot-room V2 i n below = omega arith
@@ -165,7 +165,7 @@ module _ (t : Tree) (d : ℕ) (w : IsWellFormed t) where
   pub named-at : list_all (λ (e : Bytes × ℕ). is_name t.version e.0) (entries_at t d) ≡ true
   named-at = (entries-good t d w.each_node).1
 
-  -- what the loop meets next
+  -- the next entry of the loop
   pub record IsMet (i : ℕ) (last : Option Bytes) (e : Bytes × ℕ) : Type 0 where
     pub there : slice_get (entries_at t d) i ≡ Some e
     pub next : next_name last (entries_at t d) ≡ Some e.0
@@ -190,4 +190,4 @@ module _ (t : Tree) (d : ℕ) (w : IsWellFormed t) where
       → IsListing v (entries_at t d) i before bytes last → bytes ≡ before ++ flat_map (slot_of v) (entries_at t d)
   all-met v i n before bytes last is size all so_far =
       let many = size_entries (node_at t d) n is size in
-      so_far.spelled ∙ ap (λ (xs : Entries). before ++ flat_map (slot_of v) xs) (take_all i (entries_at t d) (omega arith))
+      so_far.encoded ∙ ap (λ (xs : Entries). before ++ flat_map (slot_of v) xs) (take_all i (entries_at t d) (omega arith))

@@ -1,4 +1,4 @@
--- The named tree, and the tree that is written of it.
+-- The named tree, and the tree that is written.
 use Rattle.std.proofs.Common.{◌≡◌, ◌≢◌, ℕ, ◌<◌, ◌||◌, ◌==◌, List, ◌∷◌, None, Some, refl, ap, sym, ◌∙◌, ⊎_elim}
 use Rattle.std.proofs.lemmas.Bool.{cases_Bool, ne_eqb, or_right}
 use Rattle.pv_model.specs.Held.{among, named_tree}
@@ -10,38 +10,38 @@ use Rattle.pv_tree.proofs.Names.{name_count, named-is, is_positive, positive-is,
 use Rattle.pv_image_write.specs.Placed.{written_at}
 
 -- the numbers that the named tree keeps
-abbrev pub kept_numbers : Tree → List ℕ
-kept_numbers t = root ∷ named_numbers t
+abbrev pub preserved_numbers : Tree → List ℕ
+preserved_numbers t = root ∷ named_numbers t
 
-pub covers : (t : Tree) → Covers t (kept_numbers t)
+pub covers : (t : Tree) → Covers t (preserved_numbers t)
 covers t = record { top = refl; named = λ n is. or_right (root == n) _ is }
 
--- the root is written, and what has a name
+-- the root and the named nodes are written
 pub as_written-root : (t : Tree) → written_at t root ≡ node_at t root
 unfolding written_at
-as_written-root t = keep-passes (among (kept_numbers t)) t.nodes root refl
+as_written-root t = keep-passes (among (preserved_numbers t)) t.nodes root refl
 
 pub as_written-named : (t : Tree) (n : ℕ) → 0 < name_count t n → written_at t n ≡ node_at t n
 unfolding written_at
-as_written-named t n some = keep-passes (among (kept_numbers t)) t.nodes n (or_right (root == n) _ (named-is t n ∙ positive-is (name_count t n) some))
+as_written-named t n some = keep-passes (among (preserved_numbers t)) t.nodes n (or_right (root == n) _ (named-is t n ∙ positive-is (name_count t n) some))
 
 -- and nothing else
 pub as_written-none : (t : Tree) (n : ℕ) → n ≢ root → name_count t n ≡ 0 → written_at t n ≡ None
 unfolding written_at
 as_written-none t n other none =
-    keep-fails (among (kept_numbers t)) t.nodes n
+    keep-fails (among (preserved_numbers t)) t.nodes n
     (ap (λ b. b || among (named_numbers t) n) (ne_eqb root n (λ same. other (sym same))) ∙ named-is t n ∙ ap is_positive none)
 
 pub as_written-free : (t : Tree) (n : ℕ) → node_at t n ≡ None → written_at t n ≡ None
 unfolding written_at
 as_written-free t n free =
-    ⊎_elim (λ in'. keep-passes (among (kept_numbers t)) t.nodes n in' ∙ free) (λ out. keep-fails (among (kept_numbers t)) t.nodes n out) (cases_Bool (among (kept_numbers t) n))
+    ⊎_elim (λ in'. keep-passes (among (preserved_numbers t)) t.nodes n in' ∙ free) (λ out. keep-fails (among (preserved_numbers t)) t.nodes n out) (cases_Bool (among (preserved_numbers t) n))
 
 pub as_written-was : (t : Tree) (n : ℕ) (node : Node) → written_at t n ≡ Some node → node_at t n ≡ Some node
 unfolding written_at
-as_written-was t n node is = (keep-some (among (kept_numbers t)) t.nodes n node is).1
+as_written-was t n node is = (keep-some (among (preserved_numbers t)) t.nodes n node is).1
 
 -- the same names
-pub names-kept : (t : Tree) → IsWellFormed t → (n : ℕ) → name_count (named_tree t) n ≡ name_count t n
-names-kept t w n =
-    names-same t (named_tree t) (length-keep (among (kept_numbers t)) t.nodes) (entries-only t (kept_numbers t) (sound t w) (covers t)) n
+pub names-preserved : (t : Tree) → IsWellFormed t → (n : ℕ) → name_count (named_tree t) n ≡ name_count t n
+names-preserved t w n =
+    names-same t (named_tree t) (length-keep (among (preserved_numbers t)) t.nodes) (entries-only t (preserved_numbers t) (sound t w) (covers t)) n

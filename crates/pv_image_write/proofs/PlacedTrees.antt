@@ -1,4 +1,4 @@
--- The tree that is written: what it has of the tree that it is written of, and that an image of it can be written.
+-- The tree that is written: its relation to the original tree, and that an image of it can be written.
 use Rattle.std.proofs.Common.{◌≡◌, ℕ, zero, suc, ◌+◌, ◌-◌, ◌*◌, ◌/◌, ◌<◌, ◌≤◌, true, false, cond, not, ◌&&◌, ◌==◌, nat_le, List, [], ◌∷◌, ◌++◌, length, replicate, Option, None, Some, is_some, refl, ap, sym, subst, ◌∙◌, ⊎_elim, zero-add, arith}
 use Rattle.std.specs.Prelude.{bytes_eq, codes, filter, flat_map, option_map, slice_get, sum_by}
 use Rattle.std.specs.FinMap.Entries.{find, is_sorted}
@@ -17,26 +17,26 @@ use Rattle.pv_model.specs.Mount.{are_image_sizes}
 use Rattle.pv_model.specs.Numbered.{Numbered, at_number, present, numbered, numbered_from}
 use Rattle.pv_model.specs.Room.{entry_length, node_length, need, greatest_length, fits}
 use Rattle.pv_model.specs.Tree.{Entries, Node, directory_node, file_node, link_node, Tree, root, node_at, entries_of, entries_at, is_directory, is_directory_at, find_entry, first_parent, named_numbers, parent, names_in, names_of, greatest_name, is_name, is_name_byte, is_node, IsWellFormed}
-use Rattle.pv_laws_trees.specs.Kept.{kept}
+use Rattle.pv_laws_trees.specs.Preserved.{preserved}
 use Rattle.pv_laws_trees.specs.Room.{IsNoLarger}
 use Rattle.pv_laws_trees.proofs.Entries.{by_name}
 use Rattle.pv_laws_trees.proofs.Keeping.{only-sound, reached-along}
 use Rattle.pv_laws_trees.proofs.Numbered.{at_number-below, length-keep}
 use Rattle.pv_laws_trees.proofs.Places.{list_all-weaker}
-use Rattle.pv_laws_trees.proofs.Rooms.{kept-no_larger, length-within, smaller-fits}
+use Rattle.pv_laws_trees.proofs.Rooms.{preserved-no_larger, length-within, smaller-fits}
 use Rattle.pv_laws_trees.proofs.Trees.{sound, well_formed}
 use Rattle.pv_tree.proofs.Entries.{count-most}
 use Rattle.pv_tree.proofs.Names.{names-most}
 use Rattle.pv_tree.specs.Holding.{HeldTree}
-use Rattle.pv_tree.specs.Standing.{IsStanding}
+use Rattle.pv_tree.specs.Present.{IsPresent}
 use Rattle.pv_image_write.specs.Placed.{lengthened, placed, written_at, named_need}
-use Rattle.pv_image_write.specs.Spelling.{contained, content_of, taken, taken_of, taken_before}
+use Rattle.pv_image_write.specs.Encoding.{contained, content_of, taken, taken_of, taken_before}
 use Rattle.pv_image_write.specs.Writable.{IsWritable, names_end}
 use Rattle.pv_image_write.proofs.Contents.{EachOf, HasShortName, length-contained}
 use Rattle.pv_image_write.proofs.Listed.{named-at, all-get, name-short}
-use Rattle.pv_image_write.proofs.NamedTrees.{kept_numbers, covers, as_written-was, as_written-none, names-kept}
+use Rattle.pv_image_write.proofs.NamedTrees.{preserved_numbers, covers, as_written-was, as_written-none, names-preserved}
 
--- ---- numbers with nothing under them
+-- ---- numbers without nodes
 
 nothing-at : (m n : ℕ) → at_number {X = Node} (replicate m None) n ≡ None
 nothing-at zero n = refl
@@ -105,7 +105,7 @@ need-taken V1 size short =
     ] refl
 need-taken V2 size short = refl
 
--- ---- the numbers of names
+-- ---- the number of names
 
 entries-needed : (node : Node) → length (entries_of (Some node)) ≤ 8 * need V1 (node_length V1 node)
 unfolding need
@@ -145,7 +145,7 @@ pub taken-as : (v : Version) (o : Option Node) → taken_of v o ≡ taken (lengt
 taken-as v None = refl
 taken-as v (Some node) = refl
 
--- no node takes more than the blocks of a content of the greatest length
+-- no node takes more blocks than contents of the maximum length
 pub taken-few : (v : Version) (o : Option Node) → length (content_of v o) ≤ greatest_length v → taken_of v o ≤ 1295
 taken-few v o short = omega (arith, taken-as v o, greatest-small v)
 
@@ -171,7 +171,7 @@ taken-needed u needs (o ∷ xs) j same =
     by (Some node) is =
         omega (arith, ap (taken_of u.version) is, needs j node (sym is), sum_by-cons (λ other. need u.version (node_length u.version other)) node (present xs))
 
-module _ (h : HeldTree) (s : IsStanding h) (v : Version) (blocks inodes : ℕ) where
+module _ (h : HeldTree) (s : IsPresent h) (v : Version) (blocks inodes : ℕ) where
   module _ (more_inodes : h.tree.inodes ≤ inodes) (longer_names : greatest_name h.tree.version ≤ greatest_name v) where
     pub node-placed : (n : ℕ) → node_at (placed h.tree v blocks inodes) n ≡ written_at h.tree n
     unfolding placed written_at
@@ -185,10 +185,10 @@ module _ (h : HeldTree) (s : IsStanding h) (v : Version) (blocks inodes : ℕ) w
     names-as n = ap (λ (ps : List (ℕ × Node)). flat_map (λ d. names_in n (entries_of (Some d.1)) d.0) ps) numbered-placed
 
     pub names-placed : (n : ℕ) → length (names_of (placed h.tree v blocks inodes) n) ≡ length (names_of h.tree n)
-    names-placed n = ap (λ (ns : List (ℕ × Bytes)). length ns) (names-as n) ∙ names-kept h.tree s.well_formed n
+    names-placed n = ap (λ (ns : List (ℕ × Bytes)). length ns) (names-as n) ∙ names-preserved h.tree s.well_formed n
 
     named-well_formed : IsWellFormed (named_tree h.tree)
-    named-well_formed = well_formed (named_tree h.tree) (only-sound h.tree (kept_numbers h.tree) (sound h.tree s.well_formed) (covers h.tree))
+    named-well_formed = well_formed (named_tree h.tree) (only-sound h.tree (preserved_numbers h.tree) (sound h.tree s.well_formed) (covers h.tree))
 
     node-as : (n : ℕ) → node_at (placed h.tree v blocks inodes) n ≡ node_at (named_tree h.tree) n
     unfolding written_at
@@ -274,7 +274,7 @@ module _ (h : HeldTree) (s : IsStanding h) (v : Version) (blocks inodes : ℕ) w
     pub placed-short : (n : ℕ) → length (content_of v (written_at h.tree n)) ≤ greatest_length v
     placed-short n = content-short n (written_at h.tree n) refl
 
-    -- the length of a content, by the size that stat(2) gives
+    -- the length of contents, by the size that stat(2) reports
     pub directory-length : (n size : ℕ) → is_directory_at h.tree n ≡ true → option_map size_of (node_at h.tree n) ≡ Some size → length (content_of v (node_at h.tree n)) ≡ entry_length v * size
     directory-length n size is written = by (node_at h.tree n) refl is written
       where
@@ -309,7 +309,7 @@ module _ (h : HeldTree) (s : IsStanding h) (v : Version) (blocks inodes : ℕ) w
         by None at = omega arith
         by (Some node) at = subst (λ k. k ≤ greatest_length v) (sym (length-node n node at)) (node-short n node at)
 
-    -- ---- the numbers of names
+    -- ---- the number of names
 
     placed-counted-as : (old new : Version) → old ≡ h.tree.version → greatest_name old ≤ greatest_name new → (n : ℕ) → length (names_of h.tree n) < names_end new
     unfolding total-need
@@ -364,7 +364,7 @@ module _ (h : HeldTree) (s : IsStanding h) (v : Version) (blocks inodes : ℕ) w
           room = omega (arith, placed-needs, room);
         }
 
--- ---- the tree's own sizes
+-- ---- the sizes of the tree itself
 
 nothing-more : (n : ℕ) (xs : Numbered Node) → length xs ≡ n → lengthened n xs ≡ xs
 nothing-more n xs long =
@@ -374,22 +374,22 @@ nothing-more n xs long =
 pub placed-itself : (t : Tree) → length t.nodes ≡ suc t.inodes → placed t t.version (inode_blocks t.version t.inodes + 1 + t.blocks) t.inodes ≡ named_tree t
 unfolding placed
 placed-itself t long =
-    let nodes = nothing-more (suc t.inodes) (named_tree t).nodes (length-keep (among (kept_numbers t)) t.nodes ∙ long) in
+    let nodes = nothing-more (suc t.inodes) (named_tree t).nodes (length-keep (among (preserved_numbers t)) t.nodes ∙ long) in
     let blocks : inode_blocks t.version t.inodes + 1 + t.blocks - (inode_blocks t.version t.inodes + 1) ≡ t.blocks = omega arith in
     λ i. record { nodes = nodes i; blocks = blocks i; inodes = t.inodes; version = t.version }
 
-named-as-kept : (t : Tree) → named_tree t ≡ kept t []
-named-as-kept t = ap (only_nodes t) (ap (λ (ns : List ℕ). root ∷ ns) (sym (append-nil (named_numbers t))))
+named-as-preserved : (t : Tree) → named_tree t ≡ preserved t []
+named-as-preserved t = ap (only_nodes t) (ap (λ (ns : List ℕ). root ∷ ns) (sym (append-nil (named_numbers t))))
 
--- the named nodes fit where all do
+-- the named nodes fit if all do
 pub named-fits : (t : Tree) → fits t ≡ true → named_need t t.version ≤ t.blocks
 unfolding named_need total-need
 named-fits t is =
-    let less = subst (λ (x : Tree). IsNoLarger x t) (sym (named-as-kept t)) (kept-no_larger t []) in
+    let less = subst (λ (x : Tree). IsNoLarger x t) (sym (named-as-preserved t)) (preserved-no_larger t []) in
     let room = and_parts (nat_le (length (present (named_tree t).nodes)) t.inodes) _ (fits-parts (named_tree t) (smaller-fits t (named_tree t) less is)) in
     leb-true (total-need (named_tree t)) t.blocks room.1
 
-pub own-sizes : (h : HeldTree) → IsStanding h → are_image_sizes h.tree.version (inode_blocks h.tree.version h.tree.inodes + 1 + h.tree.blocks) h.tree.inodes ≡ true
+pub own-sizes : (h : HeldTree) → IsPresent h → are_image_sizes h.tree.version (inode_blocks h.tree.version h.tree.inodes + 1 + h.tree.blocks) h.tree.inodes ≡ true
 own-sizes h s =
     let t = h.tree in
     let i = inode_blocks t.version t.inodes in

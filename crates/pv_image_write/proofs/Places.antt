@@ -1,4 +1,4 @@
--- Where a written image has what.
+-- The parts of a written image.
 use Rattle.std.proofs.Common.{◌≡◌, ℕ, zero, suc, ◌+◌, ◌-◌, ◌*◌, ◌<◌, ◌≤◌, true, ◌==◌, ◌++◌, length, take, drop, replicate, Option, None, Some, refl, ap, sym, subst, ◌∙◌, arith}
 use Rattle.std.specs.List.{list_all}
 use Rattle.std.proofs.lemmas.List.{append_assoc, length-append, length-replicate, drop-drop, drop-replicate}
@@ -9,14 +9,14 @@ use Rattle.pv_model.specs.Effect.{sort_number}
 use Rattle.pv_model.specs.Image.{magic, inode_blocks, inode_length, inode, block, greatest_blocks}
 use Rattle.pv_model.specs.Room.{greatest_length}
 use Rattle.pv_model.specs.Tree.{Node, Tree, node_at, names_of}
-use Rattle.pv_image_write.specs.Spelling.{padded, contained, content_of, taken_of, inode_of, blocks_of, taken_before, first_data, first_of, joined, inode_at, blocks_at, all_inodes, all_contents, first_block, image_bytes}
+use Rattle.pv_image_write.specs.Encoding.{padded, contained, content_of, taken_of, inode_of, blocks_of, taken_before, first_data, first_of, joined, inode_at, blocks_at, all_inodes, all_contents, first_block, image_bytes}
 use Rattle.pv_image_write.specs.Writable.{IsWritable}
 use Rattle.pv_image_write.proofs.Heads.{length-inode_bytes}
 use Rattle.pv_image_write.proofs.Components.{front-is, past-is, length-padded, joined-at, length-joined_alike}
 use Rattle.pv_image_write.proofs.Ranges.{length-little_endian}
 use Rattle.pv_image_write.proofs.Reading.{length-content_blocks}
 
--- after what stands first, and further on
+-- a drop past a prefix
 further : (a n : ℕ) (xs ys : Bytes) → length xs ≡ a → drop (a + n) (xs ++ ys) ≡ drop n ys
 further a n xs ys long = sym (drop-drop n a (xs ++ ys)) ∙ ap (drop n) (past-is a xs ys long)
 
@@ -55,7 +55,7 @@ pub few-blocks : (v : Version) → greatest_blocks v ≤ 65535
 few-blocks V1 = omega arith
 few-blocks V2 = omega arith
 
--- more nodes take no fewer blocks
+-- more nodes take at least as many blocks
 pub taken_before-more : (u : Tree) (n k : ℕ) → taken_before u n ≤ taken_before u (n + k)
 taken_before-more u n zero = let none : n + 0 ≡ n = omega arith in subst (λ m. taken_before u n ≤ taken_before u m) (sym none) (omega arith)
 taken_before-more u n (suc k) =
@@ -67,7 +67,7 @@ taken_before-grows u n m less =
     let all : n + (m - n) ≡ m = omega arith in
     subst (λ k. taken_before u n ≤ taken_before u k) all (taken_before-more u n (m - n))
 
--- what is zero
+-- zeros
 pub zeros-taken : (c m : ℕ) → list_all (λ b. b == 0) (take c (replicate m 0)) ≡ true
 zeros-taken zero m = refl
 zeros-taken (suc c) zero = refl
@@ -125,7 +125,7 @@ module _ (u : Tree) (w : IsWritable u) where
   length-image =
       omega (arith, ap length image-is, length-append first (table ++ contents), length-append table contents, length-first, length-table, length-contents)
 
-  -- what stands after the first block, and after the table
+  -- the bytes after the first block, and after the inode table
   pub following-first : (n : ℕ) → drop (512 + n) (image_bytes u) ≡ drop n (table ++ contents)
   following-first n = ap (drop (512 + n)) image-is ∙ further 512 n first (table ++ contents) length-first
 

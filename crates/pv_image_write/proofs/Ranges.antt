@@ -1,4 +1,4 @@
--- Rows of numbers, and numbers as they are spelled.
+-- Sequences of numbers, and numbers as bytes.
 use Rattle.std.proofs.Common.{◌≡◌, ℕ, zero, suc, ◌+◌, ◌-◌, ◌*◌, ◌/◌, ◌<◌, ◌≤◌, Bool, true, false, cond, ◌&&◌, ◌==◌, List, [], ◌∷◌, ◌++◌, length, take, drop, refl, ap, sym, ◌∙◌, arith}
 use Rattle.std.specs.Prelude.{filter, flat_map}
 use Rattle.std.specs.List.{AllByRecursion, IsDistinct, list_all, range_with_len}
@@ -10,7 +10,7 @@ use Rattle.std.proofs.lemmas.List.FromFn.{length-range_with_len}
 use Rattle.std.proofs.Math.Seq.{take-add}
 use Rattle.pv_model.specs.Bytes.{Bytes, little_endian}
 use Rattle.pv_model.specs.Image.{number_of, field, pointers, block}
-use Rattle.pv_image_write.specs.Spelling.{spelled}
+use Rattle.pv_image_write.specs.Encoding.{encoded}
 
 pub range_with_len-add : (a m n : ℕ) → range_with_len a (m + n) ≡ range_with_len a m ++ range_with_len (a + m) n
 range_with_len-add a zero n =
@@ -22,7 +22,7 @@ range_with_len-add a (suc m) n =
     let same : a + 1 + m ≡ a + suc m = omega arith in
     ap (range_with_len a) all ∙ ap (λ (ks : List ℕ). a ∷ ks) (range_with_len-add (a + 1) m n ∙ ap (λ k. range_with_len (a + 1) m ++ range_with_len k n) same)
 
--- what holds of each number of a row
+-- a property of each number of a sequence
 pub all-range : (P : ℕ → Type 0) (a n : ℕ) → ((k : ℕ) → a ≤ k → k < a + n → P k) → AllByRecursion P (range_with_len a n)
 all-range P a zero each = tt
 all-range P a (suc n) each = (each a (omega arith) (omega arith), all-range P (a + 1) n (λ k from below. each k (omega arith) (omega arith)))
@@ -32,7 +32,7 @@ unfolding IsDistinct
 distinct-range a zero = tt
 distinct-range a (suc n) = (all-range (λ k. (a == k) ≡ false) (a + 1) n (λ k from below. ne_eqb a k (λ same. absurd (omega arith))), distinct-range (a + 1) n)
 
--- a test of all bytes that come of the numbers of a row that pass another
+-- a test of all bytes for the numbers of a sequence that pass another test
 pub list_all-picked : (f : ℕ → Bytes) (p test : ℕ → Bool) (a n : ℕ) → ((k : ℕ) → a ≤ k → k < a + n → test k ≡ true → list_all p (f k) ≡ true)
     → list_all p (flat_map f (filter test (range_with_len a n))) ≡ true
 list_all-picked f p test a zero each = refl
@@ -59,26 +59,26 @@ two-bytes n small = omega arith
 pub four-bytes : (n : ℕ) → n < 4294967296 → number_of (little_endian 4 n) ≡ n
 four-bytes n small = omega arith
 
-pub length-spelled : (ks : List ℕ) → length (spelled ks) ≡ 2 * length ks
-unfolding spelled
-length-spelled [] = refl
-length-spelled (k ∷ ks) = omega (arith, length-spelled ks)
+pub length-encoded : (ks : List ℕ) → length (encoded ks) ≡ 2 * length ks
+unfolding encoded
+length-encoded [] = refl
+length-encoded (k ∷ ks) = omega (arith, length-encoded ks)
 
-pub length-spelled_row : (a n : ℕ) → length (spelled (range_with_len a n)) ≡ 2 * n
-length-spelled_row a n = length-spelled (range_with_len a n) ∙ ap (λ k. 2 * k) (length-range_with_len a n)
+pub length-encoded_row : (a n : ℕ) → length (encoded (range_with_len a n)) ≡ 2 * n
+length-encoded_row a n = length-encoded (range_with_len a n) ∙ ap (λ k. 2 * k) (length-range_with_len a n)
 
-pub spelled-more : (a n : ℕ) → spelled (range_with_len a (n + 1)) ≡ spelled (range_with_len a n) ++ little_endian 2 (a + n)
-unfolding spelled
-spelled-more a n =
+pub encoded-more : (a n : ℕ) → encoded (range_with_len a (n + 1)) ≡ encoded (range_with_len a n) ++ little_endian 2 (a + n)
+unfolding encoded
+encoded-more a n =
     ap (flat_map (little_endian 2)) (range_with_len-add a n 1)
     ∙ flat_map-append (little_endian 2) (range_with_len a n) (range_with_len (a + n) 1)
 
-pub pointers-spelled : (a n : ℕ) (rest : Bytes) → a + n ≤ 65536 → pointers n (spelled (range_with_len a n) ++ rest) ≡ range_with_len a n
-unfolding spelled
-pointers-spelled a zero rest small = refl
-pointers-spelled a (suc n) rest small =
-    ap (λ k. k ∷ pointers n (spelled (range_with_len (a + 1) n) ++ rest)) (two-bytes a (omega arith))
-    ∙ ap (λ (ks : List ℕ). a ∷ ks) (pointers-spelled (a + 1) n rest (omega arith))
+pub pointers-encoded : (a n : ℕ) (rest : Bytes) → a + n ≤ 65536 → pointers n (encoded (range_with_len a n) ++ rest) ≡ range_with_len a n
+unfolding encoded
+pointers-encoded a zero rest small = refl
+pointers-encoded a (suc n) rest small =
+    ap (λ k. k ∷ pointers n (encoded (range_with_len (a + 1) n) ++ rest)) (two-bytes a (omega arith))
+    ∙ ap (λ (ks : List ℕ). a ∷ ks) (pointers-encoded (a + 1) n rest (omega arith))
 
 pub pointers-add : (m n : ℕ) (xs : Bytes) → pointers (m + n) xs ≡ pointers m xs ++ pointers n (drop (2 * m) xs)
 pointers-add zero n xs = let none : 0 + n ≡ n = omega arith in ap (λ k. pointers k xs) none
@@ -88,7 +88,7 @@ pointers-add (suc m) n xs =
     ap (λ k. pointers k xs) all
     ∙ ap (λ (ks : List ℕ). field xs 0 2 ∷ ks) (pointers-add m n (drop 2 xs) ∙ ap (λ (ys : Bytes). pointers m (drop 2 xs) ++ pointers n ys) (drop-drop (2 * m) 2 xs ∙ ap (λ k. drop k xs) same))
 
--- pointers are read of the first bytes alone
+-- pointers are read only from the first bytes
 pub pointers-take : (n c : ℕ) (xs : Bytes) → 2 * n ≤ c → pointers n (take c xs) ≡ pointers n xs
 pointers-take zero c xs enough = refl
 pointers-take (suc n) c xs enough =
@@ -98,7 +98,7 @@ pointers-take (suc n) c xs enough =
     ∙ ap (λ (ks : List ℕ). field xs 0 2 ∷ ks)
     (ap (λ k. pointers n (drop 2 (take k xs))) more ∙ ap (pointers n) (drop-take 2 (c - 2) xs) ∙ pointers-take n (c - 2) (drop 2 xs) (omega arith))
 
--- ---- blocks in a row
+-- ---- consecutive blocks
 
 pub blocks-row : (bytes : Bytes) (k m : ℕ) → flat_map (block bytes) (range_with_len k m) ≡ take (512 * m) (drop (512 * k) bytes)
 blocks-row bytes k zero = refl

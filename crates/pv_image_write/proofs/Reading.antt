@@ -1,4 +1,4 @@
--- What is read of an inode and of its blocks, where both are written.
+-- Reading an inode and its blocks as they are written.
 use Rattle.std.proofs.Common.{◌≡◌, ℕ, zero, suc, ◌+◌, ◌-◌, ◌*◌, ◌<◌, ◌≤◌, min, List, [], ◌∷◌, ◌++◌, length, take, drop, replicate, refl, ap, sym, subst, ◌∙◌, inl, inr, arith}
 use Rattle.std.specs.Prelude.{flat_map}
 use Rattle.std.specs.List.{range_with_len}
@@ -9,15 +9,15 @@ use Rattle.pv_model.specs.declared.version.Version.{Version}
 use Rattle.pv_model.specs.Bytes.{Bytes}
 use Rattle.pv_model.specs.Image.{pointers, block, index_pointers, inode, size, block_count, used_index, used_content, content}
 use Rattle.pv_model.specs.Room.{greatest_length}
-use Rattle.pv_image_write.specs.Spelling.{padded, spelled, blocks_for, index_for, direct_for, taken, content_blocks, inode_bytes}
+use Rattle.pv_image_write.specs.Encoding.{padded, encoded, blocks_for, index_for, direct_for, taken, content_blocks, inode_bytes}
 use Rattle.pv_image_write.proofs.Heads.{index-few, row-read, row-taken, size-inode, direct-inode, index-inode}
 use Rattle.pv_image_write.proofs.Components.{front-is, past-is, length-padded}
-use Rattle.pv_image_write.proofs.Ranges.{range_with_len-add, length-spelled_row, pointers-spelled, blocks-row, pointers-row}
+use Rattle.pv_image_write.proofs.Ranges.{range_with_len-add, length-encoded_row, pointers-encoded, blocks-row, pointers-row}
 
--- the part of a content's blocks that has the numbers of those past the tenth
+-- the index blocks of some contents
 pub index_part : ℕ → Bytes → Bytes
 index_part k c =
-    padded (512 * index_for (length c)) (spelled (range_with_len (k + direct_for (length c)) (blocks_for (length c) - direct_for (length c))))
+    padded (512 * index_for (length c)) (encoded (range_with_len (k + direct_for (length c)) (blocks_for (length c) - direct_for (length c))))
 
 pub content_blocks-is : (k : ℕ) (c : Bytes) → content_blocks k c ≡ padded (512 * blocks_for (length c)) c ++ index_part k c
 unfolding content_blocks index_part
@@ -30,8 +30,8 @@ pub length-index_part : (k : ℕ) (c : Bytes) → length (index_part k c) ≡ 51
 unfolding index_part
 length-index_part k c =
     let size = length c in
-    length-padded (512 * index_for size) (spelled (range_with_len (k + direct_for size) (blocks_for size - direct_for size)))
-    (omega (arith, length-spelled_row (k + direct_for size) (blocks_for size - direct_for size)))
+    length-padded (512 * index_for size) (encoded (range_with_len (k + direct_for size) (blocks_for size - direct_for size)))
+    (omega (arith, length-encoded_row (k + direct_for size) (blocks_for size - direct_for size)))
 
 pub length-content_blocks : (k : ℕ) (c : Bytes) → length (content_blocks k c) ≡ 512 * taken (length c)
 length-content_blocks k c =
@@ -62,14 +62,14 @@ module _ (v : Version) (bytes : Bytes) (n sort count k : ℕ) (c more : Bytes)
       ∙ ap (drop (512 * blocks_for (length c))) (there ∙ ap (λ (xs : Bytes). xs ++ more) (content_blocks-is k c) ∙ append_assoc (padded (512 * blocks_for (length c)) c) (index_part k c) more)
       ∙ past-is (512 * blocks_for (length c)) (padded (512 * blocks_for (length c)) c) (index_part k c ++ more) (length-content_part c)
 
-  -- the numbers that the index blocks have
+  -- the numbers in the index blocks
   pub indexed : List ℕ
   indexed = pointers (256 * index_for (length c)) (drop (512 * (k + blocks_for (length c))) bytes)
 
   indexed-read : (rest : List ℕ) × (indexed ≡ range_with_len (k + direct_for (length c)) (blocks_for (length c) - direct_for (length c)) ++ rest)
   unfolding indexed index_part padded
   indexed-read =
-      let row = spelled (range_with_len (k + direct_for (length c)) (blocks_for (length c) - direct_for (length c))) in
+      let row = encoded (range_with_len (k + direct_for (length c)) (blocks_for (length c) - direct_for (length c))) in
       let zeros = replicate (512 * index_for (length c) - length row) 0 in
       let found = row-read (k + direct_for (length c)) (blocks_for (length c) - direct_for (length c)) (256 * index_for (length c)) (zeros ++ more) (omega arith) (omega arith) in
       (found.0, ap (pointers (256 * index_for (length c))) (following-content ∙ append_assoc row zeros more) ∙ found.1)
@@ -87,7 +87,7 @@ module _ (v : Version) (bytes : Bytes) (n sort count k : ℕ) (c more : Bytes)
       let all : direct_for (length c) ≡ b = omega arith in
       let found = direct-inode v sort count (length c) k short in
       let read = row-read k b 10 found.0 few (omega arith) in
-      ap (λ (xs : Bytes). take b (pointers 10 xs ++ indexed)) (ap (drop 8) here ∙ found.1 ∙ ap (λ m. spelled (range_with_len k m) ++ found.0) all)
+      ap (λ (xs : Bytes). take b (pointers 10 xs ++ indexed)) (ap (drop 8) here ∙ found.1 ∙ ap (λ m. encoded (range_with_len k m) ++ found.0) all)
       ∙ ap (λ (ks : List ℕ). take b (ks ++ indexed)) read.1
       ∙ ap (take b) (append_assoc (range_with_len k b) read.0 indexed)
       ∙ front-is b (range_with_len k b) (read.0 ++ indexed) (length-range_with_len k b)
@@ -98,8 +98,8 @@ module _ (v : Version) (bytes : Bytes) (n sort count k : ℕ) (c more : Bytes)
       let all : direct_for (length c) ≡ 10 = omega arith in
       let whole : 10 + (b - 10) ≡ b = omega arith in
       let found = direct-inode v sort count (length c) k short in
-      ap (λ (xs : Bytes). take b (pointers 10 xs ++ indexed)) (ap (drop 8) here ∙ found.1 ∙ ap (λ m. spelled (range_with_len k m) ++ found.0) all)
-      ∙ ap (λ (ks : List ℕ). take b (ks ++ indexed)) (pointers-spelled k 10 found.0 (omega arith))
+      ap (λ (xs : Bytes). take b (pointers 10 xs ++ indexed)) (ap (drop 8) here ∙ found.1 ∙ ap (λ m. encoded (range_with_len k m) ++ found.0) all)
+      ∙ ap (λ (ks : List ℕ). take b (ks ++ indexed)) (pointers-encoded k 10 found.0 (omega arith))
       ∙ ap (λ (ks : List ℕ). take b (range_with_len k 10 ++ ks)) (indexed-read.1 ∙ ap (λ d. range_with_len (k + d) (b - d) ++ indexed-read.0) all)
       ∙ ap (take b) (sym (append_assoc (range_with_len k 10) (range_with_len (k + 10) (b - 10)) indexed-read.0))
       ∙ ap (λ (ks : List ℕ). take b (ks ++ indexed-read.0)) (sym (range_with_len-add k 10 (b - 10)) ∙ ap (range_with_len k) whole)

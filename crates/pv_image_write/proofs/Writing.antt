@@ -7,21 +7,21 @@ use Rattle.pv_model.specs.declared.version.Version.TheVariants.{V1, V2}
 use Rattle.pv_model.specs.Bytes.{Bytes}
 use Rattle.pv_model.specs.Image.{inode_blocks, inode_length}
 use Rattle.pv_model.specs.Tree.{Node, Tree, node_at, names_of}
-use Rattle.pv_streams.specs.Sinks.{TellsBeginning}
-use Rattle.pv_image_write.specs.Spelling.{padded, spelled, contained, content_of, blocks_for, direct_for, index_for, content_blocks, after_content, taken_of, inode_of, blocks_of, taken_before, first_data, first_of, joined, blocks_at, first_block, all_inodes, all_contents, image_bytes}
+use Rattle.pv_streams.specs.Sinks.{WritesPrefix}
+use Rattle.pv_image_write.specs.Encoding.{padded, encoded, contained, content_of, blocks_for, direct_for, index_for, content_blocks, after_content, taken_of, inode_of, blocks_of, taken_before, first_data, first_of, joined, blocks_at, first_block, all_inodes, all_contents, image_bytes}
 use Rattle.pv_image_write.specs.Written.{IsPut}
 use Rattle.pv_image_write.specs.Writable.{IsWritable, AreWritten}
 use Rattle.pv_image_write.proofs.Components.{joined-more, length-padded}
 use Rattle.pv_image_write.proofs.Places.{few-blocks, length-all_contents, length-all_inodes, length-first_block, table-fits, taken_before-grows}
-use Rattle.pv_streams.proofs.Telling.{begins_first}
+use Rattle.pv_streams.proofs.Reporting.{begins_first}
 use Rattle.pv_image_write.proofs.Windows.{put-following, put-cut, put-more, put-on, put-start, put-within}
 
--- the blocks of a content are the content, and what stands after it
+-- the blocks of contents are the contents, and the bytes after them
 pub content-split : (k : ℕ) (bytes : Bytes) → content_blocks k bytes ≡ bytes ++ after_content k (length bytes)
 unfolding content_blocks after_content padded
 content-split k bytes =
     let size = length bytes in
-    let numbers = spelled (range_with_len (k + direct_for size) (blocks_for size - direct_for size)) in
+    let numbers = encoded (range_with_len (k + direct_for size) (blocks_for size - direct_for size)) in
     append_assoc bytes (replicate (512 * blocks_for size - size) 0) (numbers ++ replicate (512 * index_for size - length numbers) 0)
 
 blocks-split : (v : Version) (k : ℕ) (o : Option Node) → is_some o ≡ true → blocks_of v k o ≡ content_of v o ++ after_content k (length (content_of v o))
@@ -37,7 +37,7 @@ blocks-put v k size o o' old now new some same put long following =
     ∙ ap (λ (xs : Bytes). old ++ xs) (sym (blocks-split v k o some))
     ∙ ap (λ p. old ++ blocks_of v k p) (sym same)
 
--- zeros after bytes that have others before them
+-- padding after other bytes
 pub padded-following : (n m : ℕ) (xs ys : Bytes) → length xs ≡ n → padded (n + m) (xs ++ ys) ≡ xs ++ padded m ys
 unfolding padded
 padded-following n m xs ys long =
@@ -48,12 +48,13 @@ filled : (n m k : ℕ) (xs ys now new : Bytes) → length xs ≡ n → k ≡ n +
 filled n m k xs ys now new long whole so_far is =
     is ∙ ap (λ j. padded j now) whole ∙ ap (padded (n + m)) so_far ∙ padded-following n m xs ys long
 
--- one inode more has room where there is room for all
+-- one more inode has room if there is room for all
 row-room : (v : Version) (i n : ℕ) → i < n → inode_length v * i + inode_length v ≤ inode_length v * n
 row-room V1 i n below = omega arith
 row-room V2 i n below = omega arith
 
--- the contents of the nodes up to a number stand after other bytes: a front of all that was written, and the others wait in a window; and the block after theirs
+-- the contents of the nodes up to a number follow other bytes: a prefix of all of these was written, and the rest is in
+-- a window; and the next free block
 pub record ArePut (t : Tree) (n : ℕ) (before : Bytes) (entry now : Option Bytes) (window : Bytes) (next : ℕ) : Type 0 where
   pub all : Bytes
   pub put : IsPut entry now window all
@@ -105,7 +106,7 @@ module _ (u : Tree) (w : IsWritable u) where
         block_after = block-step n k k' o as_written.block_after is next_block;
       })
 
-  -- a node's blocks lie within the image
+  -- the blocks of a node are within the image
   pub as_written-room : (n k : ℕ) (o : Option Node) → k ≡ first_of u (suc n) → n < u.inodes → o ≡ node_at u (suc n) → k + taken_of u.version o < 65536
   unfolding first_of
   as_written-room n k o following within is =
@@ -170,7 +171,7 @@ module _ (u : Tree) (w : IsWritable u) where
   pub put-none : (window : Bytes) (written : Option Bytes) (next : ℕ) → next ≡ first_data u.version u.inodes → ArePut u 0 window written written window next
   put-none window written next is = record { all = window; put = put-start written window; as_written = contents-start window next is }
 
-  -- the blocks of one node more
+  -- the blocks of one more node
   pub put-node : (n : ℕ) (before : Bytes) (entry now : Option Bytes) (window new : Bytes) (k taken : ℕ) (o : Option Node) → ArePut u n before entry now window k
       → o ≡ node_at u (suc n) → new ≡ window ++ blocks_of u.version k o → taken ≡ taken_of u.version o → ArePut u (n + 1) before entry now new (k + taken)
   put-node n before entry now window new k taken o p is next_content many = record {
@@ -184,7 +185,7 @@ module _ (u : Tree) (w : IsWritable u) where
       → ArePut u n before entry after new k
   written-node n before entry mid after window new k p q = record { all = p.all; put = put-on entry mid after window p.all new p.put q; as_written = p.as_written }
 
-  -- the contents begin with those of the nodes up to a number
+  -- the contents start with those of the nodes up to a number
   begins-contents : (n : ℕ) → n ≤ u.inodes → (more : Bytes) × (after_table ≡ all_contents u n ++ more)
   unfolding after_table padded all_contents
   begins-contents n within =
@@ -193,14 +194,14 @@ module _ (u : Tree) (w : IsWritable u) where
       let zeros = replicate (512 * u.blocks - length (joined (blocks_at u) u.inodes)) 0 in
       (found.0 ++ zeros, ap (λ (xs : Bytes). xs ++ zeros) (ap (joined (blocks_at u)) (sym all) ∙ found.1) ∙ append_assoc (joined (blocks_at u) n) found.0 zeros)
 
-  pub cut-node : (n : ℕ) (before : Bytes) (entry mid after : Option Bytes) (window : Bytes) (k : ℕ) → n ≤ u.inodes → ArePut u n before entry mid window k → TellsBeginning window mid after
-      → TellsBeginning (before ++ padded (512 * u.blocks) (all_contents u u.inodes)) entry after
+  pub cut-node : (n : ℕ) (before : Bytes) (entry mid after : Option Bytes) (window : Bytes) (k : ℕ) → n ≤ u.inodes → ArePut u n before entry mid window k → WritesPrefix window mid after
+      → WritesPrefix (before ++ padded (512 * u.blocks) (all_contents u u.inodes)) entry after
   unfolding after_table
   cut-node n before entry mid after window k within p begun =
       let found = begins-contents n within in
       let whole : p.all ++ found.0 ≡ before ++ after_table =
       ap (λ (xs : Bytes). xs ++ found.0) p.as_written.so_far ∙ append_assoc before (all_contents u n) found.0 ∙ ap (λ (xs : Bytes). before ++ xs) (sym found.1) in
-      subst (λ (xs : Bytes). TellsBeginning xs entry after) whole (begins_first p.all found.0 entry after (put-cut entry mid after window p.all p.put begun))
+      subst (λ (xs : Bytes). WritesPrefix xs entry after) whole (begins_first p.all found.0 entry after (put-cut entry mid after window p.all p.put begun))
 
   length-put : (n : ℕ) (before : Bytes) (entry now : Option Bytes) (window : Bytes) (k : ℕ) → ArePut u n before entry now window k → length window ≤ length before + 512 * taken_before u (suc n)
   length-put n before entry now window k p =
@@ -219,7 +220,7 @@ module _ (u : Tree) (w : IsWritable u) where
         whole,
       )
 
-  -- ---- and zeros after them
+  -- ---- the zeros after them
 
   all-contents : (n : ℕ) (front now : Bytes) → n ≡ u.inodes → now ≡ front ++ all_contents u n → now ≡ front ++ all_contents u u.inodes
   all-contents n front now all so_far = so_far ∙ ap (λ k. front ++ all_contents u k) all

@@ -1,4 +1,4 @@
 pub mod Placed
-pub mod Spelling
+pub mod Encoding
 pub mod Written
 pub mod Writable

@@ -1,4 +1,4 @@
--- The tree that an image is written of.
+-- The tree in an image that is written.
 use Rattle.std.specs.Prelude.{ℕ, suc, ◌+◌, ◌-◌, ◌++◌, length, replicate, sum_by, Option, None}
 use Rattle.pv_model.specs.declared.version.Version.{Version}
 use Rattle.pv_model.specs.Held.{named_tree}
@@ -7,11 +7,12 @@ use Rattle.pv_model.specs.Numbered.{Numbered, present}
 use Rattle.pv_model.specs.Room.{node_length, need}
 use Rattle.pv_model.specs.Tree.{Node, Tree, node_at}
 
--- a map to which numbers are added, with nothing under them, up to so many
+-- a map extended to n numbers without values
 abbrev pub lengthened : {X : Type 0} → ℕ → Numbered X → Numbered X
 lengthened n xs = xs ++ replicate (n - length xs) None
 
--- the root and the named nodes of a tree, under their numbers, in an image of this version, of so many blocks in all, and inodes
+-- the root and the named nodes of a tree under their numbers, in an image with this version and these numbers of blocks
+-- and inodes
 unfoldable pub placed : Tree → Version → ℕ → ℕ → Tree
 placed t v blocks inodes = record {
   nodes = lengthened (suc inodes) (named_tree t).nodes;
@@ -20,10 +21,10 @@ placed t v blocks inodes = record {
   version = v;
 }
 
--- the data blocks that the root and the named nodes of a tree need in an image of this version
+-- the number of data blocks that the root and the named nodes of a tree need in an image of this version
 unfoldable pub named_need : Tree → Version → ℕ
 named_need t v = sum_by (λ node. need v (node_length v node)) (present (named_tree t).nodes)
 
--- the node that an image has under a number: the root, or a named one
+-- the node of a number in the image: the root, or a named node
 unfoldable pub written_at : Tree → ℕ → Option Node
 written_at t n = node_at (named_tree t) n

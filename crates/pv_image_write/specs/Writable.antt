@@ -1,4 +1,4 @@
--- Trees of which an image can be written.
+-- Trees whose image can be written.
 use Rattle.std.specs.Prelude.{◌≡◌, ℕ, suc, ◌+◌, ◌^◌, ◌<◌, ◌≤◌, [], ◌++◌, length, Some}
 use Rattle.pv_model.specs.declared.limits.TheConstants.{INODES}
 use Rattle.pv_model.specs.declared.version.Version.{Version}
@@ -7,14 +7,14 @@ use Rattle.pv_model.specs.Bytes.{Bytes}
 use Rattle.pv_model.specs.Image.{greatest_blocks}
 use Rattle.pv_model.specs.Room.{greatest_length}
 use Rattle.pv_model.specs.Tree.{Node, Tree, root, node_at, names_of, IsWellFormed}
-use Rattle.pv_image_write.specs.Spelling.{content_of, taken_before, first_data, first_of}
+use Rattle.pv_image_write.specs.Encoding.{content_of, taken_before, first_data, first_of}
 
--- what an inode's number of names stays below
+-- an upper bound of the number of names in an inode, exclusive
 abbrev pub names_end : Version → ℕ
 names_end V1 = 2 ^ 16
 names_end V2 = 2 ^ 32
 
--- each node but the root is named, the sizes are those of an image, and all has room in it
+-- each node except the root has a name, the sizes are those of an image, and all nodes fit in it
 pub record IsWritable (t : Tree) : Type 0 where
   pub well_formed : IsWellFormed t
   pub each_named : (n : ℕ) (node : Node) → node_at t n ≡ Some node → names_of t n ≡ [] → n ≡ root
@@ -24,7 +24,7 @@ pub record IsWritable (t : Tree) : Type 0 where
   pub counted : (n : ℕ) → length (names_of t n) < names_end t.version
   pub room : taken_before t (suc t.inodes) ≤ t.blocks
 
--- a part of each of the nodes up to a number, all_inodes or all_contents, stands after other bytes; and the block after theirs
+-- a part of each node up to number n, `all_inodes` or `all_contents`, follows other bytes; and the next free block
 pub record AreWritten (part : Tree → ℕ → Bytes) (t : Tree) (n : ℕ) (before now : Bytes) (next : ℕ) : Type 0 where
   pub so_far : now ≡ before ++ part t n
   pub block_after : next ≡ first_of t (suc n)

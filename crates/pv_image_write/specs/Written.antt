@@ -1,23 +1,23 @@
--- What a sink is given of an image.
+-- The output of an image to a sink.
 use Rattle.std.specs.Prelude.{◌≡◌, ◌++◌, Option}
 use Rattle.pv_model.specs.Bytes.{Bytes}
 use Rattle.pv_model.specs.Image.{IsWrittenImageOf}
 use Rattle.pv_model.specs.Tree.{Tree}
-use Rattle.pv_streams.specs.Sinks.{and_all, TellsBeginning}
+use Rattle.pv_streams.specs.Sinks.{and_all, WritesPrefix}
 
--- what was written grew by bytes that hold a tree, just as it is
-pub record TellsImage (t : Tree) (before after : Option Bytes) : Type 0 where
+-- the output grew by an image of exactly this tree
+pub record WritesImage (t : Tree) (before after : Option Bytes) : Type 0 where
   pub image : Bytes
   pub holds : IsWrittenImageOf image t
   pub written : after ≡ and_all before image
 
--- bytes that hold a tree, just as it is, were written up to somewhere
+-- the output grew by a prefix of an image of exactly this tree
 pub record BeginsImage (t : Tree) (before after : Option Bytes) : Type 0 where
   pub image : Bytes
   pub holds : IsWrittenImageOf image t
-  pub written : TellsBeginning image before after
+  pub written : WritesPrefix image before after
 
--- a front of some bytes was written, and those after it wait in a window
+-- a front of some bytes was written, and the rest of them is in the window
 pub record IsPut (before now : Option Bytes) (window all : Bytes) : Type 0 where
   pub front : Bytes
   pub written : now ≡ and_all before front

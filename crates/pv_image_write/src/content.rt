@@ -1,17 +1,17 @@
-//! What a node contains.
+//! The contents of nodes.
 ghost use Rattle.std.specs.Prelude.{◌≡◌, ◌+◌, ◌*◌, ◌≤◌, ◌++◌, false, length, flat_map, option_map, vec_capacity, vec_len, Some, IsTrue, IsSome, IfSome};
 ghost use Rattle.pv_dirs.specs.Trees.{bytes_at};
 ghost use Rattle.pv_model.specs.Calls.Descriptors.{next_name};
 ghost use Rattle.pv_model.specs.Room.{entry_length, greatest_length};
 ghost use Rattle.pv_model.specs.Tree.{greatest_name, node_at, entries_at, find_entry, is_directory_at};
-ghost use Rattle.pv_image_write.specs.Spelling.{content_of, slot_of};
+ghost use Rattle.pv_image_write.specs.Encoding.{content_of, slot_of};
 
 use crate::filling::{put, put_u16, put_zeros};
 use pv_model::{Name, Version};
 use pv_tree::Tree;
 
 // Appends the slot of an entry.
-#[tactic(auto, unfolding(crate::specs::Spelling::slot_of, crate::specs::Spelling::padded))]
+#[tactic(auto, unfolding(crate::specs::Encoding::slot_of, crate::specs::Encoding::padded))]
 fn put_slot(bytes: &mut Vec<u8>, version: Version, name: &[u8], node: u16)
     requires short { length name.now ≤ greatest_name version }
     requires room { vec_len bytes.old + entry_length version ≤ vec_capacity bytes.old }
@@ -26,7 +26,8 @@ fn put_slot(bytes: &mut Vec<u8>, version: Version, name: &[u8], node: u16)
     put_zeros(bytes, following);
 }
 
-// The name of a directory that comes after the last one, with its node. `before` is a guess of how many come before it.
+// Returns the name of a directory that follows `last`, with its node. `before` is a guess of the number of names that
+// precede it.
 fn next(tree: &Tree, directory: u16, last: &Option<Name>, before: u32) -> Option<(Name, u16)>
     requires { IsTrue (is_directory_at tree.now.tree directory) }
     ensures name { option_map (λ e. e.0) result ≡ next_name last.now (entries_at tree.now.tree directory) }
@@ -38,7 +39,7 @@ fn next(tree: &Tree, directory: u16, last: &Option<Name>, before: u32) -> Option
     }
 }
 
-// Appends the slots of a directory, in the order of the names.
+// Appends the slots of a directory, sorted by name.
 fn put_slots(bytes: &mut Vec<u8>, tree: &Tree, version: Version, directory: u16)
     requires directory { IsTrue (is_directory_at tree.now.tree directory) }
     requires names { greatest_name tree.now.tree.version ≤ greatest_name version }
@@ -58,7 +59,7 @@ fn put_slots(bytes: &mut Vec<u8>, tree: &Tree, version: Version, directory: u16)
     }
 }
 
-// Appends the bytes of a file, or of a link's text, run by run.
+// Appends the contents of a file, or the target of a symbolic link, run by run.
 fn put_bytes(bytes: &mut Vec<u8>, tree: &Tree, node: u16)
     requires used { IsSome (node_at tree.now.tree node) }
     requires other { is_directory_at tree.now.tree node ≡ false }
@@ -76,8 +77,8 @@ fn put_bytes(bytes: &mut Vec<u8>, tree: &Tree, node: u16)
     }
 }
 
-/// Appends what a node contains, as an image of this version has it: the slots of a directory, the bytes of a file,
-/// or a link's text.
+/// Appends the contents of a node in an image of this version: the slots of a directory, the bytes of a file, or the
+/// target of a symbolic link.
 pub(crate) fn put_content(bytes: &mut Vec<u8>, tree: &Tree, version: Version, node: u16)
     requires used { IsSome (node_at tree.now.tree node) }
     requires names { greatest_name tree.now.tree.version ≤ greatest_name version }
@@ -94,7 +95,7 @@ pub(crate) fn put_content(bytes: &mut Vec<u8>, tree: &Tree, version: Version, no
     }
 }
 
-/// How long that is: no longer than the version allows.
+/// Returns the length of the contents that `put_content` appends. It is at most the maximum length of the version.
 pub(crate) fn content_length(tree: &Tree, version: Version, node: u16) -> usize
     requires used { IsSome (node_at tree.now.tree node) }
     requires names { greatest_name tree.now.tree.version ≤ greatest_name version }

@@ -1,16 +1,16 @@
-//! Why an image is not written.
+//! The errors of writing an image.
 ghost use Rattle.std.specs.Prelude.{◌≡◌};
 ghost use Rattle.pv_image_write.specs.declared.fault.WriteFault.TheVariants.{Memory, Write};
 
 use pv_streams::Failed;
 use std::alloc::AllocError;
 
-/// Why an image was not written, or not whole.
+/// Why an image was not written, or not written completely.
 #[derive(Clone, Copy, Debug, PartialEq, Eq)]
 pub enum WriteFault {
-    /// Memory was refused: nothing was written.
+    /// Memory cannot be allocated. Nothing was written.
     Memory,
-    /// The sink failed: it was given a beginning of the image.
+    /// The sink failed. It has received a prefix of the image.
     Write,
 }
 

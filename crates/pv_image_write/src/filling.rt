@@ -1,8 +1,8 @@
-//! Bytes, zeros and numbers after other bytes, where there is room for them.
+//! Appending bytes, zeros and numbers to a vector with sufficient capacity.
 ghost use Rattle.std.specs.Prelude.{◌≡◌, ◌+◌, ◌*◌, ◌^◌, ◌<◌, ◌≤◌, ◌++◌, vec_capacity, vec_len, length, replicate};
 ghost use Rattle.std.specs.List.{range_with_len};
 ghost use Rattle.pv_model.specs.Bytes.{little_endian};
-ghost use Rattle.pv_image_write.specs.Spelling.{padded, spelled};
+ghost use Rattle.pv_image_write.specs.Encoding.{padded, encoded};
 
 use byteorder::{ByteOrder, LittleEndian};
 
@@ -18,7 +18,7 @@ pub(crate) fn put(bytes: &mut Vec<u8>, more: &[u8])
     };
 }
 
-/// Appends so many zeros.
+/// Appends `count` zeros.
 pub(crate) fn put_zeros(bytes: &mut Vec<u8>, count: usize)
     requires { vec_len bytes.old + count ≤ vec_capacity bytes.old }
     ensures items { bytes.new.items ≡ bytes.old.items ++ replicate count 0 }
@@ -31,7 +31,7 @@ pub(crate) fn put_zeros(bytes: &mut Vec<u8>, count: usize)
 }
 
 /// Appends zeros up to a length.
-#[tactic(auto, unfolding(crate::specs::Spelling::padded))]
+#[tactic(auto, unfolding(crate::specs::Encoding::padded))]
 pub(crate) fn fill(bytes: &mut Vec<u8>, length: usize)
     requires within { vec_len bytes.old ≤ length }
     requires room { length ≤ vec_capacity bytes.old }
@@ -42,38 +42,37 @@ pub(crate) fn fill(bytes: &mut Vec<u8>, length: usize)
     put_zeros(bytes, length - bytes.len());
 }
 
-/// Appends a number in two bytes, the lowest first.
+/// Appends a number as two bytes in little-endian order.
 pub(crate) fn put_u16(bytes: &mut Vec<u8>, number: u16)
     requires { vec_len bytes.old + 2 ≤ vec_capacity bytes.old }
     ensures items { bytes.new.items ≡ bytes.old.items ++ little_endian 2 number }
     ensures len { vec_len bytes.new ≡ vec_len bytes.old + 2 }
     ensures capacity { vec_capacity bytes.old ≤ vec_capacity bytes.new }
 {
-    let mut spelled = [0; 2];
-    LittleEndian::write_u16(&mut spelled, number);
-    put(bytes, &spelled);
+    let mut encoded = [0; 2];
+    LittleEndian::write_u16(&mut encoded, number);
+    put(bytes, &encoded);
 }
 
-/// Appends a number in four bytes, the lowest first.
+/// Appends a number as four bytes in little-endian order.
 pub(crate) fn put_u32(bytes: &mut Vec<u8>, number: u32)
     requires { vec_len bytes.old + 4 ≤ vec_capacity bytes.old }
     ensures items { bytes.new.items ≡ bytes.old.items ++ little_endian 4 number }
     ensures len { vec_len bytes.new ≡ vec_len bytes.old + 4 }
     ensures capacity { vec_capacity bytes.old ≤ vec_capacity bytes.new }
 {
-    let mut spelled = [0; 4];
-    LittleEndian::write_u32(&mut spelled, number);
-    put(bytes, &spelled);
+    let mut encoded = [0; 4];
+    LittleEndian::write_u32(&mut encoded, number);
+    put(bytes, &encoded);
 }
 
-/// Appends the numbers of so many blocks in a row, in two bytes each, and zeros after them, so that there are
-/// so many bytes.
-#[tactic(auto, unfolding(crate::specs::Spelling::padded, crate::specs::Spelling::spelled))]
+/// Appends the numbers of `count` consecutive blocks, two bytes each, and pads them with zeros to `length` bytes.
+#[tactic(auto, unfolding(crate::specs::Encoding::padded, crate::specs::Encoding::encoded))]
 pub(crate) fn put_pointers(bytes: &mut Vec<u8>, first: u16, count: u16, length: usize)
     requires pointers { first + count < 2 ^ 16 }
     requires fit { 2 * count ≤ length }
     requires room { vec_len bytes.old + length ≤ vec_capacity bytes.old }
-    ensures items { bytes.new.items ≡ bytes.old.items ++ padded length (spelled (range_with_len first count)) }
+    ensures items { bytes.new.items ≡ bytes.old.items ++ padded length (encoded (range_with_len first count)) }
     ensures len { vec_len bytes.new ≡ vec_len bytes.old + length }
     ensures capacity { vec_capacity bytes.old ≤ vec_capacity bytes.new }
 {

@@ -1,4 +1,4 @@
-//! The whole image.
+//! Writing images.
 ghost use Rattle.std.specs.Prelude.{◌≡◌, ◌+◌, ◌-◌, ◌*◌, ◌^◌, ◌<◌, ◌≤◌, ◌++◌, false, length, vec_capacity, vec_len, IsTrue, IsSome, None, Err, IfOk, OnOk, OnErr};
 ghost use Rattle.pv_model.specs.declared.limits.TheConstants.{BLOCK, INODES};
 ghost use Rattle.pv_model.specs.Held.{named_tree};
@@ -6,10 +6,10 @@ ghost use Rattle.pv_model.specs.Image.{inode_blocks, inode_length};
 ghost use Rattle.pv_model.specs.Mount.{are_image_sizes};
 ghost use Rattle.pv_model.specs.Stream.{Rose};
 ghost use Rattle.pv_model.specs.Tree.{greatest_name, names_of, node_at};
-ghost use Rattle.pv_streams.specs.Sinks.{and_all, TellsBeginning};
+ghost use Rattle.pv_streams.specs.Sinks.{and_all, WritesPrefix};
 ghost use Rattle.pv_image_write.specs.Placed.{placed, written_at, named_need};
-ghost use Rattle.pv_image_write.specs.Spelling.{all_contents, all_inodes, blocks_of, first_block, image_bytes, inode_of, padded, taken_of};
-ghost use Rattle.pv_image_write.specs.Written.{BeginsImage, TellsImage};
+ghost use Rattle.pv_image_write.specs.Encoding.{all_contents, all_inodes, blocks_of, first_block, image_bytes, inode_of, padded, taken_of};
+ghost use Rattle.pv_image_write.specs.Written.{BeginsImage, WritesImage};
 ghost use Rattle.pv_image_write.specs.Writable.{names_end, IsWritable};
 
 use crate::content::{content_length, put_content};
@@ -24,7 +24,7 @@ use pv_streams::{Failed, Sink, write_through};
 use pv_tree::Tree;
 use std::alloc::{AllocError, Global};
 
-// Whether an image has the node of a number: it is the root, or has a name.
+// Returns whether an image contains a node: it is the root, or has a name.
 fn is_written(tree: &Tree, node: u16) -> bool
     ensures as_written { IsTrue result → written_at tree.now.tree node ≡ node_at tree.now.tree node }
     ensures used { IsTrue result → IsSome (node_at tree.now.tree node) }
@@ -33,7 +33,8 @@ fn is_written(tree: &Tree, node: u16) -> bool
     tree.is_used(node) && (node == ROOT || tree.names(node) > 0)
 }
 
-// The data blocks that the node of a number takes in an image of this version, if the image has one.
+// Returns the number of data blocks that a node takes in an image of this version, or 0 if the image does not contain
+// it.
 fn taken_blocks(tree: &Tree, version: Version, node: u16) -> u32
     requires { greatest_name tree.now.tree.version ≤ greatest_name version }
     ensures { result ≡ taken_of version (written_at tree.now.tree node) }
@@ -45,7 +46,7 @@ fn taken_blocks(tree: &Tree, version: Version, node: u16) -> u32
     u32::from(extent.filled + extent.index)
 }
 
-// Appends the inode of a number, whose blocks begin at `first`, or a free one if the image has no such node.
+// Appends the inode of a node whose blocks start at `first`, or a free inode if the image does not contain the node.
 fn add_inode(bytes: &mut Vec<u8>, tree: &Tree, version: Version, node: u16, first: u16)
     requires names { greatest_name tree.now.tree.version ≤ greatest_name version }
     requires counted { length (names_of tree.now.tree node) < names_end version }
@@ -64,7 +65,7 @@ fn add_inode(bytes: &mut Vec<u8>, tree: &Tree, version: Version, node: u16, firs
     put_inode(bytes, version, sort, names, size, first);
 }
 
-// Appends the blocks of the node of a number, which begin at `first`, if the image has it.
+// Appends the blocks of a node, which start at `first`, if the image contains it.
 fn add_blocks(bytes: &mut Vec<u8>, tree: &Tree, version: Version, node: u16, first: u16)
     requires names { greatest_name tree.now.tree.version ≤ greatest_name version }
     requires blocks { first + taken_of version (written_at tree.now.tree node) < 2 ^ 16 }
@@ -79,7 +80,7 @@ fn add_blocks(bytes: &mut Vec<u8>, tree: &Tree, version: Version, node: u16, fir
     put_after_content(bytes, content_length(tree, version, node), first);
 }
 
-// The blocks that so many inodes fill.
+// Returns the number of blocks of an inode table.
 fn table_blocks(version: Version, inodes: u16) -> u16
     requires { inodes ≤ INODES }
     ensures { result ≡ inode_blocks version inodes }
@@ -87,15 +88,10 @@ fn table_blocks(version: Version, inodes: u16) -> u16
     (inodes as usize * version.layout().inode_length).div_ceil(BLOCK) as u16
 }
 
-// The first block of an image of so many blocks and inodes, with room after it for the others. It costs nothing until
-// it is written.
-#[tactic(auto, unfolding(crate::specs::Spelling::first_block))]
-fn beginning(
-    alloc: Global,
-    version: Version,
-    blocks: u16,
-    inodes: u16,
-) -> Result<Vec<u8>, AllocError>
+// Returns the first block of an image of these sizes, in a vector with capacity for the others. Capacity that is not
+// written costs nothing.
+#[tactic(auto, unfolding(crate::specs::Encoding::first_block))]
+fn prefix(alloc: Global, version: Version, blocks: u16, inodes: u16) -> Result<Vec<u8>, AllocError>
     requires { 1 ≤ blocks }
     ensures items { IfOk result (λ bytes. bytes.items ≡ first_block version blocks inodes) }
     ensures room { IfOk result (λ bytes. BLOCK * blocks ≤ vec_capacity bytes) }
@@ -108,7 +104,7 @@ fn beginning(
     Ok(bytes)
 }
 
-// The first block and the table of the inodes, with room after them for the contents.
+// Returns the first block and the inode table, in a vector with capacity for the contents.
 fn with_table(
     alloc: Global,
     tree: &Tree,
@@ -125,7 +121,7 @@ fn with_table(
 {
     tree.invariant();
     let first_data = table_blocks(version, inodes) + 1;
-    let mut bytes = beginning(alloc, version, blocks, inodes)?;
+    let mut bytes = prefix(alloc, version, blocks, inodes)?;
     let mut first = first_data;
     for slot in 0..inodes {
         add_inode(&mut bytes, tree, version, slot + 1, first);
@@ -135,7 +131,7 @@ fn with_table(
     Ok(bytes)
 }
 
-// Writes the window, and after it the contents of all nodes, and zeros up to the end of the image.
+// Writes the window, then the contents of all nodes, then zeros up to the end of the image.
 fn write_contents<O: Sink>(
     window: &mut Vec<u8>,
     tree: &Tree,
@@ -151,7 +147,7 @@ fn write_contents<O: Sink>(
     requires following { length window.old.items ≡ BLOCK * (inode_blocks version inodes + 1) }
     requires room { BLOCK * blocks ≤ vec_capacity window.old }
     ensures whole { OnOk result (O.written image.new ≡ and_all (O.written image.old) (window.old.items ++ padded (BLOCK * (blocks - (inode_blocks version inodes + 1))) (all_contents (placed tree.now.tree version blocks inodes) inodes))) }
-    ensures cut { OnErr result (TellsBeginning (window.old.items ++ padded (BLOCK * (blocks - (inode_blocks version inodes + 1))) (all_contents (placed tree.now.tree version blocks inodes) inodes)) (O.written image.old) (O.written image.new)) }
+    ensures cut { OnErr result (WritesPrefix (window.old.items ++ padded (BLOCK * (blocks - (inode_blocks version inodes + 1))) (all_contents (placed tree.now.tree version blocks inodes) inodes)) (O.written image.old) (O.written image.new)) }
     ensures failed { OnErr result (Rose (O.failures image.old) (O.failures image.new)) }
     ensures flushed { OnOk result (O.buffered image.new ≡ 0) }
 {
@@ -166,7 +162,7 @@ fn write_contents<O: Sink>(
     write_through(image, window.as_slice())
 }
 
-// Writes an image, byte for byte.
+// Writes the bytes of an image.
 fn write_bytes<O: Sink>(
     alloc: Global,
     tree: &Tree,
@@ -180,7 +176,7 @@ fn write_bytes<O: Sink>(
     requires inodes { tree.now.tree.inodes ≤ inodes }
     requires writable { IsWritable (placed tree.now.tree version blocks inodes) }
     ensures whole { OnOk result (O.written image.new ≡ and_all (O.written image.old) (image_bytes (placed tree.now.tree version blocks inodes))) }
-    ensures cut { result ≡ Err WriteFault.Write → TellsBeginning (image_bytes (placed tree.now.tree version blocks inodes)) (O.written image.old) (O.written image.new) }
+    ensures cut { result ≡ Err WriteFault.Write → WritesPrefix (image_bytes (placed tree.now.tree version blocks inodes)) (O.written image.old) (O.written image.new) }
     ensures failed { result ≡ Err WriteFault.Write → Rose (O.failures image.old) (O.failures image.new) }
     ensures memory { result ≡ Err WriteFault.Memory → O.written image.new ≡ O.written image.old }
     ensures flushed { OnOk result (O.buffered image.new ≡ 0) }
@@ -189,8 +185,8 @@ fn write_bytes<O: Sink>(
     Ok(write_contents(&mut window, tree, version, blocks, inodes, image)?)
 }
 
-/// The data blocks that the root and the nodes in an entry need in an image of a version in which the tree's names may
-/// stand: how many there have to be for `write_as`.
+/// Returns the number of data blocks that the root and the named nodes need in an image of a version that allows the
+/// names of the tree. `write_as` requires this many.
 pub fn needed_blocks(tree: &Tree, version: Version) -> u32
     requires { greatest_name tree.now.tree.version ≤ greatest_name version }
     ensures { result ≡ named_need tree.now.tree version }
@@ -202,15 +198,15 @@ pub fn needed_blocks(tree: &Tree, version: Version) -> u32
     needed
 }
 
-/// Writes an image of this version, of so many blocks in all, and so many inodes, which the version allows. It has
-/// the root and the nodes in an entry, under their numbers, and nothing else; what none of them uses is zero. The
-/// inodes are at least those of the tree, its names may stand in an image of the version, and there is room for what
-/// is written, as `needed_blocks` tells. What was written is flushed.
+/// Writes an image of this version with the given numbers of blocks and inodes, which the version must allow, and
+/// flushes the sink. The image contains the root and the nodes with a name, under their numbers, and nothing else.
+/// Unused bytes are zero. The number of inodes must be at least that of the tree, the version must allow the names of
+/// the tree, and there must be as many data blocks as `needed_blocks` returns.
 ///
 /// # Errors
 ///
-/// `Memory` where memory was refused: then nothing was written. `Write` where a write or a flush failed: the sink
-/// was given a beginning of the image.
+/// Returns `Memory` if memory cannot be allocated; nothing is written then. Returns `Write` if a write or the flush
+/// fails; the sink then has received a prefix of the image.
 pub fn write_as<O: Sink>(
     alloc: Global,
     tree: &Tree,
@@ -223,7 +219,7 @@ pub fn write_as<O: Sink>(
     requires inodes { tree.now.tree.inodes ≤ inodes }
     requires names { greatest_name tree.now.tree.version ≤ greatest_name version }
     requires room { inode_blocks version inodes + 1 + named_need tree.now.tree version ≤ blocks }
-    ensures whole { OnOk result (TellsImage (placed tree.now.tree version blocks inodes) (O.written image.old) (O.written image.new)) }
+    ensures whole { OnOk result (WritesImage (placed tree.now.tree version blocks inodes) (O.written image.old) (O.written image.new)) }
     ensures cut { result ≡ Err WriteFault.Write → BeginsImage (placed tree.now.tree version blocks inodes) (O.written image.old) (O.written image.new) }
     ensures failed { result ≡ Err WriteFault.Write → Rose (O.failures image.old) (O.failures image.new) }
     ensures memory { result ≡ Err WriteFault.Memory → O.written image.new ≡ O.written image.old }
@@ -233,15 +229,15 @@ pub fn write_as<O: Sink>(
     write_bytes(alloc, tree, version, blocks, inodes, image)
 }
 
-/// Writes an image of the tree: with only the root and the nodes in an entry, its sizes and version kept. What was written
-/// is flushed.
+/// Writes an image of the tree with its sizes and version, and flushes the sink. The image contains only the root and
+/// the nodes with a name.
 ///
 /// # Errors
 ///
-/// `Memory` where memory was refused: then nothing was written. `Write` where a write or a flush failed: the sink
-/// was given a beginning of the image.
+/// Returns `Memory` if memory cannot be allocated; nothing is written then. Returns `Write` if a write or the flush
+/// fails; the sink then has received a prefix of the image.
 pub fn write_tree<O: Sink>(alloc: Global, tree: &Tree, image: &mut O) -> Result<(), WriteFault>
-    ensures whole { OnOk result (TellsImage (named_tree tree.now.tree) (O.written image.old) (O.written image.new)) }
+    ensures whole { OnOk result (WritesImage (named_tree tree.now.tree) (O.written image.old) (O.written image.new)) }
     ensures cut { result ≡ Err WriteFault.Write → BeginsImage (named_tree tree.now.tree) (O.written image.old) (O.written image.new) }
     ensures failed { result ≡ Err WriteFault.Write → Rose (O.failures image.old) (O.failures image.new) }
     ensures memory { result ≡ Err WriteFault.Memory → O.written image.new ≡ O.written image.old }

@@ -1,28 +1,28 @@
-//! The inode of a node, and the blocks of its content.
+//! The inode of a node, and the blocks of its contents.
 ghost use Rattle.std.specs.Prelude.{◌≡◌, ◌+◌, ◌-◌, ◌*◌, ◌^◌, ◌<◌, ◌≤◌, ◌++◌, vec_capacity, vec_len, length};
 ghost use Rattle.pv_model.specs.declared.limits.TheConstants.{BLOCK};
 ghost use Rattle.pv_model.specs.declared.version.Version.TheVariants.{V2};
 ghost use Rattle.pv_model.specs.Image.{inode_length};
 ghost use Rattle.pv_model.specs.Room.{greatest_length};
-ghost use Rattle.pv_image_write.specs.Spelling.{before_size, after_content, after_pointers, blocks_for, direct_for, index_for, inode_bytes, taken};
+ghost use Rattle.pv_image_write.specs.Encoding.{before_size, after_content, after_pointers, blocks_for, direct_for, index_for, inode_bytes, taken};
 
 use crate::filling::{put, put_pointers, put_u16, put_u32, put_zeros};
 use pv_model::Version;
 use pv_model::format::{DIRECT, POINTED};
 use pv_model::limits::BLOCK;
 
-/// The blocks that a content of a length takes.
+/// The numbers of blocks that contents of some length take.
 #[derive(Clone, Copy)]
 pub(crate) struct Extent {
-    /// Those that it fills.
+    /// The number of blocks of the contents.
     pub(crate) filled: u16,
-    /// Those of them to which the inode itself points.
+    /// The number of these to which the inode points directly.
     pub(crate) direct: u16,
-    /// The blocks for the numbers of the others.
+    /// The number of index blocks for the others.
     pub(crate) index: u16,
 }
 
-/// The blocks that a content of so many bytes takes.
+/// Returns the numbers of blocks for contents of `size` bytes.
 pub(crate) fn extent_of(size: usize) -> Extent
     requires { size ≤ greatest_length V2 }
     ensures filled { result.filled ≡ blocks_for size }
@@ -38,7 +38,7 @@ pub(crate) fn extent_of(size: usize) -> Extent
     }
 }
 
-// Appends what stands before the size of an inode, after its first two bytes.
+// Appends the field between the first two bytes of an inode and its size.
 fn put_before_size(bytes: &mut Vec<u8>, version: Version, names: u32)
     requires names { version ≡ Version.V1 → names < 2 ^ 16 }
     requires room { vec_len bytes.old + 2 ≤ vec_capacity bytes.old }
@@ -52,7 +52,7 @@ fn put_before_size(bytes: &mut Vec<u8>, version: Version, names: u32)
     }
 }
 
-// Appends what stands after the pointers of an inode.
+// Appends the fields after the pointers of an inode.
 fn put_after_pointers(bytes: &mut Vec<u8>, version: Version, names: u32)
     requires { vec_len bytes.old + length (after_pointers version names) ≤ vec_capacity bytes.old }
     ensures items { bytes.new.items ≡ bytes.old.items ++ after_pointers version names }
@@ -68,9 +68,9 @@ fn put_after_pointers(bytes: &mut Vec<u8>, version: Version, names: u32)
     }
 }
 
-/// Appends the inode of a node of this sort, by its number, with so many names, and a content of so many bytes
-/// from a block on.
-#[tactic(auto, unfolding(crate::specs::Spelling::inode_bytes))]
+/// Appends the inode of a node with this kind field, `names` names, and contents of `size` bytes that start at block
+/// `first`.
+#[tactic(auto, unfolding(crate::specs::Encoding::inode_bytes))]
 pub(crate) fn put_inode(
     bytes: &mut Vec<u8>,
     version: Version,
@@ -97,9 +97,9 @@ pub(crate) fn put_inode(
     put_after_pointers(bytes, version, names);
 }
 
-/// Appends what stands after a content of so many bytes in its blocks, of which the first is given: zeros up to the end
-/// of those that it fills, and then the numbers of those past the tenth.
-#[tactic(auto, unfolding(crate::specs::Spelling::after_content))]
+/// Appends the bytes after contents of `size` bytes in their blocks, which start at `first`: zeros up to the end of the
+/// last block, then the index blocks.
+#[tactic(auto, unfolding(crate::specs::Encoding::after_content))]
 pub(crate) fn put_after_content(bytes: &mut Vec<u8>, size: usize, first: u16)
     requires size { size ≤ greatest_length V2 }
     requires blocks { first + taken size < 2 ^ 16 }

@@ -1,13 +1,12 @@
-//! Writes the image of a tree afresh, of the tree's own sizes, or of another version and other sizes, in parts to a
-//! sink.
+//! Writing the image of a tree to a sink, with the sizes and version of the tree or with others.
 //!
-//! The image has the root and the nodes in an entry, under their numbers: its first block, the inodes, and then
-//! the blocks of each node in a row. What no node uses is zero. `specs/Spelling` says each byte, and the laws
-//! in `proofs/` that the bytes are an image of the tree, by `pv_model`'s relation.
+//! The image contains the root and the named nodes under their numbers: the first block, the inode table, and then the
+//! blocks of each node consecutively. Unused bytes are zero. `specs/Encoding` defines each byte, and the laws in
+//! `proofs/` state that the bytes are an image of the tree by the relation of `pv_model`.
 //!
-//! `image` writes the whole; `content` has what a node contains, `inode` what stands in the table, `filling`
-//! appends bytes, zeros and numbers, `window` writes those that wait, and `fault` says why an image is not written. Memory
-//! is asked for once, before anything is written, and what is touched of it does not grow with the image.
+//! `image` writes the whole image, `content` the contents of a node, and `inode` its inode. `filling` appends bytes,
+//! zeros and numbers, `window` buffers output, and `fault` defines the errors. Memory is allocated once, before
+//! anything is written. The amount of it that is used does not grow with the image.
 #![tactic(auto)]
 
 mod content;

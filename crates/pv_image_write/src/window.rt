@@ -1,15 +1,15 @@
-//! The window: bytes of an image that wait to be written.
+//! The window: bytes of an image that are not written yet.
 ghost use Rattle.std.specs.Prelude.{◌≡◌, ◌+◌, ◌*◌, ◌<◌, ◌≤◌, ◌++◌, vec_capacity, vec_len, replicate, OnOk, OnErr};
 ghost use Rattle.pv_model.specs.declared.limits.TheConstants.{BLOCK};
 ghost use Rattle.pv_model.specs.Stream.{Rose};
-ghost use Rattle.pv_streams.specs.Sinks.{TellsBeginning};
+ghost use Rattle.pv_streams.specs.Sinks.{WritesPrefix};
 ghost use Rattle.pv_image_write.specs.Written.{IsPut};
 
 use crate::filling::put_zeros;
 use pv_model::limits::BLOCK;
 use pv_streams::{Failed, Sink, write_whole};
 
-// A window of so many bytes is written.
+// The size at which the window is written.
 const CHUNK: usize = 65_536;
 
 /// Writes the window and empties it, if it is full.
@@ -17,7 +17,7 @@ pub(crate) fn write_full<O: Sink>(window: &mut Vec<u8>, image: &mut O) -> Result
     ensures put { OnOk result (IsPut (O.written image.old) (O.written image.new) window.new.items window.old.items) }
     ensures small { OnOk result (vec_len window.new < CHUNK) }
     ensures capacity { vec_capacity window.old ≤ vec_capacity window.new }
-    ensures cut { OnErr result (TellsBeginning window.old.items (O.written image.old) (O.written image.new)) }
+    ensures cut { OnErr result (WritesPrefix window.old.items (O.written image.old) (O.written image.new)) }
     ensures quiet { OnOk result (O.failures image.new ≡ O.failures image.old) }
     ensures failed { OnErr result (Rose (O.failures image.old) (O.failures image.new)) }
 {
@@ -29,7 +29,7 @@ pub(crate) fn write_full<O: Sink>(window: &mut Vec<u8>, image: &mut O) -> Result
     Ok(())
 }
 
-/// Puts so many blocks of zeros into the window, and writes it whenever it is full.
+/// Appends blocks of zeros to the window, and writes it whenever it is full.
 pub(crate) fn write_zeros<O: Sink>(
     window: &mut Vec<u8>,
     blocks: u16,
@@ -37,7 +37,7 @@ pub(crate) fn write_zeros<O: Sink>(
 ) -> Result<(), Failed>
     requires { vec_len window.old + BLOCK * blocks ≤ vec_capacity window.old }
     ensures put { OnOk result (IsPut (O.written image.old) (O.written image.new) window.new.items (window.old.items ++ replicate (BLOCK * blocks) 0)) }
-    ensures cut { OnErr result (TellsBeginning (window.old.items ++ replicate (BLOCK * blocks) 0) (O.written image.old) (O.written image.new)) }
+    ensures cut { OnErr result (WritesPrefix (window.old.items ++ replicate (BLOCK * blocks) 0) (O.written image.old) (O.written image.new)) }
     ensures quiet { OnOk result (O.failures image.new ≡ O.failures image.old) }
     ensures failed { OnErr result (Rose (O.failures image.old) (O.failures image.new)) }
 {

@@ -1,4 +1,4 @@
--- One inode gets other bytes, and the others stay.
+-- One inode gets other contents, and the others do not change.
 use Rattle.std.proofs.Common.{◌≡◌, ℕ, zero, suc, ◌-◌, ◌/◌, ◌^◌, ◌<◌, ◌≤◌, ◌≢◌, List, length, get_or, set, Option, None, Some, IsSome, is_some, refl, sym, ap, ◌∙◌, inl, inr, arith}
 use Rattle.std.proofs.lemmas.Bool.{cases_eq, cases_lt, false≢true}
 use Rattle.pv_model.specs.declared.version.Version.{Version}
@@ -31,7 +31,7 @@ version-files_of version st inodes = refl
 pub held-files_of : (version : Version) (st : BlockStore) (inodes s : ℕ) → s < inodes → held (files_of version st inodes) (suc s) ≡ node_at version st.blocks s
 held-files_of version st inodes s below = ap (λ (nodes : Numbered Contained). at_number nodes (suc s)) (nodes-files_of version st inodes) ∙ at_number-nodes_in version st.blocks inodes s below
 
--- an inode that is in use is one of those that there are
+-- an inode that is in use is within the inode table
 pub record UsedSlot (version : Version) (st : BlockStore) (inodes n : ℕ) : Type 0 where
   pub above : 1 ≤ n
   pub slot : n ≡ suc (n - 1)
@@ -73,7 +73,7 @@ pub total_room-files_of : (version : Version) (st : BlockStore) (inodes : ℕ) �
 unfolding files_of
 total_room-files_of version st inodes sound = room-nodes_in version st.blocks inodes sound.sizes
 
--- inode s holds other bytes, and the others hold what they did
+-- inode s has other contents, and the others have the same
 pub record Becomes (version : Version) (st after : BlockStore) (inodes s : ℕ) (xs : Bytes) : Type 0 where
   pub sound : IsSound version after inodes
   pub first : after.first ≡ st.first
@@ -96,7 +96,7 @@ files_of-becomes version st after inodes s xs below used becomes =
     ∙ sym (with_number-set (nodes_in version st.blocks inodes) (suc s) (record { sort = sort_of (kind_at version st.blocks s); bytes = xs }) (omega arith)) in
     rw (nodes, becomes.first, becomes.total) (sym (ap (λ (o : Option Contained). replaced (record { version = version; nodes = nodes_in version st.blocks inodes; blocks = length st.blocks - st.first }) (suc s) o xs) (held-used version st inodes s below used)))
 
--- a store in which inode s owns the blocks, and has the bytes, of another length
+-- a store in which inode s owns the blocks, and has the bytes, for another length
 pub record Ready (version : Version) (st mid : BlockStore) (inodes s size : ℕ) (xs : Bytes) : Type 0 where
   pub shape : IsShaped version mid inodes
   pub first : mid.first ≡ st.first
@@ -134,7 +134,7 @@ module _ (version : Version) (st mid : BlockStore) (inodes s size : ℕ) (xs : B
   size_here : size_at version (with_size version mid.blocks s size) s ≡ size
   size_here = size_at-with_size version mid.blocks s size home_within home_whole small
 
-  -- a data block stays
+  -- data blocks do not change
   data_stays : (y : ℕ) → mid.first ≤ y → block_at (with_size version mid.blocks s size) y ≡ block_at mid.blocks y
   data_stays y from =
       let at_home = home-first s below in

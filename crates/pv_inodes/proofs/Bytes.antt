@@ -1,4 +1,4 @@
--- Bytes written over others, and lengthened or cut.
+-- Overwriting, extending and truncating bytes.
 use Rattle.std.proofs.Common.{◌≡◌, ℕ, ◌+◌, ◌-◌, ◌<◌, ◌≤◌, [], ◌++◌, length, get_or, take, drop, replicate, max, refl, sym, ap, ◌∙◌, inl, inr, arith}
 use Rattle.std.proofs.lemmas.Bool.{cases_lt}
 use Rattle.std.proofs.lemmas.List.{same_lists, append-nil, append_assoc, length-append, length-take-le, length-drop, length-replicate, get_or_append_left, get_or-append_right, get_or-take, get_or-replicate, get_or_default, take_all, drop_all}
@@ -9,7 +9,7 @@ use Rattle.pv_model.specs.Bytes.{Bytes}
 use Rattle.pv_model.specs.Effect.{overwrite, resize}
 use Rattle.pv_inodes.proofs.Splices.{over, length-over}
 
--- two lists of numbers with the same ones at the default 0
+-- two lists of numbers with equal elements, with the default 0
 pub same_bytes : (xs ys : Bytes) → length xs ≡ length ys → ((k : ℕ) → k < length xs → get_or xs k 0 ≡ get_or ys k 0) → xs ≡ ys
 same_bytes xs ys long same = same_lists xs ys long (λ k d within. get_or_default xs k d 0 within ∙ same k within ∙ get_or_default ys k 0 d (omega arith))
 
@@ -18,7 +18,7 @@ overwrite-over old at new within =
     let none : at - length old ≡ 0 = omega arith in
     rw (none, append-nil old) (append_assoc (take at old) new (drop (at + length new) old))
 
--- a longer content: what it was, then zeros
+-- longer contents: the old ones followed by zeros
 module _ (old : Bytes) (size : ℕ) (longer : length old ≤ size) where
   pub resize-longer : resize old size ≡ old ++ replicate (size - length old) 0
   resize-longer = rw (take_all size old longer) refl
@@ -35,7 +35,7 @@ module _ (old : Bytes) (size : ℕ) (longer : length old ≤ size) where
       ∙ get_or-append_right old (replicate (size - length old) 0) (length old) x 0 refl from
       ∙ get_or-replicate {A = ℕ} (size - length old) (x - length old) 0 0 (omega arith)
 
--- a shorter one
+-- shorter contents
 module _ (old : Bytes) (size : ℕ) (shorter : size ≤ length old) where
   pub resize-shorter : resize old size ≡ take size old
   resize-shorter =
@@ -57,7 +57,7 @@ length-resize old size = elim (cases_lt size (length old)) [
 pub resize-itself : (old : Bytes) → resize old (length old) ≡ old
 resize-itself old = same_bytes (resize old (length old)) old (length-resize old (length old)) (λ k within. get_or-resize_shorter old (length old) (omega arith) k (omega (arith, length-resize old (length old))))
 
--- to lengthen twice is to lengthen once
+-- two extensions are one
 pub resize-resize : (old : Bytes) (m n : ℕ) → length old ≤ m → m ≤ n → resize (resize old m) n ≡ resize old n
 resize-resize old m n longer more =
     let length_m = length-resize old m in
@@ -79,7 +79,7 @@ resize-resize old m n longer more =
 pub length-overwrite : (old : Bytes) (at : ℕ) (new : Bytes) → at + length new ≤ length old → length (overwrite old at new) ≡ length old
 length-overwrite old at new fits = ap length (overwrite-over old at new (omega arith)) ∙ length-over old at new fits
 
--- to write bytes, and others after them, is to write both
+-- two adjacent writes are one
 over-over : (old : Bytes) (at m n : ℕ) (xs ys : Bytes) → m ≡ length xs → n ≡ length ys → at ≤ length old → over (over old at xs) (at + m) ys ≡ over old at (xs ++ ys)
 over-over old at m n xs ys long_xs long_ys within =
     let long_both : m + n ≡ length (xs ++ ys) = omega (arith, length-append xs ys) in
@@ -102,7 +102,7 @@ overwrite-overwrite old at new m n within fits =
     ∙ ap (over old at) (sym (take-add m n new))
     ∙ sym (overwrite-over old at (take (m + n) new) (omega arith))
 
--- a write past the end is a write over what was lengthened by zeros
+-- a write past the end is a write after an extension with zeros
 module _ (old : Bytes) (at : ℕ) (new : Bytes) where
   front_zeros : (m : ℕ) → at - length old ≤ m → take at (old ++ replicate m 0) ≡ take at (old ++ replicate (at - length old) 0)
   front_zeros m enough =

@@ -1,4 +1,4 @@
--- Blocks are put into use inode by inode.
+-- Marking blocks as in use, inode by inode.
 use Rattle.std.proofs.Common.{◌≡◌, ℕ, suc, ◌<◌, ◌≤◌, Bool, true, false, ltb, cond, eqb, List, length, get_or, set, refl, sym, ap, ◌∙◌, inl, inr, arith}
 use Rattle.std.proofs.lemmas.Bool.{cases_lt, cases_eq, cases_order, cases_Bool, eq-eqb, ne_eqb, lt-ltb, le-ltb, le-leb, lt-leb, false≢true}
 use Rattle.std.proofs.lemmas.List.{length-set, get_or-set_same, get_or-set_other, get_or_past, get_or_default}
@@ -15,7 +15,7 @@ use Rattle.pv_inodes.proofs.Emptiness.{count_from, sum_zeros, free_test}
 use Rattle.pv_inodes.proofs.Ownership.{changed-same, changed-other, owning-same, owning-take}
 use Rattle.pv_inodes.proofs.Uses.{MayOwn}
 
--- how many blocks each inode has where those before inode s have all, and that has i
+-- the number of blocks of each inode if those before inode s have all, and s has i
 abbrev pub so_far : (ℕ → ℕ) → ℕ → ℕ → ℕ → ℕ
 so_far count s i t = cond (ltb t s) (count t) (cond (eqb t s) i 0)
 
@@ -29,7 +29,7 @@ module _ (count : ℕ → ℕ) (s i : ℕ) where
   so_far-following : (t : ℕ) → s < t → so_far count s i t ≡ 0
   so_far-following t following = rw (le-ltb t s (omega arith), ne_eqb t s (λ e. omega arith)) refl
 
--- one block more
+-- one more block
 so_far-more : (count : ℕ → ℕ) (s i t : ℕ) → so_far count s (suc i) t ≡ changed (so_far count s i) s (suc (so_far count s i s)) t
 so_far-more count s i t = elim (cases_order t s) [
   | inl here ↦ rw here (so_far-here count s (suc i) ∙ sym (changed-same (so_far count s i) s (suc (so_far count s i s)) ∙ ap suc (so_far-here count s i)))
@@ -37,7 +37,7 @@ so_far-more count s i t = elim (cases_order t s) [
   | inr (inr following) ↦ so_far-following count s (suc i) t following ∙ sym (changed-other (so_far count s i) s (suc (so_far count s i s)) t (λ e. omega arith) ∙ so_far-following count s i t following)
 ]
 
--- an inode has all
+-- an inode has all of its blocks
 so_far-next : (count : ℕ → ℕ) (s t : ℕ) → so_far count (suc s) 0 t ≡ so_far count s (count s) t
 so_far-next count s t = elim (cases_order t s) [
   | inl here ↦ rw here (so_far-before count (suc s) 0 s (omega arith) ∙ sym (so_far-here count s (count s)))
@@ -56,7 +56,7 @@ pub record IsSomeones (v : Version) (bs : List Bytes) (inodes s i k : ℕ) : Typ
   pub in_row : place < so_far (owned_count v bs) s i owner
   pub is : owned_at v bs owner place ≡ k
 
--- of the data blocks those are in use that the inodes before inode s are to own, and the first i of that
+-- the data blocks in use are those that the inodes before inode s will own, and the first i of s
 pub record IsClaimed (v : Version) (bs : List Bytes) (inodes first : ℕ) (free : List Bool) (s i : ℕ) : Type 0 where
   pub flags : length free ≡ length bs
   pub free_from : (k : ℕ) → get_or free k false ≡ true → first ≤ k
@@ -67,7 +67,7 @@ module _ (v : Version) (bs : List Bytes) (inodes first : ℕ) (may : MayOwn v bs
   abbrev count : ℕ → ℕ
   count = owned_count v bs
 
-  -- what is owned so far is to be owned
+  -- the blocks so far are some of those that will be owned
   to_own : (t j : ℕ) → i ≤ count s → t < inodes → j < so_far count s i t → j < count t
   to_own t j few below in_row = elim (cases_order t s) [
     | inl here ↦ let counts : count t ≡ count s = ap count here in let so : so_far count s i t ≡ i = ap (so_far count s i) here ∙ so_far-here count s i in omega arith
@@ -134,12 +134,12 @@ module _ (v : Version) (bs : List Bytes) (inodes first : ℕ) (may : MayOwn v bs
             record { owner = someone.owner; place = someone.place; below = someone.below; in_row = omega (arith, someone.in_row, same someone.owner); is = someone.is };
       }
 
--- ---- none yet, and all
+-- ---- no blocks, and all blocks
 
 flag-free_from : (first : ℕ) (used : BlockSet) (total k : ℕ) (d : Bool) → k < total → get_or (free_from first used total) k d ≡ free_test first used k
 flag-free_from first used total k d within = get_or-map-range_with_len (free_test first used) 0 total k k d within (omega arith)
 
--- none is in use where none is in the set
+-- no block is in use if the set is empty
 pub claimed_none : (v : Version) (bs : List Bytes) (inodes first : ℕ) (used : BlockSet) → first ≤ length bs → ((k : ℕ) → is_member used k ≡ false)
     → IsClaimed v bs inodes first (free_from first used (length bs)) 0 0
 unfolding count_set sum_over
@@ -170,7 +170,7 @@ claimed_none v bs inodes first used fits none =
       claimed = λ k from within is_clear. absurd (false≢true (sym is_clear ∙ flag-free_from first used (length bs) k true within ∙ rw (le-leb first k from, none k) refl));
     }
 
--- all that are to be owned are
+-- at the end, all blocks are owned
 pub owning_all : (v : Version) (bs : List Bytes) (inodes first : ℕ) (free : List Bool) → IsClaimed v bs inodes first free inodes 0
     → IsOwning inodes (most_owned v) first (length bs) free (owned_count v bs) (owned_at v bs)
 owning_all v bs inodes first free all =

@@ -16,12 +16,12 @@ use Rattle.pv_inodes.specs.Owning.{sum_over}
 use Rattle.pv_inodes.proofs.Layouts.{IsContent, place_of-is, wanted-is, need-wanted}
 use Rattle.pv_inodes.proofs.Numbers.{at_number-get_or}
 
--- blocks as many need as many
+-- contents of the same number of blocks need the same number
 pub wanted-same : (m n : ℕ) → (m + 511) / 512 ≡ (n + 511) / 512 → wanted m ≡ wanted n
 unfolding wanted
 wanted-same m n same = rw same refl
 
--- a longer content needs no less
+-- longer contents need at least as many
 need-mono_first : (m n : ℕ) → m ≤ n → need V1 m ≤ need V1 n
 unfolding need
 need-mono_first m n le =
@@ -44,15 +44,15 @@ pub need-mono : (version : Version) (m n : ℕ) → m ≤ n → need version m �
 need-mono V1 m n le = need-mono_first m n le
 need-mono V2 m n le = need-mono_second m n le
 
--- content does not lie in an index block
+-- contents are not in an index block
 pub place_of-content : (j : ℕ) → IsContent (place_of j)
 place_of-content j = omega (arith, place_of-is j)
 
--- different blocks of content have different places
+-- different blocks of contents have different positions
 pub place_of-apart : (i j : ℕ) → place_of i ≡ place_of j → i ≡ j
 place_of-apart i j same = omega (arith, place_of-is i, place_of-is j)
 
--- a byte of the content lies in a block that is needed
+-- each byte of the contents is in a block that is needed
 pub place_of-needed : (n x : ℕ) → x < n → place_of (x / 512) < wanted n
 place_of-needed n x within =
     let blocks : x / 512 < (n + 511) / 512 = omega arith in
@@ -78,7 +78,7 @@ pub get_or-content_at : (version : Version) (bs : List Bytes) (s x : ℕ) → x 
 unfolding content_at
 get_or-content_at version bs s x within = get_or-map-range_with_len (content_byte version bs s) 0 (size_at version bs s) x x 0 within (omega arith)
 
--- a content by its bytes
+-- contents, by their bytes
 pub content_at-is : (version : Version) (bs : List Bytes) (s : ℕ) (xs : Bytes) → length xs ≡ size_at version bs s → ((x : ℕ) → x < size_at version bs s → get_or xs x 0 ≡ content_byte version bs s x) → content_at version bs s ≡ xs
 unfolding content_at
 content_at-is version bs s xs long same = sym (fill_by_all (content_byte version bs s) xs (size_at version bs s) 0 long same)
@@ -91,7 +91,7 @@ pub node_at-free : (version : Version) (bs : List Bytes) (s : ℕ) → kind_at v
 unfolding node_at
 node_at-free version bs s free = rw (eq-eqb (kind_at version bs s) 0 free) refl
 
--- inode s holds the same in both
+-- inode s is the same in both
 pub record SameNode (version : Version) (bs cs : List Bytes) (s : ℕ) : Type 0 where
   pub kind : kind_at version cs s ≡ kind_at version bs s
   pub size : size_at version cs s ≡ size_at version bs s
@@ -119,7 +119,7 @@ node_at-same version bs cs s same = elim (cases_eq (kind_at version bs s) 0) [
       ∙ sym (node_at-used version bs s used_bs)
 ]
 
--- the inodes by their numbers, which are one more
+-- the inodes by number, including number 0
 pub length-nodes_in : (version : Version) (bs : List Bytes) (inodes : ℕ) → length (nodes_in version bs inodes) ≡ suc inodes
 unfolding nodes_in
 length-nodes_in version bs inodes = ap suc (length-map-range_with_len (node_at version bs) 0 inodes)
@@ -133,7 +133,7 @@ pub at_number-nodes_in_zero : (version : Version) (bs : List Bytes) (inodes : �
 unfolding nodes_in
 at_number-nodes_in_zero version bs inodes = refl
 
--- and where one inode holds something else, it alone differs
+-- if one inode changes, only it differs
 pub nodes_in-set : (version : Version) (bs cs : List Bytes) (inodes s : ℕ) → s < inodes → ((t : ℕ) → t < inodes → t ≢ s → node_at version cs t ≡ node_at version bs t) → nodes_in version cs inodes ≡ set (nodes_in version bs inodes) (suc s) (node_at version cs s)
 unfolding nodes_in
 nodes_in-set version bs cs inodes s below same =
@@ -179,7 +179,7 @@ pub room-nodes_in : (version : Version) (bs : List Bytes) (inodes : ℕ) → ((s
 unfolding nodes_in sum_over
 room-nodes_in version bs inodes allowed = sum_by-present version (map (node_at version bs) (range_with_len 0 inodes)) ∙ sum_by-map_range version bs 0 inodes (λ s below. allowed s (omega arith))
 
--- a byte of the content by its block
+-- a byte of the contents in its block
 pub content_byte-is : (version : Version) (bs : List Bytes) (s x : ℕ) → content_byte version bs s x ≡ get_or (block_at bs (owned_at version bs s (place_of (x / 512)))) (x % 512) 0
 unfolding content_byte
 content_byte-is version bs s x = refl

@@ -1,4 +1,4 @@
--- Files with other bytes in one inode.
+-- Files with other contents of one inode.
 use Rattle.std.proofs.Common.{◌≡◌, ℕ, ◌+◌, ◌<◌, ◌≤◌, [], ◌∷◌, length, take, drop, max, Option, None, Some, IsSome, is_some, refl, sym, ap, ◌∙◌, arith}
 use Rattle.std.proofs.lemmas.Bool.{false≢true}
 use Rattle.pv_model.specs.Bytes.{Bytes}
@@ -54,7 +54,7 @@ with_bytes-itself f n used =
     ∙ ap (λ (xs : Bytes). record f { nodes = with_number f.nodes n (record found.0 { bytes = xs }) }) bytes
     ∙ ap (λ (nodes : Numbered Contained). record f { nodes = nodes }) (with_number-itself f.nodes n found.0 found.1)
 
--- other bytes need other room
+-- other contents need other room
 pub total_room-with_bytes : (f : Files) (n : ℕ) (xs : Bytes) → IsUsed f n → total_room (with_bytes f n xs) + need f.version (length (bytes_at f n)) ≡ total_room f + need f.version (length xs)
 total_room-with_bytes f n xs used =
     let found = some_is (held f n) used in
@@ -63,14 +63,14 @@ total_room-with_bytes f n xs used =
     let change = sum_by-with_number (room_of f.version) f.nodes n found.0 (record found.0 { bytes = xs }) found.1 in
     omega (arith, after, old, change)
 
--- so it is by the needs of the version that is known
+-- the same with a known version
 pub total_room-in_version : (f : Files) (n : ℕ) (xs : Bytes) (version : Version) → IsUsed f n → f.version ≡ version → total_room (with_bytes f n xs) + need version (length (bytes_at f n)) ≡ total_room f + need version (length xs)
 total_room-in_version f n xs version used is =
     let old : need f.version (length (bytes_at f n)) ≡ need version (length (bytes_at f n)) = ap (λ v. need v (length (bytes_at f n))) is in
     let new : need f.version (length xs) ≡ need version (length xs) = ap (λ v. need v (length xs)) is in
     omega (arith, total_room-with_bytes f n xs used, old, new)
 
--- the files so far, in a loop that lengthens a content
+-- the files in a loop that extends contents
 module _ (first now : Files) (n m : ℕ) (used : IsUsed first n) (longer : length (bytes_at first n) ≤ m) (grown : now ≡ with_bytes first n (resize (bytes_at first n) m)) where
   pub used-grown : IsUsed now n
   used-grown = rw grown (used-with_bytes first n (resize (bytes_at first n) m) used)
@@ -88,14 +88,14 @@ module _ (first now : Files) (n m : ℕ) (used : IsUsed first n) (longer : lengt
       ∙ ap (λ (f : Files). with_bytes f n (resize (bytes_at first n) v)) grown
       ∙ with_bytes-with_bytes first n (resize (bytes_at first n) m) (resize (bytes_at first n) v) used
 
--- a shorter content needs no more room
+-- shorter contents need at most as much room
 pub room-shorter : (f : Files) (n v w : ℕ) → IsUsed f n → v ≤ w → HasRoom (with_bytes f n (resize (bytes_at f n) w)) → HasRoom (with_bytes f n (resize (bytes_at f n) v))
 room-shorter f n v w used shorter room =
     let long_v : need f.version (length (resize (bytes_at f n) v)) ≡ need f.version v = ap (need f.version) (length-resize (bytes_at f n) v) in
     let long_w : need f.version (length (resize (bytes_at f n) w)) ≡ need f.version w = ap (need f.version) (length-resize (bytes_at f n) w) in
     omega (arith, total_room-with_bytes f n (resize (bytes_at f n) v) used, total_room-with_bytes f n (resize (bytes_at f n) w) used, blocks-with_bytes f n (resize (bytes_at f n) v) used, blocks-with_bytes f n (resize (bytes_at f n) w) used, need-mono f.version v w shorter, long_v, long_w, room)
 
--- the files so far, in a loop that writes over a part of a content
+-- the files in a loop that overwrites a part of the contents
 module _ (first now : Files) (n at m : ℕ) (bytes : Bytes) (used : IsUsed first n) (within : m ≤ length bytes) (fits : at + length bytes ≤ length (bytes_at first n)) (written : now ≡ with_bytes first n (overwrite (bytes_at first n) at (take m bytes))) where
   pub used-written : IsUsed now n
   used-written = rw written (used-with_bytes first n (overwrite (bytes_at first n) at (take m bytes)) used)
@@ -113,7 +113,7 @@ module _ (first now : Files) (n at m : ℕ) (bytes : Bytes) (used : IsUsed first
       ∙ ap (λ (f : Files). with_bytes f n (overwrite (bytes_at first n) at (take (m + count) bytes))) written
       ∙ with_bytes-with_bytes first n (overwrite (bytes_at first n) at (take m bytes)) (overwrite (bytes_at first n) at (take (m + count) bytes)) used
 
--- to write no bytes changes nothing
+-- a write of zero bytes changes nothing
 pub overwrite-nothing : (old : Bytes) (at : ℕ) → at ≤ length old → overwrite old at [] ≡ old
 overwrite-nothing old at within =
     let here : at + 0 ≡ at = omega arith in
@@ -123,12 +123,12 @@ pub written-some : (f : Files) (n at : ℕ) (bytes : Bytes) → 0 < length bytes
 written-some f n at [] some = absurd (omega arith)
 written-some f n at (b ∷ bytes) some = refl
 
--- contents of one length need one room
+-- contents of the same length need the same room
 pub total_room-same : (f : Files) (n : ℕ) (xs ys : Bytes) → IsUsed f n → length xs ≡ length ys → total_room (with_bytes f n xs) ≡ total_room (with_bytes f n ys)
 total_room-same f n xs ys used same =
     omega (arith, total_room-with_bytes f n xs used, total_room-with_bytes f n ys used, ap (need f.version) same)
 
--- a write asks for the room of the content that is lengthened first
+-- a write needs the room of the extended contents
 pub lacks_room-written : (f : Files) (n at size : ℕ) (bytes : Bytes) → IsUsed f n → 0 < length bytes → size ≡ max (length (bytes_at f n)) (at + length bytes) → LacksRoom (cut f n size) → LacksRoom (written f n at bytes)
 lacks_room-written f n at size bytes used some size_is lacks =
     let same : length (overwrite (bytes_at f n) at bytes) ≡ length (resize (bytes_at f n) size) = length-overwrite_any (bytes_at f n) at bytes ∙ sym (length-resize (bytes_at f n) size ∙ size_is) in
@@ -141,7 +141,7 @@ has_room-written f n at size bytes used some size_is has =
     let room = total_room-same f n (overwrite (bytes_at f n) at bytes) (resize (bytes_at f n) size) used same in
     rw (written-some f n at bytes some) (omega (arith, room, has, blocks-with_bytes f n (resize (bytes_at f n) size) used, blocks-with_bytes f n (overwrite (bytes_at f n) at bytes) used))
 
--- to lengthen and then write is to write
+-- an extension followed by a write is a write
 pub written-lengthened : (f grown : Files) (n at size : ℕ) (bytes : Bytes) → IsUsed f n → 0 < length bytes → size ≡ max (length (bytes_at f n)) (at + length bytes) → grown ≡ with_bytes f n (resize (bytes_at f n) size) → with_bytes grown n (overwrite (bytes_at grown n) at bytes) ≡ written f n at bytes
 written-lengthened f grown n at size bytes used some size_is is =
     let content : bytes_at grown n ≡ resize (bytes_at f n) size = ap (λ (g : Files). bytes_at g n) is ∙ bytes_at-with_bytes f n (resize (bytes_at f n) size) used in
@@ -158,7 +158,7 @@ without-with_bytes f n xs used =
     ap (λ (g : Files). without g n) (with_bytes-is f n found.0 xs found.1)
     ∙ ap (λ (nodes : Numbered Contained). record f { nodes = nodes }) (without_number-with_number f.nodes n found.0 (record found.0 { bytes = xs }) found.1)
 
--- the files that have other bytes in an inode
+-- files with other contents of an inode
 module _ (f g : Files) (n : ℕ) (xs : Bytes) (used : IsUsed f n) (left : g ≡ with_bytes f n xs) where
   pub used-left : IsUsed g n
   used-left = rw left (used-with_bytes f n xs used)

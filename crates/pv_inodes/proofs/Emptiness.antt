@@ -1,4 +1,4 @@
--- A store over zeros holds nothing.
+-- A store of zeros has no inodes in use.
 use Rattle.std.proofs.Common.{◌≡◌, ℕ, zero, suc, ◌+◌, ◌*◌, ◌-◌, ◌<◌, ◌≤◌, Bool, true, false, not, ◌&&◌, leb, cond, List, [], map, length, get_or, drop, replicate, count_by, None, refl, sym, ap, ◌∙◌, inl, inr, arith}
 use Rattle.std.specs.List.{range_with_len, sum_by, All}
 use Rattle.std.proofs.lemmas.Bool.{cases_lt, le-leb, lt-leb, leb-true, and_parts, false≢true}
@@ -44,7 +44,7 @@ sum_zeros f a zero nothing = refl
 sum_zeros f a (suc n) nothing =
     omega (arith, sum_by-cons f a (range_with_len (a + 1) n), nothing a (omega arith) (omega arith), sum_zeros f (a + 1) n (λ s from below. nothing s (omega arith) (omega arith)))
 
--- a store over zeros, of which no data block is in use
+-- a store of zeros without data blocks in use
 pub record IsEmptyStore (version : Version) (st : BlockStore) (bytes : Bytes) (used : BlockSet) (inodes count : ℕ) : Type 0 where
   pub long : length bytes ≡ 512 * count
   pub zeros : All (λ b. b ≡ 0) bytes

@@ -1,4 +1,4 @@
--- A content is lengthened, cut, or written over.
+-- Extending, truncating and overwriting contents.
 use Rattle.std.proofs.Common.{◌≡◌, ℕ, suc, ◌+◌, ◌*◌, ◌-◌, ◌/◌, ◌%◌, ◌^◌, ◌<◌, ◌≤◌, true, false, Some, length, get_or, set, refl, sym, ap, ◌∙◌, inl, inr, arith}
 use Rattle.std.proofs.lemmas.Bool.{cases_eq, cases_lt}
 use Rattle.std.proofs.lemmas.List.{length-set, get_or-set_other, get_or-replicate}
@@ -20,7 +20,7 @@ use Rattle.pv_inodes.proofs.Patches.{owned_patched, kinds_patched, sizes_patched
 use Rattle.pv_inodes.proofs.Pushes.{is_pushed}
 use Rattle.pv_inodes.proofs.Splices.{over, length-over, get_or-over_below, get_or-over_within, get_or-over_above, length-splice}
 
--- the same number at the place that is changed
+-- setting the same value changes nothing
 changed-unchanged : (count : ℕ → ℕ) (s n t : ℕ) → count s ≡ n → changed count s n t ≡ count t
 changed-unchanged count s n t same = elim (cases_eq t s) [
   | inl equal ↦ rw equal (changed-same count s n ∙ sym same)
@@ -33,7 +33,7 @@ changed-changed count s m n t = elim (cases_eq t s) [
   | inr differs ↦ changed-other (changed count s m) s n t differs ∙ changed-other count s m t differs ∙ sym (changed-other count s n t differs)
 ]
 
--- the last block of a content that ends within it
+-- the last block of contents that end within it
 last_block : (size : ℕ) → 0 < size % 512 → (size - 1) / 512 ≡ size / 512
 last_block size partly = omega arith
 
@@ -47,7 +47,7 @@ module _ (version : Version) (st : BlockStore) (inodes s : ℕ) (sound : IsSound
   long_is : length (content_at version st.blocks s) ≡ size_at version st.blocks s
   long_is = length-content_at version st.blocks s
 
--- zeros are written after the content, in its last block
+-- zeros are written after the contents, in their last block
 module _ (version : Version) (st : BlockStore) (inodes s : ℕ) (sound : IsSound version st inodes) (below : s < inodes) (used : 0 < kind_at version st.blocks s) (k v at : ℕ) (new : Bytes) (longer : size_at version st.blocks s ≤ v) (within : v ≤ 512 * (size_at version st.blocks s / 512 + 1)) (partly : 0 < size_at version st.blocks s % 512) (at_is : at ≡ size_at version st.blocks s % 512) (is_owned : k ≡ owned_at version st.blocks s (place_of (size_at version st.blocks s / 512))) (long : length new ≡ v - size_at version st.blocks s) (none : (x : ℕ) → get_or new x 0 ≡ 0) where
   range_within : place_of (size_at version st.blocks s / 512) < owned_count version st.blocks s
   range_within =
@@ -95,7 +95,7 @@ module _ (version : Version) (st : BlockStore) (inodes s : ℕ) (sound : IsSound
         bytes = bytes_within;
       }
 
--- bytes are written over a part of the content, in one of its blocks
+-- a part of the contents in one block is overwritten
 module _ (version : Version) (st : BlockStore) (inodes s : ℕ) (sound : IsSound version st inodes) (below : s < inodes) (used : 0 < kind_at version st.blocks s) (k at start : ℕ) (new : Bytes) (place : at ≡ start % 512) (is_owned : k ≡ owned_at version st.blocks s (place_of (start / 512))) (some : 0 < length new) (fits : at + length new ≤ 512) (within : start + length new ≤ size_at version st.blocks s) where
   range_written : place_of (start / 512) < owned_count version st.blocks s
   range_written = rw (count_is version st inodes s sound below used) (place_of-needed (size_at version st.blocks s) start (omega arith))
@@ -158,7 +158,7 @@ module _ (version : Version) (st : BlockStore) (inodes s : ℕ) (sound : IsSound
         bytes = λ x in_range. bytes_written x (rw (written, long) at in_range) ∙ sym (ap (λ (xs : Bytes). get_or xs x 0) written);
       }
 
--- the store after inode s took blocks, of which the last is its block n - 1
+-- the store after inode s allocated blocks, up to its block n - 1
 pub record Extended (version : Version) (st mid : BlockStore) (inodes s last : ℕ) : Type 0 where
   pub shape : IsShaped version mid inodes
   pub first : mid.first ≡ st.first
@@ -210,7 +210,7 @@ extended_again version st mid inodes s n k below owns once room small is_free =
       cleared = rw (rw count at done.here) done.cleared;
     }
 
--- zeros in blocks that were taken lengthen the content
+-- zeros in newly allocated blocks extend the contents
 module _ (version : Version) (st mid : BlockStore) (inodes s v last : ℕ) (sound : IsSound version st inodes) (below : s < inodes) (used : 0 < kind_at version st.blocks s) (extended : Extended version st mid inodes s last) (full : size_at version st.blocks s % 512 ≡ 0) (longer : size_at version st.blocks s ≤ v) (within : v ≤ size_at version st.blocks s + 512) (last_is : last ≡ place_of (size_at version st.blocks s / 512)) (needs : wanted v ≡ suc last) where
   bytes_extended : (x : ℕ) → x < v → content_byte version mid.blocks s x ≡ get_or (resize (content_at version st.blocks s) v) x 0
   unfolding content_byte zeros
@@ -244,7 +244,7 @@ module _ (version : Version) (st mid : BlockStore) (inodes s v last : ℕ) (soun
         bytes = bytes_extended;
       }
 
--- the store after inode s gave back all but n of its blocks
+-- the store after inode s freed all of its blocks except the first n
 pub record Reduced (version : Version) (st mid : BlockStore) (inodes s n : ℕ) : Type 0 where
   pub blocks : mid.blocks ≡ st.blocks
   pub first : mid.first ≡ st.first
@@ -280,7 +280,7 @@ reduced_more version st mid inodes s n below so_far =
           (λ t i below_t in_range. refl);
     }
 
--- a cut leaves the front of the content
+-- a truncation keeps the front of the contents
 pub ready_reduced : (version : Version) (st mid : BlockStore) (inodes s v : ℕ) → IsSound version st inodes → s < inodes → 0 < kind_at version st.blocks s → v ≤ size_at version st.blocks s → Reduced version st mid inodes s (wanted v) → Ready version st mid inodes s v (resize (content_at version st.blocks s) v)
 ready_reduced version st mid inodes s v sound below used shorter reduced =
     let size_is = long_is version st inodes s sound below used in
@@ -304,7 +304,7 @@ ready_reduced version st mid inodes s v sound below used shorter reduced =
       bytes = λ x in_range. rw reduced.blocks (sym (get_or-resize_shorter (content_at version st.blocks s) v shorter_content x in_range ∙ get_or-content_at version st.blocks s x (omega arith)));
     }
 
--- the last block that is left may be given back
+-- the last remaining block can be freed
 pub record MayGiveBack (version : Version) (st mid : BlockStore) (s n : ℕ) : Type 0 where
   pub from : mid.first ≤ owned_at version st.blocks s n
   pub taken : IsTaken mid (owned_at version st.blocks s n)
@@ -319,7 +319,7 @@ may_give_back version st mid inodes s n below so_far =
       taken = slice_get-get_or mid.free (owned_at version st.blocks s n) true (omega (arith, so_far.flags)) ∙ ap Some (so_far.owning.taken s n below range);
     }
 
--- no more than the blocks that the inode owned are left
+-- at most the blocks that the inode owned remain
 pub reduced-index : (version : Version) (st mid : BlockStore) (inodes s n i : ℕ) → s < inodes → Reduced version st mid inodes s n → i < n → pointer_at version mid.blocks s (pointer_of i) < length mid.blocks
 reduced-index version st mid inodes s n i below so_far in_range =
     let count = changed-same (owned_count version st.blocks) s n in

@@ -1,4 +1,4 @@
--- What writes do to the fields of inodes, and to the pointers to the blocks that they own.
+-- The effect of writes on the fields of inodes, and on the pointers to the blocks that they own.
 use Rattle.std.proofs.Common.{◌≡◌, ℕ, ◌+◌, ◌*◌, ◌-◌, ◌^◌, ◌<◌, ◌≤◌, ◌≢◌, ◌⊎◌, List, [], ◌∷◌, length, refl, sym, ap, ◌∙◌, inl, inr, arith}
 use Rattle.std.proofs.lemmas.Bool.{cases_eq, cases_lt, eq-eqb, ne_eqb}
 use Rattle.byteorder.specs.Endian.{little_bytes}
@@ -16,7 +16,7 @@ pub record SameHead (version : Version) (bs cs : List Bytes) (t : ℕ) : Type 0 
   pub size : size_at version cs t ≡ size_at version bs t
   pub direct : (p : ℕ) → p < pointer_count version → pointer_at version cs t p ≡ pointer_at version bs t p
 
--- they are where its block is the same
+-- they are if its block is the same
 pub same_head : (version : Version) (bs cs : List Bytes) (t : ℕ) → block_at cs (home version t) ≡ block_at bs (home version t) → SameHead version bs cs t
 unfolding kind_at size_at pointer_at
 same_head version bs cs t same = record {
@@ -25,7 +25,7 @@ same_head version bs cs t same = record {
   direct = λ i within. number-same cs bs (home version t) (offset version t + 8 + 2 * i) 2 same;
 }
 
--- and its i-th block is, where the pointer to it is the same, and its index block
+-- its i-th block is the same if the pointer to it and its index block are
 pub owned_at-same : (version : Version) (bs cs : List Bytes) (t i : ℕ) → pointer_at version cs t (pointer_of i) ≡ pointer_at version bs t (pointer_of i) → (after_index i ≢ 0 → block_at cs (pointer_at version bs t (pointer_of i)) ≡ block_at bs (pointer_at version bs t (pointer_of i))) → owned_at version cs t i ≡ owned_at version bs t i
 unfolding owned_at
 owned_at-same version bs cs t i pointer index = elim (cases_eq (after_index i) 0) [
@@ -33,7 +33,7 @@ owned_at-same version bs cs t i pointer index = elim (cases_eq (after_index i) 0
   | inr following ↦ rw (ne_eqb (after_index i) 0 following, pointer) (number-same cs bs (pointer_at version bs t (pointer_of i)) (2 * (after_index i - 1)) 2 (index following))
 ]
 
--- a write into inode s, from byte a of it on
+-- a write to inode s at offset a
 module _ (version : Version) (bs : List Bytes) (s a : ℕ) (new : Bytes) (within : home version s < length bs) (whole : length (block_at bs (home version s)) ≡ 512) (inside : a + length new ≤ inode_length version) where
   fits : offset version s + a + length new ≤ length (block_at bs (home version s))
   fits = omega (arith, inode-fits version s)
@@ -85,7 +85,7 @@ module _ (version : Version) (bs : List Bytes) (s a : ℕ) (new : Bytes) (within
         | inr before ↦ rw place at (field-following (8 + 2 * i) 2 before)
       ]
 
--- the pointers in the inode, and those in the index block
+-- the pointers in the inode, and those in an index block
 pub owned_at-direct : (version : Version) (bs : List Bytes) (t i : ℕ) → after_index i ≡ 0 → owned_at version bs t i ≡ pointer_at version bs t (pointer_of i)
 unfolding owned_at
 owned_at-direct version bs t i direct = rw (eq-eqb (after_index i) 0 direct) refl
@@ -94,7 +94,7 @@ pub owned_at-entry : (version : Version) (bs : List Bytes) (t i : ℕ) → after
 unfolding owned_at
 owned_at-entry version bs t i following = rw (ne_eqb (after_index i) 0 following) refl
 
--- the index block that points to the i-th block
+-- the index block of the i-th block
 pub index-is : (version : Version) (bs : List Bytes) (t i : ℕ) → pointer_at version bs t (pointer_of i) ≡ owned_at version bs t (index_of i)
 index-is version bs t i = sym (owned_at-direct version bs t (index_of i) (index_of-direct i) ∙ ap (pointer_at version bs t) (pointer_of-index i))
 
@@ -105,7 +105,6 @@ module _ (version : Version) (bs : List Bytes) (s size : ℕ) (within : home ver
   inside : 4 + length (little_bytes 4 size) ≤ inode_length version
   inside = omega (arith, long, pointers-fit version)
 
-  -- a length that is written is the inode's
   pub size_at-with_size : size_at version (with_size version bs s size) s ≡ size
   unfolding size_at with_size
   size_at-with_size = number-splice_same bs (home version s) (offset version s + 4) 4 size within (omega (arith, inode-fits version s, pointers-fit version)) (omega arith)
@@ -118,7 +117,7 @@ module _ (version : Version) (bs : List Bytes) (s size : ℕ) (within : home ver
   unfolding with_size
   pointer_at-with_size i = direct-same version bs s 4 (little_bytes 4 size) within whole inside i (inr (omega (arith, long)))
 
-  -- and the other inodes stay
+  -- and the other inodes do not change
   pub head-with_size : (t : ℕ) → t ≢ s → SameHead version bs (with_size version bs s size) t
   unfolding with_size
   head-with_size t differs = head-other version bs s 4 (little_bytes 4 size) within whole inside t differs
@@ -139,7 +138,6 @@ module _ (version : Version) (bs : List Bytes) (s kind : ℕ) (within : home ver
   at_start : offset version s + 0 ≡ offset version s
   at_start = omega arith
 
-  -- a kind that is written is the inode's
   pub kind_at-with_kind : kind_at version (with_kind version bs s kind) s ≡ kind
   unfolding kind_at with_kind
   kind_at-with_kind = number-splice_byte bs (home version s) (offset version s) kind within (omega (arith, inode-fits version s, pointers-fit version))
@@ -148,7 +146,7 @@ module _ (version : Version) (bs : List Bytes) (s kind : ℕ) (within : home ver
   unfolding with_kind
   size_at-with_kind = rw at_start at (size-same version bs s 0 (kind ∷ []) within whole (omega (arith, pointers-fit version)) (inr (omega arith)))
 
-  -- and the other inodes stay
+  -- and the other inodes do not change
   pub head-with_kind : (t : ℕ) → t ≢ s → SameHead version bs (with_kind version bs s kind) t
   unfolding with_kind
   head-with_kind t differs = rw at_start at (head-other version bs s 0 (kind ∷ []) within whole (omega (arith, pointers-fit version)) t differs)

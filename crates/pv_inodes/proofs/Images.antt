@@ -1,4 +1,4 @@
--- Where the bytes of an image have what its blocks have: numbers, the blocks that inodes use, and contents.
+-- The bytes of an image and its blocks: numbers, the blocks that inodes use, and contents.
 use Rattle.std.proofs.Common.{◌≡◌, ℕ, zero, suc, ◌+◌, ◌*◌, ◌-◌, ◌/◌, ◌%◌, ◌<◌, ◌≤◌, ◌≢◌, List, [], ◌∷◌, ◌++◌, length, get_or, take, drop, refl, sym, ap, ◌∙◌, inl, inr, arith}
 use Rattle.std.specs.List.{flat_map}
 use Rattle.std.proofs.lemmas.Bool.{cases_lt}
@@ -30,13 +30,13 @@ number_of-little zero xs = refl
 number_of-little (suc n) [] = sym (little_from-none 0 (suc n))
 number_of-little (suc n) (x ∷ xs) = ap (λ k. x + 256 * k) (number_of-little n xs ∙ sym (little_from-cons 0 n x xs))
 
--- a field is the number that is read at its place
+-- a field is the little-endian number at its offset
 pub field-little : (bytes : Bytes) (at n : ℕ) → field bytes at n ≡ little_from at n bytes
 field-little bytes at n =
     let place : at + 0 ≡ at = omega arith in
     number_of-little n (drop at bytes) ∙ little_from-drop at 0 n bytes ∙ ap (λ i. little_from i n bytes) place
 
--- a field of a part is one of the whole
+-- a field of a part is a field of the whole
 pub field-part : (bytes : Bytes) (from long at n : ℕ) → at + n ≤ long → field (take long (drop from bytes)) at n ≡ field bytes (from + at) n
 field-part bytes from long at n fits =
     field-little (take long (drop from bytes)) at n
@@ -60,7 +60,7 @@ get_or-pointers (suc n) bytes (suc j) within =
     let place : 2 + 2 * j ≡ 2 * suc j = omega arith in
     get_or-pointers n (drop 2 bytes) j (omega arith) ∙ field-following bytes 2 (2 * j) 2 ∙ ap (λ at. field bytes at 2) place
 
--- ---- parts of one length
+-- ---- parts of equal length
 
 module _ {X A : Type 0} (f : X → List A) (w : ℕ) (e : X) where
   -- each part has this length
@@ -120,7 +120,7 @@ module _ (v : Version) (bytes : Bytes) (count : ℕ) (whole : length bytes ≡ 5
     | V2 ↦ omega arith
   ]
 
-  -- a field of an inode stands in the block in which the inode does
+  -- a field of an inode is in the block of the inode
   pub field-inode : (s at n : ℕ) → at + n ≤ inode_length v → field (inode v bytes (suc s)) at n ≡ number bs (home v s) (offset v s + at) n
   field-inode s at n fits =
       let inside = inode-fits v s in
@@ -152,7 +152,7 @@ module _ (v : Version) (bytes : Bytes) (count : ℕ) (whole : length bytes ≡ 5
     abbrev b : ℕ
     b = block_count v bytes (suc s)
 
-    -- how many index blocks it uses
+    -- the number of its index blocks
     abbrev q : ℕ
     q = (b + 245) / 256
 
@@ -194,7 +194,7 @@ module _ (v : Version) (bytes : Bytes) (count : ℕ) (whole : length bytes ≡ 5
         length-take-le b (pointers 10 (drop 8 (inode v bytes (suc s))) ++ after_index_blocks)
         (omega (arith, length-append (pointers 10 (drop 8 (inode v bytes (suc s)))) after_index_blocks, first_ten, following, length-used_index))
 
-    -- those of its content stand in the row after their index blocks
+    -- the blocks of its contents are in the sequence after their index blocks
     pub get_or-used_content : (j : ℕ) → j < b → get_or (used_content v bytes (suc s)) j 0 ≡ owned_at v bs s (place_of j)
     get_or-used_content j within =
         get_or-take b (pointers 10 (drop 8 (inode v bytes (suc s))) ++ after_index_blocks) j 0 within
@@ -226,9 +226,9 @@ module _ (v : Version) (bytes : Bytes) (count : ℕ) (whole : length bytes ≡ 5
             ∙ ap (λ k. number bs (pointer_at v bs s (pointer_of (place_of j))) k 2) entry
             ∙ sym (owned_at-entry v bs s (place_of j) some)
 
-    -- ---- the content
+    -- ---- the contents
 
-    -- it is that of the row, where the blocks are within the image
+    -- they are those of the sequence, if its blocks are within the image
     pub content-inode : ((j : ℕ) → j < b → owned_at v bs s (place_of j) < count) → content_at v bs s ≡ content v bytes (suc s)
     content-inode within =
         let long : AreLong (block bytes) 512 0 (used_content v bytes (suc s)) = λ i below. length-block bytes (get_or (used_content v bytes (suc s)) i 0)

@@ -1,4 +1,4 @@
--- What is known of an inode that is in use, and of the room that is left.
+-- An inode in use, and the room that remains.
 use Rattle.std.proofs.Common.{◌≡◌, ℕ, suc, ◌+◌, ◌-◌, ◌/◌, ◌%◌, ◌<◌, ◌≤◌, ◌≢◌, length, Option, Some, option_map, sym, ap, subst, ◌∙◌, arith}
 use Rattle.pv_model.specs.Room.{greatest_length}
 use Rattle.pv_model.specs.declared.version.Version.{Version}
@@ -59,7 +59,7 @@ in_use version st inodes f n s sound view is_used slot =
       same_version = ap (λ (g : Files). g.version) (sym view) ∙ version-files_of version st inodes;
     }
 
--- the free blocks are the data blocks that no content needs
+-- the free blocks are the data blocks that no contents need
 pub free_left : (version : Version) (st : BlockStore) (inodes : ℕ) (f : Files) → IsSound version st inodes → files_of version st inodes ≡ f → free_count st + total_room f ≡ f.blocks
 unfolding count_set
 free_left version st inodes f sound view =
@@ -74,13 +74,13 @@ sort_in_use version st inodes f n s known =
     ∙ ap (λ m. sort_at (files_of version st inodes) m) known.number
     ∙ ap (λ (o : Option Contained). option_map (λ c. c.sort) o) (held-used version st inodes s known.below known.used)
 
--- a byte of the content lies in a block that the inode owns
+-- a byte of the contents is in a block that the inode owns
 pub place_in_use : (version : Version) (st : BlockStore) (inodes : ℕ) (f : Files) (n s : ℕ) → InUse version st inodes f n s → (x : ℕ) → x < length (bytes_at f n) → place_of (x / 512) < owned_count version st.blocks s
 place_in_use version st inodes f n s known x within =
     let in_size : x < size_at version st.blocks s = omega (arith, known.size) in
     rw known.count (place_of-needed (size_at version st.blocks s) x in_size)
 
--- so does the end of a content that does not fill its last block
+-- so is the end of contents that do not fill their last block
 pub end_in_use : (version : Version) (st : BlockStore) (inodes : ℕ) (f : Files) (n s : ℕ) → InUse version st inodes f n s → 0 < size_at version st.blocks s % 512 → place_of (size_at version st.blocks s / 512) < owned_count version st.blocks s
 end_in_use version st inodes f n s known partly =
     let last : (size_at version st.blocks s - 1) / 512 ≡ size_at version st.blocks s / 512 = omega arith in

@@ -1,4 +1,4 @@
--- The sizes of each version, and the row in which the blocks of an inode stand.
+-- The sizes of each version, and the sequence of the blocks of an inode.
 use Rattle.std.proofs.Common.{◌≡◌, ℕ, suc, ◌+◌, ◌*◌, ◌-◌, ◌/◌, ◌%◌, ◌^◌, ◌<◌, ◌≤◌, ◌≢◌, ◌⊎◌, refl, inl, inr, arith}
 use Rattle.std.proofs.lemmas.Bool.{cases_lt, cases_order, le-leb, lt-leb}
 use Rattle.pv_model.specs.Image.{inode_length, inode_blocks, index_pointers}
@@ -8,12 +8,12 @@ use Rattle.pv_model.specs.declared.version.Version.TheVariants.{V1, V2}
 use Rattle.pv_inodes.specs.Layout.{home, offset, pointer_count, most_owned, after_index, pointer_of, wanted, place_of}
 use Rattle.pv_inodes.specs.Sound.{first_data}
 
--- a content of the greatest length uses all pointers
+-- contents of the maximum length use all pointers
 pub greatest_length-is : (version : Version) → greatest_length version ≡ 512 * (10 + 256 * index_pointers version)
 greatest_length-is V1 = refl
 greatest_length-is V2 = refl
 
--- a length is one of 4 bytes
+-- a length fits in 4 bytes
 pub greatest_length-small : (version : Version) → greatest_length version < 2 ^ 32
 greatest_length-small V1 = omega arith
 greatest_length-small V2 = omega arith
@@ -22,12 +22,12 @@ pub index_pointers-few : (version : Version) → index_pointers version ≤ 5
 index_pointers-few V1 = omega arith
 index_pointers-few V2 = omega arith
 
--- the pointers of an inode stand within it
+-- the pointers of an inode are within it
 pub pointers-fit : (version : Version) → 8 + 2 * pointer_count version ≤ inode_length version
 pointers-fit V1 = omega arith
 pointers-fit V2 = omega arith
 
--- an inode stands within its block
+-- an inode is within its block
 pub inode-fits : (version : Version) (s : ℕ) → offset version s + inode_length version ≤ 512
 unfolding offset
 inode-fits V1 s = omega arith
@@ -39,7 +39,7 @@ unfolding home first_data
 home-below V1 inodes s below = omega arith
 home-below V2 inodes s below = omega arith
 
--- two inodes of one block stand beside each other
+-- two inodes in one block do not overlap
 pub offset-apart : (version : Version) (s t : ℕ) → s ≢ t → home version s ≡ home version t → (offset version s + inode_length version ≤ offset version t) ⊎ (offset version t + inode_length version ≤ offset version s)
 unfolding home offset
 offset-apart V1 s t differs same = elim (cases_order (s % 16) (t % 16)) [
@@ -53,11 +53,11 @@ offset-apart V2 s t differs same = elim (cases_order (s % 8) (t % 8)) [
   | inr (inr above) ↦ inr (omega arith)
 ]
 
--- the place of the index block that points to the i-th block
+-- the position of the index block of the i-th block
 abbrev pub index_of : ℕ → ℕ
 index_of i = i - after_index i
 
--- the row of an inode's blocks
+-- the pointers of an inode's blocks
 pub pointer_of-few : (version : Version) (i : ℕ) → i < most_owned version → pointer_of i < pointer_count version
 unfolding pointer_of
 pointer_of-few version i within = omega arith
@@ -69,29 +69,29 @@ pointer_of-index i = omega arith
 pub index_of-direct : (i : ℕ) → after_index (index_of i) ≡ 0
 index_of-direct i = omega arith
 
--- no lesser block has the pointer of one to which the inode itself points
+-- no earlier block has the pointer of one to which the inode itself points
 pub pointer_of-apart : (i n : ℕ) → i < n → after_index n ≡ 0 → pointer_of i ≢ pointer_of n
 unfolding pointer_of
 pointer_of-apart i n less direct same = omega arith
 
--- two blocks after one index block have other places there
+-- two blocks of one index block have different positions in it
 pub after_index-apart : (i n : ℕ) → i ≢ n → after_index i ≢ 0 → after_index n ≢ 0 → pointer_of i ≡ pointer_of n → after_index i ≢ after_index n
 unfolding pointer_of
 after_index-apart i n differs after_i after_n same equal = omega arith
 
--- blocks after different index blocks
+-- blocks of different index blocks
 pub index_of-apart : (i n : ℕ) → after_index i ≢ 0 → after_index n ≢ 0 → index_of i ≡ index_of n → pointer_of i ≡ pointer_of n
 unfolding pointer_of
 index_of-apart i n after_i after_n same = omega arith
 
--- the i-th block is one of content, and no index block
+-- the i-th block is one of the contents, not an index block
 abbrev pub IsContent : ℕ → Type 0
 IsContent i = (i + 247) % 257 ≢ 0
 
 pub index_of-is_index : (i : ℕ) → after_index i ≢ 0 → (index_of i + 247) % 257 ≡ 0
 index_of-is_index i following = omega arith
 
--- the blocks that a content needs
+-- the blocks that contents need
 pub wanted-is : (n : ℕ) → wanted n ≡ (n + 511) / 512 + ((n + 511) / 512 + 245) / 256
 unfolding wanted
 wanted-is n = refl
@@ -107,7 +107,7 @@ need-first n allowed = elim (cases_lt 10 ((n + 511) / 512)) [
   | inr few ↦ rw (le-leb ((n + 511) / 512) 10 few) (omega (arith, wanted-is n))
 ]
 
--- they are those of its version
+-- they are those of the version
 pub need-wanted : (version : Version) (n : ℕ) → n ≤ greatest_length version → need version n ≡ wanted n
 unfolding need
 need-wanted V1 n allowed = need-first n allowed
@@ -116,11 +116,11 @@ need-wanted V2 n allowed = omega (arith, wanted-is n)
 pub wanted-most : (version : Version) (n : ℕ) → n ≤ greatest_length version → wanted n ≤ most_owned version
 wanted-most version n allowed = omega (arith, wanted-is n, greatest_length-is version)
 
--- a block that may be owned has a pointer in the inode, itself or by its index block
+-- a block that can be owned has a pointer in the inode, directly or through its index block
 pub has_pointer : (version : Version) (i : ℕ) → i < most_owned version → pointer_of i < 10 + index_pointers version
 has_pointer version i within = pointer_of-few version i within
 
--- where the blocks of content stand in the row
+-- the positions of the blocks of the contents in the sequence
 pub pointer_of-first : (j : ℕ) → j < 10 → pointer_of (place_of j) ≡ j
 unfolding pointer_of place_of
 pointer_of-first j first = omega arith
@@ -142,7 +142,7 @@ wanted-mono m n le =
     let blocks : (m + 511) / 512 ≤ (n + 511) / 512 = omega arith in
     omega (arith, wanted-is m, wanted-is n, blocks)
 
--- no content is longer than the longest of the second version
+-- no contents exceed the maximum length of version 2
 pub greatest_length-most : (version : Version) → greatest_length version ≤ 660480
 greatest_length-most V1 = omega arith
 greatest_length-most V2 = omega arith
@@ -151,13 +151,13 @@ pub first_data-is : (version : Version) (inodes : ℕ) → first_data version in
 unfolding first_data
 first_data-is version inodes = refl
 
--- the next block of content stands right after those that are owned, or after an index block
+-- the next block of the contents comes directly after those that are owned, or after an index block
 pub place_of-next : (n : ℕ) → n % 512 ≡ 0 → place_of (n / 512) ≢ wanted n → suc (wanted n) ≡ place_of (n / 512)
 place_of-next n full differs =
     let blocks : (n + 511) / 512 ≡ n / 512 = omega arith in
     omega (arith, wanted-is n, place_of-is (n / 512), blocks, differs)
 
--- an index block has the pointer after those of the ones before it
+-- an index block has the pointer after those of the previous index blocks
 pub pointer_of-index_block : (i : ℕ) → (i + 247) % 257 ≡ 0 → pointer_of i ≡ 10 + (i - 10) / 257
 unfolding pointer_of
 pointer_of-index_block i index = omega arith

@@ -1,4 +1,4 @@
--- Where the search for a free inode begins: each inode below is in use.
+-- The start of the search for a free inode: each inode below it is in use.
 use Rattle.std.proofs.Common.{◌≡◌, ◌≢◌, ℕ, zero, suc, ◌+◌, ◌-◌, ◌<◌, ◌≤◌, [], ◌∷◌, min, Option, None, Some, IsSome, is_some, refl, sym, ap, subst, arith}
 use Rattle.std.proofs.lemmas.Bool.{false≢true}
 use Rattle.pv_blocks.specs.BlockStore.{BlockStore}
@@ -29,23 +29,23 @@ used-replaced : (f : Files) (n : ℕ) (o : Option Contained) (xs : Bytes) (m : �
 used-replaced f n None xs m used = used
 used-replaced f n (Some c) xs m used = some-with f.nodes n m (record c { bytes = xs }) used
 
--- other bytes of an inode leave all in use
+-- other contents of an inode leave all in use
 pub all_used-with_bytes : (f old new : Files) (n : ℕ) (xs : Bytes) (least : ℕ) → AllUsed f least → f ≡ old → new ≡ with_bytes old n xs → AllUsed new least
 all_used-with_bytes f old new n xs least used same is s below =
     subst (λ (g : Files). IsUsed g (suc s)) (sym is) (used-replaced old n (held old n) xs (suc s) (subst (λ (g : Files). IsUsed g (suc s)) same (used s below)))
 
--- so does an inode that is taken
+-- so does an inode that is allocated
 pub all_used-with_new : (f old new : Files) (n : ℕ) (sort : Kind) (least : ℕ) → AllUsed f least → f ≡ old → new ≡ with_new old n sort → AllUsed new least
 all_used-with_new f old new n sort least used same is s below =
     subst (λ (g : Files). IsUsed g (suc s)) (sym is) (some-with old.nodes n (suc s) (record { sort = sort; bytes = [] }) (subst (λ (g : Files). IsUsed g (suc s)) same (used s below)))
 
--- below one that is given back
+-- freeing an inode leaves those below it in use
 pub all_used-without : (f old new : Files) (n slot least : ℕ) → AllUsed f least → f ≡ old → slot + 1 ≡ n → new ≡ without old n → AllUsed new (min least slot)
 all_used-without f old new n slot least used same number is s below =
     subst (λ (g : Files). IsUsed g (suc s)) (sym is)
     (some-without old.nodes n (suc s) (omega (arith, below, number)) (subst (λ (g : Files). IsUsed g (suc s)) same (used s (omega (arith, below)))))
 
--- as the inodes say it
+-- the same, by the kind fields of inodes
 pub all_used-kinds : (version : Version) (st : BlockStore) (inodes least : ℕ) → AllUsed (files_of version st inodes) least → (s : ℕ) → s < least → kind_at version st.blocks s ≢ 0
 all_used-kinds version st inodes least used s below none =
     let slot = used_slot version st inodes (suc s) (used s below) in
@@ -61,7 +61,7 @@ kinds-all_used version st inodes least within used s below =
     positive : (k : ℕ) → k ≢ 0 → 0 < k
     positive k some = omega (arith, some)
 
--- where all below are in use, it is one of those that there are, or the first after them
+-- if all below are in use, the start is within the inodes or directly after them
 pub all_used-within : (version : Version) (st : BlockStore) (inodes least : ℕ) → AllUsed (files_of version st inodes) least → least ≤ inodes
 all_used-within version st inodes zero used = omega arith
 all_used-within version st inodes (suc n) used =

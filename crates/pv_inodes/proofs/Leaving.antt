@@ -1,4 +1,4 @@
--- What the methods leave: a sound store, and the files with other bytes in one inode.
+-- The result of the methods: a sound store, and the files with other contents of one inode.
 use Rattle.std.proofs.Common.{◌≡◌, ℕ, suc, ◌+◌, ◌*◌, ◌-◌, ◌/◌, ◌%◌, ◌^◌, ◌<◌, ◌≤◌, ◌≢◌, true, false, length, get_or, set, replicate, refl, sym, ap, ◌∙◌, inl, inr, arith}
 use Rattle.std.proofs.lemmas.Bool.{cases_lt}
 use Rattle.std.proofs.lemmas.List.{get_or-replicate, get_or_past, length-replicate, length-set}
@@ -44,7 +44,7 @@ get_or-zeros n x = elim (cases_lt x n) [
   | inr past ↦ get_or_past (replicate {A = ℕ} n 0) x 0 (omega (arith, length-replicate {A = ℕ} n 0))
 ]
 
--- zeros are written in the last block, and a length
+-- zeros are written to the last block, and a length
 pub leaves_within : (version : Version) (st mid after : BlockStore) (inodes : ℕ) (f : Files) (n s v k at : ℕ) → IsSound version st inodes → InUse version st inodes f n s → v ≤ greatest_length version → length (bytes_at f n) < v → 0 < length (bytes_at f n) % 512 → v ≤ 512 * (length (bytes_at f n) / 512 + 1) → at ≡ size_at version st.blocks s % 512 → k ≡ owned_at version st.blocks s (place_of (size_at version st.blocks s / 512)) → mid ≡ record st { blocks = splice st.blocks k at (replicate (v - size_at version st.blocks s) 0) } → after ≡ record mid { blocks = with_size version mid.blocks s v } → Leaves version after inodes f n (resize (bytes_at f n) v)
 unfolding patched
 leaves_within version st mid after inodes f n s v k at sound known allowed longer partly within at_is owned mid_is after_is =
@@ -52,7 +52,7 @@ leaves_within version st mid after inodes f n s v k at sound known allowed longe
     let ready = ready_within version st inodes s sound known.below known.used k v at (replicate (v - size_at version st.blocks s) 0) (omega arith) (rw size within) (rw size partly) at_is owned (length-replicate {A = ℕ} (v - size_at version st.blocks s) 0) (get_or-zeros (v - size_at version st.blocks s)) in
     leaves_resized version st mid after inodes f n s v sound known allowed (rw mid_is ready) after_is
 
--- the room that is left is enough for a content that fits
+-- the remaining room is enough for contents that fit
 pub room_enough : (version : Version) (st : BlockStore) (inodes : ℕ) (f : Files) (n s : ℕ) (xs : Bytes) → IsSound version st inodes → files_of version st inodes ≡ f → IsUsed f n → InUse version st inodes f n s → length xs ≤ greatest_length version → HasRoom (with_bytes f n xs) → wanted (length xs) ≤ wanted (length (bytes_at f n)) + free_count st
 room_enough version st inodes f n s xs sound view used known allowed room =
     let old = need-wanted version (length (bytes_at f n)) (rw known.size at known.allowed) in
@@ -65,13 +65,13 @@ length-resize xs v = elim (cases_lt v (length xs)) [
   | inr longer ↦ length-resize_longer xs v longer
 ]
 
--- the block that a content needs after those that it fills
+-- the block that contents need after those that they fill
 pub wanted_next : (n v : ℕ) → n % 512 ≡ 0 → n < v → v ≤ n + 512 → wanted v ≡ suc (place_of (n / 512))
 wanted_next n v full longer within =
     let blocks : (v + 511) / 512 ≡ n / 512 + 1 = omega arith in
     omega (arith, wanted-is v, place_of-is (n / 512), blocks)
 
--- one block is taken, and a length written
+-- one block is allocated, and a length is written
 pub leaves_by_block : (version : Version) (st mid after : BlockStore) (inodes : ℕ) (f : Files) (n s v i k : ℕ) → IsSound version st inodes → InUse version st inodes f n s → v ≤ greatest_length version → length (bytes_at f n) < v → length (bytes_at f n) % 512 ≡ 0 → v ≤ length (bytes_at f n) + 512 → wanted (length (bytes_at f n)) ≡ place_of (length (bytes_at f n) / 512) → i ≡ wanted (length (bytes_at f n)) → k < 2 ^ 16 → IsFree st k → mid ≡ pushed version st s i k → after ≡ record mid { blocks = with_size version mid.blocks s v } → Leaves version after inodes f n (resize (bytes_at f n) v)
 leaves_by_block version st mid after inodes f n s v i k sound known allowed longer full within next i_is small is_free mid_is after_is =
     let count : i ≡ owned_count version st.blocks s = i_is ∙ ap wanted (sym known.size) ∙ sym known.count in
@@ -83,7 +83,7 @@ leaves_by_block version st mid after inodes f n s v i k sound known allowed long
     let ready = ready_extended version st (pushed version st s (owned_count version st.blocks s) k) inodes s v (owned_count version st.blocks s) sound known.below known.used extended (rw known.size full) (omega (arith, known.size)) (omega (arith, known.size)) last needs in
     leaves_resized version st mid after inodes f n s v sound known allowed (rw (mid_is, count) ready) after_is
 
--- an index block is taken, then a block
+-- an index block and then a block are allocated
 pub leaves_by_index : (version : Version) (st first mid after : BlockStore) (inodes : ℕ) (f : Files) (n s v i k l : ℕ) → IsSound version st inodes → InUse version st inodes f n s → v ≤ greatest_length version → length (bytes_at f n) < v → length (bytes_at f n) % 512 ≡ 0 → v ≤ length (bytes_at f n) + 512 → suc (wanted (length (bytes_at f n))) ≡ place_of (length (bytes_at f n) / 512) → i ≡ wanted (length (bytes_at f n)) → k < 2 ^ 16 → IsFree st k → first ≡ pushed version st s i k → l < 2 ^ 16 → IsFree first l → mid ≡ pushed version first s (suc i) l → after ≡ record mid { blocks = with_size version mid.blocks s v } → Leaves version after inodes f n (resize (bytes_at f n) v)
 leaves_by_index version st first mid after inodes f n s v i k l sound known allowed longer full within next i_is small_k free_k first_is small_l free_l mid_is after_is =
     let count : i ≡ owned_count version st.blocks s = i_is ∙ ap wanted (sym known.size) ∙ sym known.count in
@@ -96,14 +96,14 @@ leaves_by_index version st first mid after inodes f n s v i k l sound known allo
     let ready = ready_extended version st (pushed version first s (suc i) l) inodes s v (suc i) sound known.below known.used twice (rw known.size full) (omega (arith, known.size)) (omega (arith, known.size)) last needs in
     leaves_resized version st mid after inodes f n s v sound known allowed (rw mid_is ready) after_is
 
--- a part of the content is written over
+-- a part of the contents is overwritten
 pub leaves_written : (version : Version) (st after : BlockStore) (inodes : ℕ) (f : Files) (n s k start : ℕ) (new : Bytes) → IsSound version st inodes → InUse version st inodes f n s → k ≡ owned_at version st.blocks s (place_of (start / 512)) → 0 < length new → start % 512 + length new ≤ 512 → start + length new ≤ length (bytes_at f n) → after ≡ record st { blocks = splice st.blocks k (start % 512) new } → Leaves version after inodes f n (overwrite (bytes_at f n) start new)
 unfolding patched
 leaves_written version st after inodes f n s k start new sound known owned some fits within after_is =
     let becomes = becomes_written version st inodes s sound known.below known.used k (start % 512) start new refl owned some fits (rw known.size within) in
     rw (after_is, ← known.content) (leaves version st (patched st k (start % 512) new) inodes f n s (overwrite (content_at version st.blocks s) start new) known becomes)
 
--- the blocks are as many after one is taken, and one less is free
+-- allocating a block does not change the number of blocks, and reduces the number of free ones by one
 pub length-pushed : (version : Version) (st after : BlockStore) (s i k : ℕ) → after ≡ pushed version st s i k → length after.blocks ≡ length st.blocks
 unfolding pushed
 length-pushed version st after s i k is = ap (λ (b : BlockStore). length b.blocks) is ∙ length-with_owned version (set st.blocks k zeros) s i k ∙ length-set st.blocks k zeros
@@ -115,7 +115,7 @@ free_count-pushed version st after s i k is_free is =
     let flag = get_or_from_slice_get st.free k true false is_free in
     ap (λ (b : BlockStore). free_count b + 1) is ∙ count-cleared st.free k within flag
 
--- what a push asks after an index block was taken as the i-th
+-- the requirements of a push after an index block was allocated as the i-th
 pub record TakesIndex (version : Version) (st first : BlockStore) (s i : ℕ) : Type 0 where
   pub home_first : home version s < first.first
   pub first_within : first.first ≤ length first.blocks
@@ -136,7 +136,7 @@ takes_index version st first inodes f n s i k sound known i_is room small is_fre
       total = once.total;
     }
 
--- blocks are given back, and a length is written
+-- blocks are freed, and a length is written
 pub leaves_reduced : (version : Version) (st mid after : BlockStore) (inodes : ℕ) (f : Files) (n s v : ℕ) → IsSound version st inodes → InUse version st inodes f n s → v ≤ length (bytes_at f n) → Reduced version st mid inodes s (wanted v) → after ≡ record mid { blocks = with_size version mid.blocks s v } → Leaves version after inodes f n (resize (bytes_at f n) v)
 leaves_reduced version st mid after inodes f n s v sound known shorter reduced after_is =
     let ready = ready_reduced version st mid inodes s v sound known.below known.used (omega (arith, known.size)) reduced in

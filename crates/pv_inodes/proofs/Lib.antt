@@ -1,11 +1,14 @@
 -- Lemmas of files on blocks.
--- - numbers: Numbers (maps from numbers), Bytes (bytes written over others), Layouts (the sizes of a version: no other proof looks at
---   one), Least (where the search for a free inode begins)
--- - a write into a block: Splices, Patches, Heads (fields of inodes, and pointers), Contents (byte by byte)
--- - which block is whose: Ownership, Pushes (an inode takes a block), Making (an inode is made, or freed), InUse (the room left)
--- - what a change leaves: Growth, Becoming, Edits (one inode), Leaving (what the methods leave), Reading (what they read), Emptiness
--- - an image that was written before: Images (numbers, pointers and contents in bytes are those in blocks), Uses (the lists of
---   blocks that inodes use are the rows that they own), Claims (blocks put into use one by one), Mounting
+--
+-- - numbers: Numbers (maps from numbers), Bytes (overwriting), Layouts (the sizes of a version: no other proof computes
+--   with them), Least (the start of the search for a free inode)
+-- - a write to a block: Splices, Patches, Heads (fields of inodes, and pointers), Contents (byte by byte)
+-- - owners of blocks: Ownership, Pushes (an inode allocates a block), Making (an inode is created or freed), InUse (the
+--   remaining room)
+-- - the effect of a change: Growth, Becoming, Edits (one inode), Leaving (the results of the methods), Reading (what
+--   they read), Emptiness
+-- - an existing image: Images (numbers, pointers and contents in bytes are those in blocks), Uses (the lists of blocks
+--   that inodes use are the sequences that they own), Claims (blocks marked as in use one by one), Mounting
 pub mod Becoming
 pub mod Bytes
 pub mod Claims

@@ -1,4 +1,4 @@
--- An inode that owns no block is made, or freed.
+-- An inode that owns no block is created or freed.
 use Rattle.std.proofs.Common.{◌≡◌, ℕ, suc, ◌<◌, ◌≤◌, ◌≢◌, List, [], length, set, Some, refl, sym, ap, ◌∙◌, inl, inr, arith}
 use Rattle.std.proofs.lemmas.Bool.{cases_eq}
 use Rattle.std.proofs.lemmas.List.{nil_from_length}
@@ -15,7 +15,7 @@ use Rattle.pv_inodes.proofs.Layouts.{home-below, pointer_of-few, index_of}
 use Rattle.pv_inodes.proofs.Numbers.{with_number-set, without_number-set}
 use Rattle.pv_inodes.proofs.Ownership.{owning-same}
 
--- an inode holds the same where its fields and all data blocks are the same
+-- an inode is the same if its fields and all data blocks are the same
 pub same_node : (version : Version) (st : BlockStore) (cs : List Bytes) (inodes t : ℕ) → IsSound version st inodes → t < inodes → SameHead version st.blocks cs t → ((y : ℕ) → st.first ≤ y → block_at cs y ≡ block_at st.blocks y) → SameNode version st.blocks cs t
 same_node version st cs inodes t sound below head same = record {
   kind = head.kind;
@@ -26,7 +26,7 @@ same_node version st cs inodes t sound below head same = record {
   blocks = λ i in_range content. same (owned_at version st.blocks t i) (sound.owning.from t i below in_range);
 }
 
--- inode s is something else, and owns no block before and after
+-- inode s has another kind, and owns no block before and after
 pub record Retyped (version : Version) (st after : BlockStore) (inodes s : ℕ) : Type 0 where
   pub shape : IsShaped version after inodes
   pub first : after.first ≡ st.first
@@ -80,7 +80,7 @@ module _ (version : Version) (st : BlockStore) (inodes s : ℕ) (sound : IsSound
   home_whole : length (block_at st.blocks (home version s)) ≡ 512
   home_whole = sound.shape.whole (home version s) home_within
 
-  -- an inode without bytes is freed
+  -- an inode without contents is freed
   module _ (used : 0 < kind_at version st.blocks s) (empty : size_at version st.blocks s ≡ 0) where
     retyped_dropped : Retyped version st (rekinded version st s 0) inodes s
     unfolding rekinded
@@ -120,7 +120,7 @@ module _ (version : Version) (st : BlockStore) (inodes s : ℕ) (sound : IsSound
         ∙ sym (without_number-set (nodes_in version st.blocks inodes) (suc s)) in
         rw (nodes, total) refl
 
-  -- a free inode is made something, without bytes
+  -- a free inode gets a kind, without contents
   module _ (unused : kind_at version st.blocks s ≡ 0) (kind : ℕ) (some : 0 < kind) (few : kind ≤ 4) where
     abbrev sized : List Bytes
     sized = with_size version st.blocks s 0

@@ -1,4 +1,4 @@
--- The store over the bytes of an image, as its blocks are put into use, and the files that it holds then.
+-- The store over the bytes of an image while its blocks are marked as in use, and the files in it.
 use Rattle.std.proofs.Common.{◌≡◌, ℕ, suc, ◌+◌, ◌*◌, ◌-◌, ◌/◌, ◌<◌, ◌≤◌, ◌≢◌, Bool, false, List, ◌∷◌, map, length, Option, None, Some, refl, sym, ap, subst, ◌∙◌, inl, inr, arith}
 use Rattle.std.specs.List.{range_with_len}
 use Rattle.std.proofs.lemmas.Bool.{cases_eq, eq-eqb, ne_eqb}
@@ -24,7 +24,7 @@ use Rattle.pv_inodes.proofs.Images.{block_at-image, kind-inode, size-inode, cont
 use Rattle.pv_inodes.proofs.Layouts.{home-below, first_data-is, wanted-is, place_of-is, index_of, greatest_length-most}
 use Rattle.pv_inodes.proofs.Uses.{MayOwn, may_own}
 
--- the blocks of the bytes of an image; those are in use that the inodes before inode s own, and the first i of that
+-- the blocks of an image; those in use are the ones that the inodes before inode s own, and the first i of s
 pub record IsOver (v : Version) (bytes : Bytes) (count inodes : ℕ) (st : BlockStore) (s i : ℕ) : Type 0 where
   pub whole : length bytes ≡ 512 * count
   pub are : AreInodes v bytes inodes
@@ -118,7 +118,7 @@ module _ (v : Version) (bytes : Bytes) (count inodes : ℕ) (st : BlockStore) (s
 
 -- ---- all blocks that inodes use are in use
 
--- what an inode holds is read of its blocks
+-- the contents of an inode are read from its blocks
 pub node-inode : (v : Version) (bytes : Bytes) (count inodes s : ℕ) → length bytes ≡ 512 * count → AreInodes v bytes inodes → s < inodes → node_at v (blocks_of count bytes) s ≡ contained v bytes (suc s)
 node-inode v bytes count inodes s whole are below =
     let kinds = kind-inode v bytes count whole s in
@@ -167,8 +167,8 @@ module _ (v : Version) (bytes : Bytes) (count inodes : ℕ) (st : BlockStore) (a
   files_of-over =
       let long : length st.blocks ≡ length bytes / 512 = ap length all.blocks ∙ length-blocks_of count bytes ∙ omega (arith, all.whole) in
       let length_own = length-map-range_with_len (node_at v st.blocks) 0 inodes in
-      let length_told = length-map-range_with_len (contained v bytes) 1 inodes in
-      let nodes : map (node_at v st.blocks) (range_with_len 0 inodes) ≡ map (contained v bytes) (range_with_len 1 inodes) = same_lists _ _ (length_own ∙ sym length_told) (λ s d within.
+      let length_reported = length-map-range_with_len (contained v bytes) 1 inodes in
+      let nodes : map (node_at v st.blocks) (range_with_len 0 inodes) ≡ map (contained v bytes) (range_with_len 1 inodes) = same_lists _ _ (length_own ∙ sym length_reported) (λ s d within.
       let below : s < inodes = rw length_own at within in
       get_or-map-range_with_len (node_at v st.blocks) 0 inodes s s d below (omega arith)
       ∙ ap (λ (xs : List Bytes). node_at v xs s) all.blocks

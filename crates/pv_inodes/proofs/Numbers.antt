@@ -20,7 +20,7 @@ module _ {X : Type 0} where
   without_number-set (x ∷ xs) zero = refl
   without_number-set (x ∷ xs) (suc n) = ap (λ ys. x ∷ ys) (without_number-set xs n)
 
-  -- a number under which something stands is within the list
+  -- a number with a value is within the list
   pub at_number-within : (xs : Numbered X) (n : ℕ) (v : X) → at_number xs n ≡ Some v → n < length xs
   at_number-within [] n v there = cc
   at_number-within (x ∷ xs) zero v there = omega arith
@@ -31,7 +31,7 @@ module _ {X : Type 0} where
   measured f (Some x) = f x
 
   module _ (f : X → ℕ) where
-    -- the sum of what stands there, with one changed
+    -- the sum over the values, with one changed
     pub sum_by-with_number : (xs : Numbered X) (n : ℕ) (old new : X) → at_number xs n ≡ Some old → sum_by f (present (with_number xs n new)) + f old ≡ sum_by f (present xs) + f new
     sum_by-with_number [] n old new there = cc
     sum_by-with_number (None ∷ xs) zero old new there = cc

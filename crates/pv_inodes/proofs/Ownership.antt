@@ -1,4 +1,4 @@
--- Which block is whose, as blocks are taken and given back.
+-- The owners of blocks, as blocks are allocated and freed.
 use Rattle.std.proofs.Common.{◌≡◌, ℕ, zero, suc, ◌+◌, ◌<◌, ◌≤◌, ◌≢◌, ◌⊎◌, Bool, true, false, List, length, get_or, set, refl, sym, ap, ◌∙◌, inl, inr, arith}
 use Rattle.std.specs.List.{range_with_len, sum_by}
 use Rattle.std.proofs.lemmas.Bool.{cases_eq, cases_lt, eq-eqb, ne_eqb, false≢true}
@@ -23,7 +23,7 @@ sum_by-range_same f g a (suc n) same =
     let rest = sum_by-range_same f g (a + 1) n (λ t from below. same t (omega arith) (omega arith)) in
     omega (arith, sum_by-cons f a (range_with_len (a + 1) n), sum_by-cons g a (range_with_len (a + 1) n), first, rest)
 
--- sums that differ at one place
+-- sums that differ in one number
 sum_by-range_changed : (f g : ℕ → ℕ) (a n s : ℕ) → a ≤ s → s < a + n → ((t : ℕ) → t ≢ s → f t ≡ g t) → sum_by f (range_with_len a n) + g s ≡ sum_by g (range_with_len a n) + f s
 sum_by-range_changed f g a zero s from below same = absurd (omega arith)
 sum_by-range_changed f g a (suc n) s from below same =
@@ -73,7 +73,7 @@ module _ (inodes most first total : ℕ) (free : List Bool) (count : ℕ → ℕ
   free_unowned k is_free t i below within same = false≢true (sym (old.taken t i below within) ∙ ap (λ y. get_or free y true) same ∙ is_free)
 
   module _ (s : ℕ) (below : s < inodes) (room : count s < most) (k : ℕ) (is_free : (d : Bool) → get_or free k d ≡ true) (from : first ≤ k) (within : k < total) (owned' : ℕ → ℕ → ℕ) (same : (t i : ℕ) → t < inodes → i < count t → owned' t i ≡ owned t i) (here : owned' s (count s) ≡ k) where
-    -- a block that is owned now is the one that was taken, or was owned before
+    -- a block that is owned now is the one that was allocated, or was owned before
     new_or_old : (t i : ℕ) → i < changed count s (suc (count s)) t → ((t ≡ s) × (i ≡ count s)) ⊎ (i < count t)
     new_or_old t i in_range = elim (cases_eq t s) [
       | inl equal ↦
@@ -98,7 +98,7 @@ module _ (inodes most first total : ℕ) (free : List Bool) (count : ℕ → ℕ
         let more = sum_over-changed inodes count s (suc (count s)) below in
         omega (arith, old.counted, fewer, more)
 
-    -- inode s takes a free block
+    -- inode s allocates a free block
     pub owning-take : IsOwning inodes most first total (set free k false) (changed count s (suc (count s))) owned'
     owning-take = record {
       few = λ t below_t. elim (cases_eq t s) [
@@ -142,9 +142,9 @@ module _ (inodes most first total : ℕ) (free : List Bool) (count : ℕ → ℕ
 
     not_given : (t i : ℕ) → t < inodes → i < changed count s n t → owned t i ≢ owned s n
     not_given t i below_t in_range equal =
-        let kept = still t i in_range in
-        let same = old.apart t i s n below_t kept.0 below (omega arith) equal in
-        let fewer = kept.1 same.0 in
+        let preserved = still t i in_range in
+        let same = old.apart t i s n below_t preserved.0 below (omega arith) equal in
+        let fewer = preserved.1 same.0 in
         omega (arith, same.1)
 
     counted-give : count_set (set free (owned s n) true) + sum_over inodes (changed count s n) + first ≡ total
@@ -155,7 +155,7 @@ module _ (inodes most first total : ℕ) (free : List Bool) (count : ℕ → ℕ
         let fewer = sum_over-changed inodes count s n below in
         omega (arith, old.counted, fewer, more)
 
-    -- inode s gives back the last block that it owns
+    -- inode s frees the last block that it owns
     pub owning-give : IsOwning inodes most first total (set free (owned s n) true) (changed count s n) owned
     owning-give = record {
       few = λ t below_t. elim (cases_eq t s) [

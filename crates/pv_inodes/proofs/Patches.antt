@@ -1,4 +1,4 @@
--- A write into a block of a content.
+-- A write to a block of contents.
 use Rattle.std.proofs.Common.{◌≡◌, ℕ, ◌+◌, ◌*◌, ◌-◌, ◌/◌, ◌%◌, ◌<◌, ◌≤◌, ◌≢◌, ◌⊎◌, List, length, get_or, sym, ap, ◌∙◌, inl, inr, arith}
 use Rattle.std.proofs.lemmas.Bool.{cases_eq}
 use Rattle.pv_model.specs.declared.version.Version.{Version}
@@ -37,7 +37,7 @@ module _ (version : Version) (st : BlockStore) (inodes s j k at : ℕ) (new : By
       let from_k = from in
       same_head version st.blocks (splice st.blocks k at new) t (block_other (home version t) (λ e. omega arith))
 
-  -- only one inode owns the block, and at one place
+  -- only one inode owns the block, at one position
   apart : (t i : ℕ) → t < inodes → i < owned_count version st.blocks t → owned_at version st.blocks t i ≡ k → (t ≡ s) × (i ≡ place_of j)
   apart t i below_t range same = sound.owning.apart t i s (place_of j) below_t range below in_range (same ∙ is_owned)
 
@@ -70,7 +70,7 @@ module _ (version : Version) (st : BlockStore) (inodes s j k at : ℕ) (new : By
     free_from = sound.shape.free_from;
   }
 
-  -- the bytes of the content in the part that was written, and outside of it
+  -- the bytes of the contents in the part that was written, and outside of it
   pub byte_inside : (x : ℕ) → 512 * j + at ≤ x → x < 512 * j + at + length new → content_byte version (splice st.blocks k at new) s x ≡ get_or new (x - (512 * j + at)) 0
   unfolding content_byte
   byte_inside x following before =

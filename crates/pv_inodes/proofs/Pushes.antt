@@ -1,4 +1,4 @@
--- An inode takes a block.
+-- An inode allocates a block.
 use Rattle.std.proofs.Common.{◌≡◌, ℕ, suc, ◌*◌, ◌-◌, ◌^◌, ◌<◌, ◌≤◌, ◌≢◌, Bool, true, false, List, [], length, get_or, set, refl, sym, ap, ◌∙◌, inl, inr, arith}
 use Rattle.std.proofs.lemmas.Bool.{cases_eq}
 use Rattle.std.proofs.lemmas.List.{get_or-set_same, get_or-set_other, length-set, length-replicate}
@@ -17,7 +17,7 @@ pub length-zeros : length zeros ≡ 512
 unfolding zeros
 length-zeros = length-replicate {A = ℕ} 512 0
 
--- the blocks after block k was named as the next that inode s owns
+-- the blocks after block k was recorded as the next one that inode s owns
 pub record Names (version : Version) (bs cs : List Bytes) (inodes first : ℕ) (count : ℕ → ℕ) (s k : ℕ) : Type 0 where
   pub kinds : (t : ℕ) → t < inodes → kind_at version cs t ≡ kind_at version bs t
   pub sizes : (t : ℕ) → t < inodes → size_at version cs t ≡ size_at version bs t
@@ -36,11 +36,11 @@ module _ (version : Version) (bs : List Bytes) (inodes first : ℕ) (free : List
   home_whole : length (block_at bs (home version s)) ≡ 512
   home_whole = whole (home version s) home_within
 
-  -- a block that is owned has a pointer in the inode, itself or by its index block
+  -- a block that is owned has a pointer in the inode, directly or through its index block
   has_pointer : (t i : ℕ) → t < inodes → i < count t → pointer_of i < pointer_count version
   has_pointer t i below_t in_range = pointer_of-few version i (omega (arith, owning.few t below_t))
 
-  -- the index block before a block that is owned is owned too
+  -- the index block of a block that is owned is owned too
   index_owned : (t i : ℕ) → t < inodes → i < count t → first ≤ pointer_at version bs t (pointer_of i)
   index_owned t i below_t in_range = rw (index-is version bs t i) (owning.from t (index_of i) below_t (omega arith))
 
@@ -85,7 +85,7 @@ module _ (version : Version) (bs : List Bytes) (inodes first : ℕ) (free : List
     }
 
   module _ (following : after_index (count s) ≢ 0) where
-    -- the index block that gets the pointer
+    -- the index block that receives the pointer
     abbrev index : ℕ
     index = pointer_at version bs s (pointer_of (count s))
 
@@ -114,15 +114,15 @@ module _ (version : Version) (bs : List Bytes) (inodes first : ℕ) (free : List
     pointer_entry : (t i : ℕ) → t < inodes → i < count t → pointer_at version (with_owned version bs s (count s) k) t (pointer_of i) ≡ pointer_at version bs t (pointer_of i)
     pointer_entry t i below_t in_range = (head_entry t below_t).direct (pointer_of i) (has_pointer t i below_t in_range)
 
-    -- one index block is that of one inode, after one place
+    -- an index block belongs to one inode, at one position
     one_index : (t i : ℕ) → t < inodes → i < count t → pointer_at version bs t (pointer_of i) ≡ pointer_at version bs s (pointer_of (count s)) → (t ≡ s) × (index_of i ≡ index_of (count s))
     one_index t i below_t in_range same = owning.apart t (index_of i) s (index_of (count s)) below_t (omega arith) below before (sym (index-is version bs t i) ∙ same ∙ index-is version bs s (count s))
 
-    -- so are the blocks of another index block
+    -- so do the blocks of another index block
     owned_apart : (t i : ℕ) → t < inodes → i < count t → pointer_at version bs t (pointer_of i) ≢ pointer_at version bs s (pointer_of (count s)) → owned_at version (with_owned version bs s (count s) k) t i ≡ owned_at version bs t i
     owned_apart t i below_t in_range apart = owned_at-same version bs (with_owned version bs s (count s) k) t i (pointer_entry t i below_t in_range) (λ past. block_entry (pointer_at version bs t (pointer_of i)) apart)
 
-    -- the other pointers of the index block stay
+    -- the other pointers in the index block do not change
     owned_beside : (i : ℕ) → i < count s → after_index i ≢ 0 → pointer_at version bs s (pointer_of i) ≡ pointer_at version bs s (pointer_of (count s)) → owned_at version (with_owned version bs s (count s) k) s i ≡ owned_at version bs s i
     owned_beside i in_range past same =
         let group : pointer_of i ≡ pointer_of (count s) = index_of-apart i (count s) past following (one_index s i below in_range same).1 in
@@ -167,7 +167,7 @@ module _ (version : Version) (bs : List Bytes) (inodes first : ℕ) (free : List
   pub names : Names version bs (with_owned version bs s (count s) k) inodes first count s k
   names = elim (cases_eq (after_index (count s)) 0) [ inl direct ↦ names_direct direct | inr following ↦ names_entry following ]
 
--- the store after inode s took block k as the next that it owns
+-- the store after inode s allocated block k as the next one that it owns
 pub record Pushed (version : Version) (st after : BlockStore) (inodes : ℕ) (count : ℕ → ℕ) (s k : ℕ) : Type 0 where
   pub shape : IsShaped version after inodes
   pub first : after.first ≡ st.first
@@ -190,7 +190,7 @@ module _ (version : Version) (st : BlockStore) (inodes : ℕ) (count : ℕ → �
   from : st.first ≤ k
   from = shape.free_from k (flag false)
 
-  -- the blocks once block k is cleared
+  -- the blocks after block k is cleared
   abbrev clear : List Bytes
   clear = set st.blocks k zeros
 
@@ -231,7 +231,7 @@ module _ (version : Version) (st : BlockStore) (inodes : ℕ) (count : ℕ → �
   names_clear : Names version (set st.blocks k zeros) (with_owned version (set st.blocks k zeros) s (count s) k) inodes st.first count s k
   names_clear = names version (set st.blocks k zeros) inodes st.first st.free count s k below shape.first (omega (arith, long_clear, shape.first_within)) whole_clear owning_clear few small
 
-  -- the index block is not the one that is taken
+  -- the index block is not the one that is allocated
   index_apart : after_index (count s) ≢ 0 → k ≢ owned_at version (set st.blocks k zeros) s (index_of (count s))
   index_apart following same =
       let before : index_of (count s) < count s = omega arith in
@@ -270,14 +270,14 @@ module _ (version : Version) (st : BlockStore) (inodes : ℕ) (count : ℕ → �
         cleared = done.blocks k from index_apart ∙ block_cleared;
       }
 
--- a block is taken, cleared, and named as one that inode s owns
+-- a block is allocated, cleared, and recorded as one that inode s owns
 pub pushed-steps : (version : Version) (st taken cleared named : BlockStore) (s i k : ℕ) → taken ≡ take st k → cleared ≡ with_block taken k zeros → named ≡ record cleared { blocks = with_owned version cleared.blocks s i k } → named ≡ pushed version st s i k
 unfolding pushed
 pushed-steps version st taken cleared named s i k first second third =
     let steps : cleared ≡ with_block (take st k) k zeros = second ∙ ap (λ (a : BlockStore). with_block a k zeros) first in
     third ∙ ap (λ (b : BlockStore). record b { blocks = with_owned version b.blocks s i k }) steps
 
--- the pointers of inode s stay as a block is cleared
+-- the pointers of inode s do not change as a block is cleared
 pub pointer_at-cleared : (version : Version) (st taken cleared : BlockStore) (s k p : ℕ) → taken ≡ take st k → cleared ≡ with_block taken k zeros → home version s < st.first → st.first ≤ k → p < pointer_count version → pointer_at version cleared.blocks s p ≡ pointer_at version st.blocks s p
 pointer_at-cleared version st taken cleared s k p first second at_home from direct =
     let blocks : cleared.blocks ≡ set st.blocks k zeros = ap (λ (b : BlockStore). b.blocks) second ∙ ap (λ (a : BlockStore). set a.blocks k zeros) first in

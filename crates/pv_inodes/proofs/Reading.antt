@@ -1,4 +1,4 @@
--- What the methods that only look at a store read.
+-- The results of the methods that only read.
 use Rattle.std.proofs.Common.{◌≡◌, ℕ, suc, ◌+◌, ◌-◌, ◌/◌, ◌%◌, ◌<◌, ◌≤◌, ◌≢◌, List, ◌++◌, length, get_or, take, drop, None, is_some, refl, sym, ap, ◌∙◌, inl, inr, arith}
 use Rattle.std.proofs.lemmas.Bool.{cases_eq, false≢true}
 use Rattle.std.proofs.lemmas.List.{get_or-take, get_or-drop, length-take-le, length-drop, take_at, drop_at, drop-drop, append_assoc}
@@ -22,11 +22,11 @@ use Rattle.pv_inodes.proofs.InUse.{InUse, free_left, place_in_use}
 use Rattle.pv_inodes.proofs.Layouts.{need-wanted}
 use Rattle.pv_inodes.proofs.Numbers.{least_free_is, least_free_none}
 
--- an inode with a kind is in use
+-- an inode with a nonzero kind field is in use
 pub used_from : (version : Version) (st : BlockStore) (inodes s : ℕ) → s < inodes → kind_at version st.blocks s ≢ 0 → IsUsed (files_of version st inodes) (suc s)
 used_from version st inodes s below some = ap is_some (held-used version st inodes s below (omega arith))
 
--- a part of the content, from the block in which it lies
+-- a part of the contents, from its block
 module _ (version : Version) (st : BlockStore) (inodes : ℕ) (f : Files) (n s k start count : ℕ) (sound : IsSound version st inodes) (known : InUse version st inodes f n s) (owned : k ≡ owned_at version st.blocks s (place_of (start / 512))) (some : 0 < count) (fits : start % 512 + count ≤ 512) (within : start + count ≤ length (bytes_at f n)) where
   block_whole : length (block_at st.blocks k) ≡ 512
   block_whole =
@@ -53,7 +53,7 @@ module _ (version : Version) (st : BlockStore) (inodes : ℕ) (f : Files) (n s k
       ∙ get_or-drop (start % 512) (block_at st.blocks k) i 0
       ∙ sym (get_or-take count (drop start (bytes_at f n)) i 0 less ∙ get_or-drop start (bytes_at f n) i 0 ∙ byte_read i less))
 
--- what a test of the room says
+-- the result of the test for room
 module _ (version : Version) (st : BlockStore) (inodes : ℕ) (f : Files) (n s size : ℕ) (sound : IsSound version st inodes) (view : files_of version st inodes ≡ f) (used : IsUsed f n) (known : InUse version st inodes f n s) (allowed : size ≤ greatest_length version) where
   room_after : total_room (cut f n size) + wanted (length (bytes_at f n)) ≡ total_room f + wanted size
   room_after =
@@ -69,7 +69,7 @@ module _ (version : Version) (st : BlockStore) (inodes : ℕ) (f : Files) (n s s
   lacks_room_if wanting =
       omega (arith, room_after, free_left version st inodes f sound view, blocks-with_bytes f n (resize (bytes_at f n) size) used)
 
--- the number that a new inode gets
+-- the number of a new inode
 pub node_none : (version : Version) (bs : List Bytes) (s : ℕ) → node_at version bs s ≡ None → kind_at version bs s ≡ 0
 node_none version bs s none = elim (cases_eq (kind_at version bs s) 0) [
   | inl free ↦ free
@@ -94,7 +94,7 @@ new_number-none version st inodes used =
 pub length-files_of : (version : Version) (st : BlockStore) (inodes : ℕ) → length (files_of version st inodes).nodes ≡ suc inodes
 length-files_of version st inodes = ap (λ (nodes : Numbered Contained). length nodes) (nodes-files_of version st inodes) ∙ length-nodes_in version st.blocks inodes
 
--- one part more of the buffer is read
+-- one more part of the buffer is read
 pub read_more : (bytes old : Bytes) (at m n : ℕ) → m + n ≤ length old → at + m + n ≤ length bytes → put_mid m n (take m (drop at bytes) ++ drop m old) (take n (drop (at + m) bytes)) ≡ take (m + n) (drop at bytes) ++ drop (m + n) old
 read_more bytes old at m n within fits =
     let length_front : length (take m (drop at bytes)) ≡ m = length-take-le m (drop at bytes) (omega (arith, length-drop at bytes)) in

@@ -1,4 +1,4 @@
--- The blocks that the inodes of an image use, as lists, and as the rows that they own.
+-- The blocks that the inodes of an image use, as lists and as the sequences that they own.
 use Rattle.std.proofs.Common.{◌≡◌, ℕ, zero, suc, ◌+◌, ◌*◌, ◌-◌, ◌/◌, ◌%◌, ◌<◌, ◌≤◌, ◌≢◌, List, [], ◌∷◌, ◌++◌, length, get_or, take, refl, sym, ap, subst, ◌∙◌, inl, inr, arith}
 use Rattle.std.specs.List.{flat_map, range_with_len, AllByRecursion, IsDistinct}
 use Rattle.std.specs.Prelude.{◌==◌, if◌then◌else◌}
@@ -31,7 +31,7 @@ all-at P [] i d all within = absurd (omega arith)
 all-at P (x ∷ xs) zero d all within = all.0
 all-at P (x ∷ xs) (suc i) d all within = all-at P xs i d all.1 (omega arith)
 
--- in a list without repetitions a number has one place
+-- in a list without repetitions a number has one position
 pub one_place : (xs : List ℕ) (i j : ℕ) → IsDistinct ◌==◌ xs → i < length xs → j < length xs → get_or xs i 0 ≡ get_or xs j 0 → i ≡ j
 one_place xs i j once within_i within_j same =
     let pairs = AllPairs-from_IsDistinct {eq = ◌==◌} Decides-eqb xs once in
@@ -41,7 +41,7 @@ one_place xs i j once within_i within_j same =
       | inr (inr more) ↦ absurd (pairs j i 0 more within_i (sym same))
     ]
 
--- the places of the parts of a range
+-- the positions of the parts of a concatenation
 module _ (f : ℕ → List ℕ) (a n : ℕ) where
   abbrev ns : List ℕ
   ns = range_with_len a n
@@ -52,7 +52,7 @@ module _ (f : ℕ → List ℕ) (a n : ℕ) where
   number_is : (s : ℕ) → s < n → get_or ns s 0 ≡ a + s
   number_is s below = get_or-range_with_len a n s 0 below
 
-  -- a number of a part is one of the whole
+  -- an element of a part is one of the whole
   pub place_in : (s i : ℕ) → s < n → i < length (f (a + s)) → get_or (flat_map f ns) (start_of s + i) 0 ≡ get_or (f (a + s)) i 0
   place_in s i below within =
       let long = length-range_with_len a n in
@@ -89,9 +89,9 @@ module _ (f : ℕ → List ℕ) (a n : ℕ) where
   all_components P all s i below within =
       subst P (place_in s i below within) (all-at P (flat_map f ns) (start_of s + i) 0 all (place_within s i below within))
 
--- ---- rows
+-- ---- sequences
 
--- where the i-th block of a row stands in the list of those of content, so many, and the index blocks after them
+-- the position of the i-th block of a sequence in the list that has the blocks of the contents before the index blocks
 abbrev pub listed_at : ℕ → ℕ → ℕ
 listed_at b i = if (i + 247) % 257 == 0 then b + (i - 10) / 257 else i - (i + 246) / 257
 
@@ -148,7 +148,7 @@ module _ (v : Version) (bytes : Bytes) (count : ℕ) (whole : length bytes ≡ 5
     pub length-used_by : length (used_by v bytes (suc s)) ≡ owned_count v bs s
     length-used_by = ap length (used_by-used (suc s) in_use) ∙ length-append (used_content v bytes (suc s)) (used_index v bytes (suc s)) ∙ omega (arith, length_content, length_index, row_is)
 
-    -- the list has the blocks of the row
+    -- the list has the blocks of the sequence
     pub get_or-used_by : (i : ℕ) → i < owned_count v bs s → get_or (used_by v bytes (suc s)) (listed_at b i) 0 ≡ owned_at v bs s i
     get_or-used_by i within =
         ap (λ (xs : List ℕ). get_or xs (listed_at b i) 0) (used_by-used (suc s) in_use)
@@ -175,9 +175,10 @@ module _ (v : Version) (bytes : Bytes) (count : ℕ) (whole : length bytes ≡ 5
             ∙ get_or-used_content v bytes count whole s allowed_size (i - (i + 246) / 257) less
             ∙ ap (owned_at v bs s) back
 
--- ---- what inodes may own
+-- ---- the blocks that inodes can own
 
--- so many inodes have kinds and sizes, each block that one is to own is a data block, and no two are one block
+-- the inodes have valid kinds and sizes, each block that one of them will own is a data block, and no two of these are
+-- the same
 pub record MayOwn (v : Version) (bs : List Bytes) (inodes first : ℕ) : Type 0 where
   pub kinds : (s : ℕ) → s < inodes → kind_at v bs s ≤ 4
   pub sizes : (s : ℕ) → s < inodes → 0 < kind_at v bs s → size_at v bs s ≤ greatest_length v
@@ -204,7 +205,7 @@ module _ (v : Version) (bytes : Bytes) (count inodes : ℕ) (whole : length byte
     | inr used ↦ omega arith
   ]
 
-  -- where a block of the row stands in the list
+  -- the position of a block of the sequence in the list
   record IsListed (s i : ℕ) : Type 0 where
     place : ℕ
     within : place < length (used_by v bytes (1 + s))

@@ -1,4 +1,4 @@
--- What inodes hold, by their numbers.
+-- Files: the contents of inodes by their numbers.
 use Rattle.std.specs.Prelude.{ℕ, zero, suc, ◌<◌, ◌≤◌, [], ◌∷◌, length, drop, sum_by, Option, None, Some, IsSome, option_map}
 use Rattle.pv_model.specs.declared.kind.Kind.{Kind}
 use Rattle.pv_model.specs.declared.kind.Kind.TheVariants.{Directory, File, Executable, Symlink}
@@ -8,18 +8,18 @@ use Rattle.pv_model.specs.Effect.{overwrite, resize}
 use Rattle.pv_model.specs.Numbered.{Numbered, at_number, with_number, without_number, least_free, present}
 use Rattle.pv_model.specs.Room.{need}
 
--- what an inode holds
+-- the kind and the contents of an inode
 pub record Contained : Type 0 where
   pub sort : Kind
   pub bytes : Bytes
 
--- the version of an image, what its inodes hold, by their numbers from 1 on, and how many data blocks there are
+-- the version of an image, its inodes by number from 1 on, and the number of data blocks
 pub record Files : Type 0 where
   pub version : Version
   pub nodes : Numbered Contained
   pub blocks : ℕ
 
--- the number that an inode has for what it is
+-- the kind field of an inode
 abbrev pub sort_number : Kind → ℕ
 sort_number Directory = 1
 sort_number File = 2
@@ -32,11 +32,9 @@ sort_of (suc (suc zero)) = File
 sort_of (suc (suc (suc zero))) = Executable
 sort_of _ = Symlink
 
--- what an inode holds
 abbrev pub held : Files → ℕ → Option Contained
 held f n = at_number f.nodes n
 
--- an inode holds something
 abbrev pub IsUsed : Files → ℕ → Type 0
 IsUsed f n = IsSome (held f n)
 
@@ -44,27 +42,25 @@ abbrev pub bytes_of : Option Contained → Bytes
 bytes_of None = []
 bytes_of (Some c) = c.bytes
 
--- the bytes of an inode; a free one has none
+-- the contents of an inode, which are empty if it is free
 abbrev pub bytes_at : Files → ℕ → Bytes
 bytes_at f n = bytes_of (held f n)
 
--- the sort of an inode that is in use
+-- the kind of an inode, if it is in use
 abbrev pub sort_at : Files → ℕ → Option Kind
 sort_at f n = option_map (λ c. c.sort) (held f n)
 
--- the data blocks that a content needs
+-- the number of data blocks that an inode needs
 abbrev pub room_of : Version → Contained → ℕ
 room_of version c = need version (length c.bytes)
 
--- the data blocks that all contents need
+-- the number of data blocks that all inodes need
 abbrev pub total_room : Files → ℕ
 total_room f = sum_by (room_of f.version) (present f.nodes)
 
--- there are data blocks enough
 abbrev pub HasRoom : Files → Type 0
 HasRoom f = total_room f ≤ f.blocks
 
--- data blocks are wanting
 abbrev pub LacksRoom : Files → Type 0
 LacksRoom f = f.blocks < total_room f
 
@@ -72,27 +68,27 @@ abbrev pub replaced : Files → ℕ → Option Contained → Bytes → Files
 replaced f n None bytes = f
 replaced f n (Some c) bytes = record f { nodes = with_number f.nodes n (record c { bytes = bytes }) }
 
--- the files with other bytes in an inode that is in use
+-- the files with other contents of an inode that is in use
 abbrev pub with_bytes : Files → ℕ → Bytes → Files
 with_bytes f n bytes = replaced f n (held f n) bytes
 
--- the files after bytes were written over an inode's, from a place on; to write none changes nothing
+-- the files after a write at an offset; a write of zero bytes changes nothing
 abbrev pub written : Files → ℕ → ℕ → Bytes → Files
 written f n at [] = f
 written f n at (b ∷ bytes) = with_bytes f n (overwrite (bytes_at f n) at (b ∷ bytes))
 
--- the files after an inode's bytes were cut, or lengthened with zeros
+-- the files after a truncation or an extension with zeros
 abbrev pub cut : Files → ℕ → ℕ → Files
 cut f n size = with_bytes f n (resize (bytes_at f n) size)
 
--- the files with an inode in use that has no bytes
+-- the files with a new inode without contents
 abbrev pub with_new : Files → ℕ → Kind → Files
 with_new f n sort = record f { nodes = with_number f.nodes n (record { sort = sort; bytes = [] }) }
 
--- the files with an inode free
+-- the files with inode n free
 abbrev pub without : Files → ℕ → Files
 without f n = record f { nodes = without_number f.nodes n }
 
--- the least inode that is free, or one more than there are
+-- the least free inode, or the number of inodes plus one if none is free
 abbrev pub new_number : Files → ℕ
 new_number f = suc (least_free (drop 1 f.nodes))

@@ -1,4 +1,4 @@
--- The files that the bytes of an image hold. Inodes are counted from 1 here, as an image counts them.
+-- The files in the bytes of an image. Inodes are numbered from 1 here, as in an image.
 use Rattle.std.specs.Prelude.{ℕ, ◌+◌, ◌-◌, ◌/◌, ◌<◌, ◌≤◌, if◌then◌else◌, ◌==◌, List, ◌∷◌, map, length, flat_map, Option, None, Some}
 use Rattle.std.specs.List.{AllByRecursion, IsDistinct, range_with_len}
 use Rattle.pv_model.specs.declared.version.Version.{Version}
@@ -9,23 +9,23 @@ use Rattle.pv_model.specs.Mount.{kind, is_free, used_by}
 use Rattle.pv_model.specs.Room.{greatest_length}
 use Rattle.pv_inodes.specs.Files.{Contained, Files, sort_of}
 
--- the blocks that so many inodes use
+-- the blocks that the inodes use
 abbrev pub all_used : Version → Bytes → ℕ → List ℕ
 all_used v bytes inodes = flat_map (used_by v bytes) (range_with_len 1 inodes)
 
--- each of so many inodes has a kind, and a size that its content may have; each block that one of them uses is a data
--- block, and no block is used twice
+-- each inode has a kind, and a size that is valid for its kind; each block that an inode uses is a data block, and no
+-- block is used twice
 pub record AreInodes (v : Version) (bytes : Bytes) (inodes : ℕ) : Type 0 where
   pub kinds : (n : ℕ) → 1 ≤ n → n ≤ inodes → kind v bytes n ≤ 4
   pub sizes : (n : ℕ) → 1 ≤ n → n ≤ inodes → 0 < kind v bytes n → size v bytes n ≤ greatest_length v
   pub in_data : AllByRecursion (λ k. (inode_blocks v inodes < k) × (k < length bytes / BLOCK)) (all_used v bytes inodes)
   pub used_once : IsDistinct ◌==◌ (all_used v bytes inodes)
 
--- what an inode holds, if it is not free
+-- the kind and the contents of an inode, if it is not free
 abbrev pub contained : Version → Bytes → ℕ → Option Contained
 contained v bytes n = if is_free v bytes n then None else Some (record { sort = sort_of (kind v bytes n); bytes = content v bytes n })
 
--- the files that so many inodes hold
+-- the files of the inodes of an image
 unfoldable pub files_in : Version → Bytes → ℕ → Files
 files_in v bytes inodes = record {
   version = v;

@@ -1,4 +1,4 @@
--- Where an image has what, by its blocks. Inodes are counted from 0 here.
+-- The layout of an image in blocks. Inodes are numbered from 0 here.
 use Rattle.std.specs.Prelude.{ℕ, ◌+◌, ◌-◌, ◌*◌, ◌/◌, ◌%◌, min, if◌then◌else◌, ◌==◌, List, [], ◌∷◌, ◌++◌, map, length, take, drop, replicate, slice_index, slice_index_or, slice_set, Option, None, Some}
 use Rattle.std.specs.List.{range_with_len}
 use Rattle.byteorder.specs.Endian.{little_from, little_bytes}
@@ -8,54 +8,52 @@ use Rattle.pv_model.specs.Bytes.{Bytes}
 use Rattle.pv_model.specs.Image.{inode_length, index_pointers}
 use Rattle.pv_inodes.specs.Files.{Contained, sort_of}
 
--- block k
 abbrev pub block_at : List Bytes → ℕ → Bytes
 block_at bs k = slice_index_or bs k []
 
--- the number in so many bytes of block k, the lowest first
+-- the little-endian number in `count` bytes at an offset of block k
 unfoldable pub number : List Bytes → ℕ → ℕ → ℕ → ℕ
 number bs k at count = little_from at count (block_at bs k)
 
--- the blocks with other bytes in block k, from a place on
+-- the blocks with block k overwritten from an offset on
 unfoldable pub splice : List Bytes → ℕ → ℕ → Bytes → List Bytes
 splice bs k at new = slice_set bs k (take at (block_at bs k) ++ (new ++ drop (at + length new) (block_at bs k)))
 
--- the block in which inode s stands
+-- the block that contains inode s
 unfoldable pub home : Version → ℕ → ℕ
 home version s = s / (BLOCK / inode_length version) + 1
 
--- where in that block it begins
+-- the offset of inode s in its block
 unfoldable pub offset : Version → ℕ → ℕ
 offset version s = inode_length version * (s % (BLOCK / inode_length version))
 
--- what inode s is, by a number; 0 is free
+-- the kind field of inode s; 0 is free
 unfoldable pub kind_at : Version → List Bytes → ℕ → ℕ
 kind_at version bs s = number bs (home version s) (offset version s) 1
 
--- the length of its content
+-- the length of its contents
 unfoldable pub size_at : Version → List Bytes → ℕ → ℕ
 size_at version bs s = number bs (home version s) (offset version s + 4) 4
 
--- how many pointers an inode has: ten to blocks of content, then those to index blocks
+-- the number of pointers of an inode: ten to blocks of contents, then those to index blocks
 abbrev pub pointer_count : Version → ℕ
 pointer_count version = 10 + index_pointers version
 
--- pointer p in inode s
 unfoldable pub pointer_at : Version → List Bytes → ℕ → ℕ → ℕ
 pointer_at version bs s p = number bs (home version s) (offset version s + 8 + 2 * p) 2
 
--- The blocks that an inode owns stand in one row: ten of content, then each index block before the 256 of content
--- to which it points.
+-- The blocks that an inode owns form one sequence: ten blocks of contents, then each index block before the 256 blocks
+-- of contents to which it points.
 
--- how many an inode can own
+-- the maximum length of the sequence
 abbrev pub most_owned : Version → ℕ
 most_owned version = 10 + 257 * index_pointers version
 
--- how far the i-th of them is after the index block that points to it; 0 where the inode itself points to it
+-- the distance of the i-th of them from its index block, or 0 if the inode itself points to it
 abbrev pub after_index : ℕ → ℕ
 after_index i = (i - 10) % 257
 
--- which pointer of the inode is that to the i-th of them, or else to the index block that points to it
+-- the number of the inode's pointer to the i-th of them, or to its index block
 unfoldable pub pointer_of : ℕ → ℕ
 pointer_of i = min i 10 + (i - 10) / 257
 
@@ -65,32 +63,32 @@ owned_at version bs s i =
     if after_index i == 0 then pointer_at version bs s (pointer_of i)
     else number bs (pointer_at version bs s (pointer_of i)) (2 * (after_index i - 1)) 2
 
--- how many blocks a content of this length owns, those of its bytes and the index blocks
+-- the number of blocks that contents of length n own, including index blocks
 unfoldable pub wanted : ℕ → ℕ
 wanted n = let b = (n + 511) / 512 in b + (b + 245) / 256
 
--- how many blocks inode s owns
+-- the number of blocks that inode s owns
 unfoldable pub owned_count : Version → List Bytes → ℕ → ℕ
 owned_count version bs s = if kind_at version bs s == 0 then 0 else wanted (size_at version bs s)
 
--- which of the blocks that an inode owns is block j of its content: an index block stands before the 10th, and before
--- each 256th from there on
+-- the position of block j of the contents in the sequence: an index block precedes block 10, and every 256th block
+-- after that
 unfoldable pub place_of : ℕ → ℕ
 place_of j = j + (j + 246) / 256
 
--- a byte of the content of inode s
+-- a byte of the contents of inode s
 unfoldable pub content_byte : Version → List Bytes → ℕ → ℕ → ℕ
 content_byte version bs s x = slice_index (block_at bs (owned_at version bs s (place_of (x / BLOCK)))) (x % BLOCK)
 
--- the content of inode s
+-- the contents of inode s
 unfoldable pub content_at : Version → List Bytes → ℕ → Bytes
 content_at version bs s = map (content_byte version bs s) (range_with_len 0 (size_at version bs s))
 
--- what inode s holds, if it is not free
+-- the kind and the contents of inode s, if it is not free
 unfoldable pub node_at : Version → List Bytes → ℕ → Option Contained
 node_at version bs s = if kind_at version bs s == 0 then None else Some (record { sort = sort_of (kind_at version bs s); bytes = content_at version bs s })
 
--- what so many inodes hold, by their numbers, which are one more
+-- the inodes by their numbers, which start at 1
 unfoldable pub nodes_in : Version → List Bytes → ℕ → List (Option Contained)
 nodes_in version bs inodes = None ∷ map (node_at version bs) (range_with_len 0 inodes)
 
@@ -105,6 +103,5 @@ with_owned version bs s i k =
     if after_index i == 0 then splice bs (home version s) (offset version s + 8 + 2 * pointer_of i) (little_bytes 2 k)
     else splice bs (pointer_at version bs s (pointer_of i)) (2 * (after_index i - 1)) (little_bytes 2 k)
 
--- a block of zeros
 unfoldable pub zeros : Bytes
 zeros = replicate BLOCK 0

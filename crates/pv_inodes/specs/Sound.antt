@@ -1,4 +1,4 @@
--- What the blocks of a store of files keep, and the files that they hold.
+-- The invariant of the blocks of files, and the files in them.
 use Rattle.std.specs.Prelude.{◌≡◌, ℕ, suc, ◌+◌, ◌-◌, ◌<◌, ◌≤◌, false, true, length, slice_index_or, slice_set}
 use Rattle.pv_model.specs.Room.{greatest_length}
 use Rattle.pv_model.specs.Image.{inode_blocks}
@@ -10,11 +10,11 @@ use Rattle.pv_inodes.specs.Files.{Files, IsUsed}
 use Rattle.pv_inodes.specs.Layout.{block_at, kind_at, size_at, owned_at, owned_count, most_owned, nodes_in, splice, with_kind, with_owned, with_size, zeros}
 use Rattle.pv_inodes.specs.Owning.{IsOwning}
 
--- the first data block of an image with so many inodes
+-- the first data block of an image
 unfoldable pub first_data : Version → ℕ → ℕ
 first_data version inodes = inode_blocks version inodes + 1
 
--- the shape of a store with so many inodes
+-- the shape of a store of blocks with this number of inodes
 pub record IsShaped (version : Version) (st : BlockStore) (inodes : ℕ) : Type 0 where
   pub first : st.first ≡ first_data version inodes
   pub first_within : st.first ≤ length st.blocks
@@ -22,22 +22,22 @@ pub record IsShaped (version : Version) (st : BlockStore) (inodes : ℕ) : Type 
   pub whole : (k : ℕ) → k < length st.blocks → length (block_at st.blocks k) ≡ BLOCK
   pub free_from : (k : ℕ) → slice_index_or st.free k false ≡ true → st.first ≤ k
 
--- what the blocks keep
+-- the invariant of the blocks
 pub record IsSound (version : Version) (st : BlockStore) (inodes : ℕ) : Type 0 where
   pub shape : IsShaped version st inodes
   pub kinds : (s : ℕ) → s < inodes → kind_at version st.blocks s ≤ 4
   pub sizes : (s : ℕ) → s < inodes → 0 < kind_at version st.blocks s → size_at version st.blocks s ≤ greatest_length version
   pub owning : IsOwning inodes (most_owned version) st.first (length st.blocks) st.free (owned_count version st.blocks) (owned_at version st.blocks)
 
--- the files that the blocks hold
+-- the files in the blocks
 unfoldable pub files_of : Version → BlockStore → ℕ → Files
 files_of version st inodes = record { version = version; nodes = nodes_in version st.blocks inodes; blocks = length st.blocks - st.first }
 
--- each inode below one, counted from 0, is in use
+-- each inode below `least`, numbered from 0, is in use
 abbrev pub AllUsed : Files → ℕ → Type 0
 AllUsed f least = (s : ℕ) → s < least → IsUsed f (suc s)
 
--- the store after inode s took block k, cleared, as its i-th
+-- the store after block k is allocated, cleared, and made the i-th block of inode s
 unfoldable pub pushed : Version → BlockStore → ℕ → ℕ → ℕ → BlockStore
 pushed version st s i k = record st { blocks = with_owned version (slice_set st.blocks k zeros) s i k; free = slice_set st.free k false }
 
@@ -45,10 +45,10 @@ pushed version st s i k = record st { blocks = with_owned version (slice_set st.
 unfoldable pub resized : Version → BlockStore → ℕ → ℕ → BlockStore
 resized version st s size = record st { blocks = with_size version st.blocks s size }
 
--- the store with other bytes in block k, from a place on
+-- the store with block k overwritten from an offset on
 unfoldable pub patched : BlockStore → ℕ → ℕ → Bytes → BlockStore
 patched st k at new = record st { blocks = splice st.blocks k at new }
 
--- the store with another kind of inode s
+-- the store with another kind field of inode s
 unfoldable pub rekinded : Version → BlockStore → ℕ → ℕ → BlockStore
 rekinded version st s kind = record st { blocks = with_kind version st.blocks s kind }

@@ -1,4 +1,4 @@
-//! Files on blocks.
+//! The inodes of an image and their contents.
 ghost use Rattle.std.specs.Prelude.{◌≡◌, ◌+◌, ◌-◌, ◌*◌, ◌/◌, ◌%◌, ◌<◌, ◌≤◌, ◌≢◌, ◌↔◌, suc, min, false, length, replicate, vec_len, All, take, drop, ◌++◌, IsTrue, None, Some, IsNone, IfNone, IfSome, OnOk, OnErr};
 ghost use Rattle.pv_model.specs.declared.limits.TheConstants.{BLOCK};
 ghost use Rattle.pv_model.specs.Effect.{overwrite, resize};
@@ -19,13 +19,13 @@ use pv_model::limits::{BLOCK, INODES};
 use pv_model::{Kind, Version};
 use std::marker::Model;
 
-/// The inodes of an image of either version, over its blocks. Nothing here takes memory.
+/// The inodes of an image of either version, over its blocks. No method allocates memory.
 #[derive(Drop)]
 pub struct Inodes {
     blocks: Blocks,
     inodes: u16,
     version: Version,
-    // No inode below this one, counted from 0, is free.
+    // No inode below this one is free. Inodes are numbered from 0 here.
     least: u16,
 }
 
@@ -43,7 +43,8 @@ impl Model for Inodes {
 impl Inodes {
     ghost use Rattle.pv_inodes.specs.Sound.{AllUsed};
 
-    /// The inodes of an image of so many blocks and inodes over zeros: no inode is in use.
+    /// Creates the inodes of an empty image with the given numbers of blocks and inodes, in a vector of zeros. No inode
+    /// is in use.
     pub fn empty(zeros: Vec<u8>, blocks: u16, inodes: u16, version: Version) -> Inodes
         requires whole { vec_len zeros ≡ BLOCK * blocks }
         requires zeros { All (λ byte. byte ≡ 0) zeros.items }
@@ -65,21 +66,21 @@ impl Inodes {
         }
     }
 
-    /// The version of the image's format.
+    /// Returns the version of the image's format.
     pub fn version(&self) -> Version
         ensures { result ≡ self.now.version }
     {
         self.version
     }
 
-    /// How many inodes there are, free ones too.
+    /// Returns the number of inodes, including free ones.
     pub fn inodes(&self) -> u16
         ensures { length self.now.nodes ≡ suc result }
     {
         self.inodes
     }
 
-    /// What an inode that is in use is.
+    /// Returns the kind of an inode that is in use.
     pub fn kind(&self, inode: u16) -> Kind
         requires { IsUsed self.now inode }
         ensures { sort_at self.now inode ≡ Some result }
@@ -88,7 +89,7 @@ impl Inodes {
         sort_from(kind_of(&self.blocks, self.version, slot))
     }
 
-    /// The length of an inode's bytes.
+    /// Returns the length of an inode's contents in bytes.
     pub fn size(&self, inode: u16) -> u32
         requires { IsUsed self.now inode }
         ensures value { result ≡ length (bytes_at self.now inode) }
@@ -98,14 +99,14 @@ impl Inodes {
         size_of(&self.blocks, self.version, slot)
     }
 
-    /// The number of data blocks that no content needs.
+    /// Returns the number of free data blocks.
     pub fn free(&self) -> u16
         ensures { result + total_room self.now ≡ self.now.blocks }
     {
         self.blocks.free()
     }
 
-    /// Whether a number is that of an inode in use.
+    /// Returns whether `inode` is the number of an inode in use.
     pub fn is_used(&self, inode: u16) -> bool
         ensures { IsTrue result ↔ IsUsed self.now inode }
     {
@@ -115,8 +116,8 @@ impl Inodes {
         kind_of(&self.blocks, self.version, inode - 1) != FREE
     }
 
-    /// The bytes of an inode from `at` on, as far as they stand in one block: they end with that block, or with
-    /// the inode's bytes. Nothing is copied.
+    /// Returns the contents of an inode from offset `at` to the end of the block that has this offset, or to the end of
+    /// the contents if it comes first. Nothing is copied.
     pub fn lend(&self, inode: u16, at: u32) -> &[u8]
         requires used { IsUsed self.now inode }
         requires within { at < length (bytes_at self.now inode) }
@@ -130,8 +131,8 @@ impl Inodes {
         &self.blocks.lend(block)[from..from + count]
     }
 
-    /// Copies an inode's bytes, from `at` on, to the front of the buffer. The result is how many: as many as
-    /// the buffer takes, or fewer where the bytes end, or none past their end.
+    /// Copies the contents of an inode from offset `at` to the front of `buffer`. Returns the number of bytes copied:
+    /// it is less than the length of `buffer` if the contents end before that, and 0 at or past their end.
     pub fn read_at(&self, inode: u16, at: u32, buffer: &mut [u8]) -> usize
         requires { IsUsed self.now inode }
         ensures count { result ≡ min (length buffer.old) (length (bytes_at self.now inode) - at) }
@@ -151,9 +152,13 @@ impl Inodes {
         count
     }
 
-    /// Writes bytes over an inode's, from `at` on. A gap past the end is filled with zeros, and to write no
-    /// bytes changes nothing. `TooBig` comes where a byte would lie past the greatest length, else `Full`
-    /// where data blocks are wanting; then nothing has changed.
+    /// Writes `bytes` to the contents of an inode at offset `at`. A gap past the end of the contents is filled with
+    /// zeros. A write of zero bytes changes nothing.
+    ///
+    /// # Errors
+    ///
+    /// Returns `TooBig` if a byte would be written past the maximum length. Otherwise returns `Full` if there are too
+    /// few free data blocks. If the call fails, nothing changes.
     pub fn write_at(&mut self, inode: u16, at: u32, bytes: &[u8]) -> Result<(), Space>
         requires { IsUsed self.old inode }
         ensures ok { OnOk result (self.new ≡ written self.old inode at bytes.now) }
@@ -177,8 +182,12 @@ impl Inodes {
         Ok(())
     }
 
-    /// Cuts an inode's bytes to a length, or fills them up to it with zeros. `TooBig` comes where the length
-    /// is past the greatest, else `Full` where data blocks are wanting; then nothing has changed.
+    /// Truncates the contents of an inode to `size` bytes, or extends them to it with zeros.
+    ///
+    /// # Errors
+    ///
+    /// Returns `TooBig` if `size` exceeds the maximum length. Otherwise returns `Full` if there are too few free data
+    /// blocks. If the call fails, nothing changes.
     pub fn cut(&mut self, inode: u16, size: u32) -> Result<(), Space>
         requires { IsUsed self.old inode }
         ensures ok { OnOk result (self.new ≡ cut self.old inode size) }
@@ -200,7 +209,8 @@ impl Inodes {
         Ok(())
     }
 
-    /// Writes bytes over a part of an inode's, from `at` on. They stay as long as they are.
+    /// Overwrites a part of an inode's contents with `bytes`, at offset `at`. The length of the contents does not
+    /// change.
     pub fn overwrite(&mut self, inode: u16, at: u32, bytes: &[u8])
         requires used { IsUsed self.old inode }
         requires within { at + length bytes.now ≤ length (bytes_at self.old inode) }
@@ -217,8 +227,8 @@ impl Inodes {
         }
     }
 
-    /// Cuts an inode's bytes to a length that is not greater than theirs, and gives back the blocks that they
-    /// no longer need.
+    /// Truncates the contents of an inode to `size` bytes, which is at most their length, and frees the blocks that
+    /// they no longer need.
     pub fn shrink(&mut self, inode: u16, size: u32)
         requires used { IsUsed self.old inode }
         requires shorter { size ≤ length (bytes_at self.old inode) }
@@ -226,8 +236,8 @@ impl Inodes {
     {
         let slot = self.slot(inode);
         let mut owned = room(size_of(&self.blocks, self.version, slot));
-        let kept = room(size);
-        while kept < owned {
+        let preserved = room(size);
+        while preserved < owned {
             owned -= 1;
             let block = owned_by(&self.blocks, self.version, slot, owned);
             self.blocks.give_back(block);
@@ -235,7 +245,8 @@ impl Inodes {
         set_size(&mut self.blocks, self.version, slot, size);
     }
 
-    /// Puts the least free inode into use, as one of this sort, without bytes; None only where none is free.
+    /// Allocates the least free inode, with kind `sort` and empty contents, and returns its number. Returns `None` if
+    /// no inode is free.
     pub fn fresh(&mut self, sort: Kind) -> Option<u16>
         ensures full { IsNone result ↔ (new_number self.old ≡ length self.old.nodes) }
         ensures none { IfNone result (self.new ≡ self.old) }
@@ -251,7 +262,7 @@ impl Inodes {
         Some(slot + 1)
     }
 
-    /// Makes an inode free, and gives back its blocks.
+    /// Frees an inode and its blocks.
     pub fn drop_inode(&mut self, inode: u16)
         requires { IsUsed self.old inode }
         ensures { self.new ≡ without self.old inode }
@@ -262,7 +273,7 @@ impl Inodes {
         self.least = self.least.min(slot);
     }
 
-    // The least inode that is free, counted from 0.
+    // Returns the least free inode, numbered from 0.
     fn free_slot(&self) -> Option<u16>
         ensures full { IsNone result ↔ (new_number self.now ≡ length self.now.nodes) }
         ensures least { IfSome result (λ slot. slot + 1 ≡ new_number self.now) }
@@ -278,7 +289,7 @@ impl Inodes {
         None
     }
 
-    // Whether there are data blocks enough for an inode's bytes, cut or lengthened.
+    // Returns whether there are enough data blocks to give an inode's contents the length `size`.
     fn has_room(&self, inode: u16, size: u32) -> bool
         requires used { IsUsed self.now inode }
         requires allowed { size ≤ greatest_length self.now.version }
@@ -290,7 +301,7 @@ impl Inodes {
         room(size).saturating_sub(owned) <= self.blocks.free()
     }
 
-    // Copies bytes of a content, within one of its blocks.
+    // Copies a part of an inode's contents that lies in one block.
     fn read_part(&self, inode: u16, at: u32, part: &mut [u8])
         requires used { IsUsed self.now inode }
         requires some { 0 < length part.old }
@@ -301,7 +312,7 @@ impl Inodes {
         part.copy_from_slice(&self.lend(inode, at)[..part.len()]);
     }
 
-    // An inode that is in use, counted from 0.
+    // Returns the number, counted from 0, of an inode in use.
     fn slot(&self, inode: u16) -> u16
         requires { IsUsed self.now inode }
         ensures { result + 1 ≡ inode }
@@ -310,7 +321,7 @@ impl Inodes {
         inode - 1
     }
 
-    // Lengthens a content by zeros within its last block.
+    // Extends the contents of an inode with zeros within their last block.
     fn grow_within(&mut self, inode: u16, size: u32)
         requires used { IsUsed self.old inode }
         requires longer { length (bytes_at self.old inode) < size }
@@ -332,7 +343,7 @@ impl Inodes {
         set_size(&mut self.blocks, self.version, slot, size);
     }
 
-    // Lengthens a content that fills its blocks by zeros in one block more.
+    // Extends the contents of an inode with zeros into one new block. The old contents fill their blocks.
     fn grow_by_block(&mut self, inode: u16, size: u32)
         requires used { IsUsed self.old inode }
         requires full { length (bytes_at self.old inode) % BLOCK ≡ 0 }
@@ -349,8 +360,8 @@ impl Inodes {
         set_size(&mut self.blocks, self.version, slot, size);
     }
 
-    // Lengthens a content that fills its blocks by zeros in the first block of an index block. The first
-    // block that is taken is the index block.
+    // Extends the contents of an inode with zeros into the first block of an index block. The old contents fill their
+    // blocks. The index block is allocated first.
     fn grow_by_index(&mut self, inode: u16, size: u32)
         requires used { IsUsed self.old inode }
         requires full { length (bytes_at self.old inode) % BLOCK ≡ 0 }
@@ -368,7 +379,7 @@ impl Inodes {
         set_size(&mut self.blocks, self.version, slot, size);
     }
 
-    // Lengthens a content by zeros, up to the end of a block.
+    // Extends the contents of an inode with zeros, at most to the end of a block.
     fn grow_step(&mut self, inode: u16, size: u32)
         requires used { IsUsed self.old inode }
         requires longer { length (bytes_at self.old inode) < size }
@@ -387,7 +398,7 @@ impl Inodes {
         }
     }
 
-    // Lengthens a content by zeros.
+    // Extends the contents of an inode with zeros.
     fn grow(&mut self, inode: u16, size: u32)
         requires used { IsUsed self.old inode }
         requires longer { length (bytes_at self.old inode) ≤ size }
@@ -403,7 +414,7 @@ impl Inodes {
         }
     }
 
-    // Writes bytes over a part of a content, within one of its blocks.
+    // Overwrites a part of an inode's contents that lies in one block.
     fn write_part(&mut self, inode: u16, at: u32, part: &[u8])
         requires used { IsUsed self.old inode }
         requires some { 0 < length part.now }
@@ -417,7 +428,7 @@ impl Inodes {
     }
 }
 
-/// What a number of an inode says that it is.
+/// Returns the kind that a nonzero kind field of an inode encodes.
 fn sort_from(kind: u8) -> Kind
     ensures { result ≡ sort_of kind }
 {
@@ -429,7 +440,7 @@ fn sort_from(kind: u8) -> Kind
     }
 }
 
-/// The number that an inode has for what it is.
+/// Returns the kind field that encodes `sort`.
 fn number_of(sort: Kind) -> u8
     ensures value { result ≡ sort_number sort }
     ensures some { 0 < result }

@@ -1,4 +1,4 @@
-//! Where an inode stands and has what, and the row in which the blocks that it owns stand.
+//! The layout of inodes: the positions of inodes and of their fields, and the order of the blocks that an inode owns.
 ghost use Rattle.std.specs.Prelude.{◌≡◌, ◌+◌, ◌*◌, ◌/◌, ◌≤◌};
 ghost use Rattle.pv_model.specs.declared.limits.TheConstants.{BLOCK};
 ghost use Rattle.pv_model.specs.declared.version.Version.TheVariants.{V2};
@@ -9,10 +9,10 @@ use pv_model::Version;
 use pv_model::format::{BLOCK_INODES_V1, BLOCK_INODES_V2, DIRECT, INODE_V1, INODE_V2, POINTED};
 use pv_model::limits::BLOCK;
 
-/// Bytes of a block, as a length of a content.
+/// The size of a block, with the type of a length of contents.
 pub(crate) const BLOCK_LENGTH: u32 = BLOCK as u32;
 
-/// The block in which an inode stands.
+/// Returns the block that contains an inode.
 #[tactic(auto, unfolding(crate::specs::Layout::home))]
 pub(crate) fn home(version: Version, slot: u16) -> u16
     ensures { result ≡ home version slot }
@@ -23,7 +23,7 @@ pub(crate) fn home(version: Version, slot: u16) -> u16
     }
 }
 
-/// Where in its block an inode begins.
+/// Returns the offset of an inode in its block.
 #[tactic(auto, unfolding(crate::specs::Layout::offset))]
 pub(crate) fn offset(version: Version, slot: u16) -> usize
     ensures value { result ≡ offset version slot }
@@ -35,7 +35,7 @@ pub(crate) fn offset(version: Version, slot: u16) -> usize
     }
 }
 
-/// How many blocks a content of this length owns, its index blocks among them.
+/// Returns the number of blocks that contents of `size` bytes own, including index blocks.
 #[tactic(auto, unfolding(crate::specs::Layout::wanted))]
 pub(crate) fn room(size: u32) -> u16
     requires { size ≤ greatest_length V2 }
@@ -45,7 +45,7 @@ pub(crate) fn room(size: u32) -> u16
     blocks + blocks.saturating_sub(DIRECT).div_ceil(POINTED)
 }
 
-/// Which of the blocks that an inode owns is a block of its content.
+/// Returns the position of block number `block` of the contents among the blocks that the inode owns.
 #[tactic(auto, unfolding(crate::specs::Layout::place_of))]
 pub(crate) fn place(block: u16) -> u16
     requires { block ≤ greatest_length V2 / BLOCK }
@@ -54,7 +54,8 @@ pub(crate) fn place(block: u16) -> u16
     block + (block + POINTED - DIRECT) / POINTED
 }
 
-/// Which pointer of an inode is that to the i-th block that it owns, or to the index block that points to it.
+/// Returns the number of the inode's pointer that leads to the i-th block that it owns: the pointer to the block itself
+/// or to its index block, whichever the inode has.
 #[tactic(auto, unfolding(crate::specs::Layout::pointer_of))]
 pub(crate) fn pointer_of(i: u16) -> u16
     ensures { result ≡ pointer_of i }
@@ -62,8 +63,8 @@ pub(crate) fn pointer_of(i: u16) -> u16
     i.min(DIRECT) + i.saturating_sub(DIRECT) / (POINTED + 1)
 }
 
-/// How far the i-th block that an inode owns is after the index block that points to it; 0 where the inode
-/// itself points to it.
+/// Returns how many blocks after its index block the i-th block that an inode owns comes, or 0 if the inode itself
+/// points to it.
 pub(crate) fn after_index(i: u16) -> u16
     ensures { result ≡ after_index i }
 {

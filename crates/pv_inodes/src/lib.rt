@@ -1,11 +1,11 @@
-//! Files on blocks: inodes by their numbers, each with a sort and bytes.
+//! The inode layer: files as inodes, each with a kind and contents, on blocks.
 //!
-//! The layout is that of an image of either version: block 0 is a header, which is not looked at here, then
-//! come the blocks of inodes, then the data blocks. A contract sees `Files`: the version, what each inode
-//! holds, and how many data blocks there are. Pointers, and which block is whose, stand in the invariant
-//! alone. `layout` says where an inode has what, `fields` has the numbers that stand in blocks, `table` the
-//! fields of inodes and the blocks that they own, `inodes` has `Inodes`, and `space` why a
-//! content cannot grow.
+//! The layout is that of an image of either version: block 0 is a header, which this crate does not read, then come the
+//! inode blocks, then the data blocks. Contracts see `Files`: the version, the contents of each inode and the number of
+//! data blocks. Pointers and the owners of blocks appear only in the invariant. `layout` computes the positions of
+//! inodes and their fields, `fields` reads and writes numbers in blocks, `table` reads and writes the fields of inodes
+//! and the list of blocks that each owns, `inodes` defines `Inodes`, and `space` defines the error for contents that
+//! cannot grow.
 #![tactic(auto)]
 
 mod fields;

@@ -1,8 +1,10 @@
-//! Why a content cannot grow.
+//! The error for contents that cannot grow.
 
-/// Why a content was not lengthened: no block is free that it needs, or it would be longer than any may be.
+/// Why the contents of an inode were not extended.
 #[derive(Clone, Copy, Debug, PartialEq, Eq)]
 pub enum Space {
+    /// There are too few free blocks.
     Full,
+    /// The contents would exceed the maximum length.
     TooBig,
 }

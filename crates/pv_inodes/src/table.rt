@@ -1,4 +1,4 @@
-//! The fields of an inode, and the blocks that it owns. Inodes are counted from 0 here.
+//! The fields of an inode, and the blocks that it owns. Inodes are numbered from 0 here.
 ghost use Rattle.std.specs.Prelude.{◌≡◌, ◌<◌, ◌≤◌, ◌≢◌, length};
 ghost use Rattle.pv_blocks.specs.BlockStore.{free_count, IsFree, with_block};
 ghost use Rattle.pv_model.specs.declared.version.Version.TheVariants.{V2};
@@ -12,7 +12,7 @@ use pv_blocks::Blocks;
 use pv_model::Version;
 use pv_model::format::{DIRECT, FREE, POINTED, POINTERS_AT, SIZE_AT};
 
-/// What an inode is, as the number of its kind; that of a free one is `FREE`.
+/// Returns the kind field of an inode. It is `FREE` if the inode is free.
 #[tactic(auto, unfolding(crate::specs::Layout::kind_at))]
 pub(crate) fn kind_of(blocks: &Blocks, version: Version, slot: u16) -> u8
     requires { home version slot < length blocks.now.blocks }
@@ -21,7 +21,7 @@ pub(crate) fn kind_of(blocks: &Blocks, version: Version, slot: u16) -> u8
     byte_at(blocks, home(version, slot), offset(version, slot))
 }
 
-/// The length of an inode's content.
+/// Returns the length of an inode's contents.
 #[tactic(auto, unfolding(crate::specs::Layout::size_at))]
 pub(crate) fn size_of(blocks: &Blocks, version: Version, slot: u16) -> u32
     requires { home version slot < length blocks.now.blocks }
@@ -30,7 +30,7 @@ pub(crate) fn size_of(blocks: &Blocks, version: Version, slot: u16) -> u32
     u32_at(blocks, home(version, slot), offset(version, slot) + SIZE_AT)
 }
 
-/// How many blocks an inode owns, its index blocks among them; a free one owns none.
+/// Returns the number of blocks that an inode owns, including index blocks. A free inode owns none.
 #[tactic(auto, unfolding(crate::specs::Layout::owned_count))]
 pub(crate) fn owned_count(blocks: &Blocks, version: Version, slot: u16) -> u16
     requires block { home version slot < length blocks.now.blocks }
@@ -44,7 +44,7 @@ pub(crate) fn owned_count(blocks: &Blocks, version: Version, slot: u16) -> u16
     }
 }
 
-/// A pointer in an inode: ten to blocks of content, then those to index blocks.
+/// Returns pointer `p` of an inode. The first ten pointers lead to blocks of the contents, the others to index blocks.
 #[tactic(auto, unfolding(crate::specs::Layout::pointer_at))]
 fn pointer(blocks: &Blocks, version: Version, slot: u16, p: u16) -> u16
     requires block { home version slot < length blocks.now.blocks }
@@ -58,7 +58,7 @@ fn pointer(blocks: &Blocks, version: Version, slot: u16, p: u16) -> u16
     )
 }
 
-/// The i-th block that an inode owns, its index blocks among them.
+/// Returns the i-th block that an inode owns, index blocks included.
 #[tactic(auto, using(std::proofs::lemmas::Bool::Decides::nat_tests, crate::proofs::Layouts::has_pointer), unfolding(crate::specs::Layout::owned_at))]
 pub(crate) fn owned_by(blocks: &Blocks, version: Version, slot: u16, i: u16) -> u16
     requires block { home version slot < length blocks.now.blocks }
@@ -75,7 +75,7 @@ pub(crate) fn owned_by(blocks: &Blocks, version: Version, slot: u16, i: u16) -> 
     }
 }
 
-/// A block of an inode's content.
+/// Returns block number `block` of an inode's contents.
 pub(crate) fn content_block(blocks: &Blocks, version: Version, slot: u16, block: u16) -> u16
     requires block { home version slot < length blocks.now.blocks }
     requires owned { place_of block < most_owned version }
@@ -91,7 +91,7 @@ pub(crate) fn content_block(blocks: &Blocks, version: Version, slot: u16, block:
     }
 }
 
-/// Writes what an inode is.
+/// Writes the kind field of an inode.
 #[tactic(auto, unfolding(crate::specs::Layout::with_kind))]
 pub(crate) fn set_kind(blocks: &mut Blocks, version: Version, slot: u16, kind: u8)
     requires { home version slot < length blocks.old.blocks }
@@ -100,7 +100,7 @@ pub(crate) fn set_kind(blocks: &mut Blocks, version: Version, slot: u16, kind: u
     put(blocks, home(version, slot), offset(version, slot), &[kind]);
 }
 
-/// Writes the length of an inode's content.
+/// Writes the length of an inode's contents.
 #[tactic(auto, unfolding(crate::specs::Layout::with_size))]
 pub(crate) fn set_size(blocks: &mut Blocks, version: Version, slot: u16, size: u32)
     requires { home version slot < length blocks.old.blocks }
@@ -114,7 +114,7 @@ pub(crate) fn set_size(blocks: &mut Blocks, version: Version, slot: u16, size: u
     );
 }
 
-/// Writes which block is the i-th that an inode owns.
+/// Makes block `k` the i-th block that an inode owns.
 #[tactic(auto, using(std::proofs::lemmas::Bool::Decides::nat_tests, crate::proofs::Layouts::has_pointer), unfolding(crate::specs::Layout::with_owned))]
 pub(crate) fn set_owned(blocks: &mut Blocks, version: Version, slot: u16, i: u16, k: u16)
     requires block { home version slot < length blocks.old.blocks }
@@ -136,7 +136,7 @@ pub(crate) fn set_owned(blocks: &mut Blocks, version: Version, slot: u16, i: u16
     }
 }
 
-/// Writes zeros into a block.
+/// Writes zeros to a block.
 #[tactic(auto, unfolding(crate::specs::Layout::zeros))]
 fn clear(blocks: &mut Blocks, k: u16)
     requires { k < length blocks.old.blocks }
@@ -145,8 +145,7 @@ fn clear(blocks: &mut Blocks, k: u16)
     blocks.lend_mut(k).fill(0);
 }
 
-/// Takes a free block, clears it, and writes that it is the i-th block that an inode owns. The result is
-/// the block.
+/// Allocates a free block, clears it, makes it the i-th block that an inode owns, and returns its number.
 pub(crate) fn push_block(blocks: &mut Blocks, version: Version, slot: u16, i: u16) -> u16
     requires free { free_count blocks.old ≢ 0 }
     requires home { home version slot < blocks.old.first }

@@ -1,4 +1,4 @@
--- In one program image a process gains nothing, and others keep what they have.
+-- In one program image a process gains nothing, and other processes keep their rights.
 use Rattle.std.proofs.Common.{◌≡◌, ◌≢◌, ℕ, suc, pos, negsuc, true, false, not, ◌==◌, Option, Some, refl, ap, sym, subst, ◌∙◌}
 use Rattle.std.specs.FinMap.Entries.{find, where_key}
 use Rattle.std.specs.Ordering.{nat_cmp}
@@ -14,7 +14,7 @@ use Rattle.pv_model.specs.Bytes.{Bytes}
 use Rattle.pv_model.specs.Calls.Processes.{with_program, with_result, child, end_process}
 use Rattle.pv_model.specs.Effect.{Effect, Reply, returns, returns_bytes, ends, waits}
 use Rattle.pv_model.specs.Errno.{errno_number}
-use Rattle.pv_model.specs.Held.{trim}
+use Rattle.pv_model.specs.Held.{collect}
 use Rattle.pv_model.specs.Program.{calls_for, next}
 use Rattle.pv_model.specs.State.{Program, Process, live, ended_record, State, process_at, with_process}
 use Rattle.pv_laws_states.specs.Courses.{is_unveil}
@@ -26,20 +26,20 @@ use Rattle.pv_laws_states.proofs.Processes.{process_at-same, process_at-other}
 use Rattle.pv_laws_access.specs.Growth.{MayDoNoMore, HasTheSame, IsLeftAlone, IsInOrder, begins_image}
 use Rattle.pv_laws_access.proofs.HasEffect.{HasEffect, stays, restrains, begins, closes, copies, forks, reaps, moves, cuts, writes_bytes, makes, links, unlinks, renames, opens, creates, Did, ends-stays}
 use Rattle.pv_laws_access.proofs.EffectByCall.{does-effect}
-use Rattle.pv_laws_access.proofs.Ends.{alone-itself, process_at-trim, update-live, update-other, not_next, in_order-call, ended-not_live, ended-others}
+use Rattle.pv_laws_access.proofs.Ends.{alone-itself, process_at-collect, update-live, update-other, not_next, in_order-call, ended-not_live, ended-others}
 use Rattle.pv_laws_access.proofs.Narrowing.{no_more-along, no_more-same, no_more-of_same}
 
--- ---- the caller, in what a call leaves
+-- ---- the caller after a call
 
--- a reply that begins no new image
+-- a reply that starts no new image
 abbrev IsQuiet : Call → Reply → Type 0
 IsQuiet call r = (n : ℕ) → r ≡ returns n → begins_image (calls_for call) (Value n) ≡ false
 
--- a call that is no unveil leaves the table and the lock
+-- a call other than unveil leaves the table and the lock unchanged
 abbrev pub LeavesTable : Call → Process → Process → Type 0
 LeavesTable call p q = is_unveil call ≡ false → (q.table ≡ p.table) × (q.locked ≡ p.locked)
 
--- the caller is live, and has no more unless it began a new image
+-- the caller is live, and gains nothing unless it started a new image
 abbrev HasNoMore : Process → ℕ → Call → State → Reply → Type 0
 HasNoMore me pid call after r = (q : Process) × (process_at after pid ≡ Some q) × (IsQuiet call r → MayDoNoMore me q × LeavesTable call me q)
 
@@ -50,7 +50,7 @@ module _ (s : State) (pid : ℕ) (me : Process) (call : Call) (order : IsInOrder
   becomes : (x : State) (q : Process) (r : Reply) → MayDoNoMore me q → LeavesTable call me q → HasNoMore me pid call (with_process x pid q) r
   becomes x q r no_more leaves = (q, process_at-same x pid q, λ quiet. (no_more, leaves))
 
-  -- a live process is not one that is forgotten
+  -- a live process is not a record to be removed
   pub spared : (j : ℕ) (p : Process) → process_at s j ≡ Some p → (k : ℕ) → (parent : ℕ) × (status : ℕ) × (find nat_cmp k s.processes ≡ Some (ended_record parent status))
       → process_at (record s { processes = where_key nat_cmp (λ other. not (other == k)) s.processes }) j ≡ Some p
   spared j p live_at k gone =
@@ -81,7 +81,7 @@ module _ (s : State) (pid : ℕ) (me : Process) (call : Call) (order : IsInOrder
   caller _ _ (opens flags place n m flagged allowed is fine written) = becomes s _ (returns m) (no_more-same me _ refl refl refl refl) (λ no. (refl, refl))
   caller _ _ (creates flags place p m flagged allowed create named none fine) = becomes s _ (returns m) (no_more-same me _ refl refl refl refl) (λ no. (refl, refl))
 
-  -- each other live process stays as it is
+  -- each other live process is unchanged
   pub other : (k : ℕ) (p : Process) → k ≢ pid → process_at s k ≡ Some p → (after : State) (r : Reply) → HasEffect s pid me call after r → process_at after k ≡ Some p
   other k p apart there _ _ (stays r waiting) = there
   other k p apart there _ _ (restrains q r no_more same parent table goes) = process_at-other s pid q k apart ∙ there
@@ -102,10 +102,10 @@ module _ (s : State) (pid : ℕ) (me : Process) (call : Call) (order : IsInOrder
 
 -- ---- calls
 
--- what is said of a process is kept when it is given an answer
-told : (call : Call) (me q : Process) (f : Process → Process) → HasTheSame q (f q) → MayDoNoMore me q × LeavesTable call me q → MayDoNoMore me (f q) × LeavesTable call me (f q)
-told call me q f same both =
-    (no_more-along me q (f q) both.0 (no_more-of_same q (f q) same), λ no. let kept = both.1 no in (same.table ∙ kept.0, same.locked ∙ kept.1))
+-- a property of a process that does not depend on its result registers and buffer
+reported : (call : Call) (me q : Process) (f : Process → Process) → HasTheSame q (f q) → MayDoNoMore me q × LeavesTable call me q → MayDoNoMore me (f q) × LeavesTable call me (f q)
+reported call me q f same both =
+    (no_more-along me q (f q) both.0 (no_more-of_same q (f q) same), λ no. let preserved = both.1 no in (same.table ∙ preserved.0, same.locked ∙ preserved.1))
 
 module _ (program_of : Bytes → Option Program) (s : State) (pid : ℕ) (order : IsInOrder s) (me : Process) (at : process_at s pid ≡ Some me) (call : Call) where
   abbrev x : State
@@ -133,44 +133,44 @@ module _ (program_of : Bytes → Option Program) (s : State) (pid : ℕ) (order 
   since : (q : Process) → MayDoNoMore now q × LeavesTable call now q → Leaves q
   since q both = (no_more-along me now q (no_more-same me now refl refl refl refl) both.0, both.1)
 
-  kept-told : (after : State) (r : Reply) (f : Process → Process) → ((p : Process) → HasTheSame p (f p)) → HasNoMore now pid call after r → IsQuiet call r
-      → (q : Process) → process_at (trim (update after pid f)) pid ≡ Some q → Leaves q
-  kept-told after r f same has quiet q there =
-      let is : Some (f has.0) ≡ Some q = sym (process_at-trim (update after pid f) pid ∙ update-live after pid f has.0 has.1) ∙ there in
+  preserved-reported : (after : State) (r : Reply) (f : Process → Process) → ((p : Process) → HasTheSame p (f p)) → HasNoMore now pid call after r → IsQuiet call r
+      → (q : Process) → process_at (collect (update after pid f)) pid ≡ Some q → Leaves q
+  preserved-reported after r f same has quiet q there =
+      let is : Some (f has.0) ≡ Some q = sym (process_at-collect (update after pid f) pid ∙ update-live after pid f has.0 has.1) ∙ there in
       let eq : f has.0 ≡ q = cc is in
-      subst Leaves eq (since (f has.0) (told call now has.0 f (same has.0) (has.2 quiet)))
+      subst Leaves eq (since (f has.0) (reported call now has.0 f (same has.0) (has.2 quiet)))
 
-  ended : (after : State) (status : ℕ) → HasEffect x pid now call after (ends status) → (q : Process) → process_at (trim (end_process after pid now status)) pid ≡ Some q → Leaves q
+  ended : (after : State) (status : ℕ) → HasEffect x pid now call after (ends status) → (q : Process) → process_at (collect (end_process after pid now status)) pid ≡ Some q → Leaves q
   ended after status does q there =
       let same = ends-stays x pid now call after (ends status) status does refl in
       absurd (ended-not_live x pid now status x_order.ascending q
-      (subst (λ (y : State). process_at (end_process y pid now status) pid ≡ Some q) same (sym (process_at-trim (end_process after pid now status) pid) ∙ there)))
+      (subst (λ (y : State). process_at (end_process y pid now status) pid ≡ Some q) same (sym (process_at-collect (end_process after pid now status) pid) ∙ there)))
 
-  kept-attempt : (a : Attempt Effect) → Leads (Did x pid now call) a → Keeps (answer_by_attempt s x pid now a)
-  kept-attempt (done walks (after, returns n)) does q there quiet =
-      kept-told after (returns n) (λ p. with_result p (pos n) 0) (λ p. record { promises = refl; execpromises = refl; table = refl; locked = refl; descriptors = refl })
+  preserved-attempt : (a : Attempt Effect) → Leads (Did x pid now call) a → Keeps (answer_by_attempt s x pid now a)
+  preserved-attempt (done walks (after, returns n)) does q there quiet =
+      preserved-reported after (returns n) (λ p. with_result p (pos n) 0) (λ p. record { promises = refl; execpromises = refl; table = refl; locked = refl; descriptors = refl })
       (caller x pid now call x_order x_at after (returns n) does) (λ m is. let same : n ≡ m = cc is in ap (λ k. begins_image (calls_for call) (Value k)) (sym same) ∙ quiet) q there
-  kept-attempt (done walks (after, returns_bytes n bytes)) does q there quiet =
-      kept-told after (returns_bytes n bytes) (λ p. with_front bytes (with_result p (pos n) 0)) (λ p. record { promises = refl; execpromises = refl; table = refl; locked = refl; descriptors = refl })
+  preserved-attempt (done walks (after, returns_bytes n bytes)) does q there quiet =
+      preserved-reported after (returns_bytes n bytes) (λ p. with_front bytes (with_result p (pos n) 0)) (λ p. record { promises = refl; execpromises = refl; table = refl; locked = refl; descriptors = refl })
       (caller x pid now call x_order x_at after (returns_bytes n bytes) does) (λ m is. cc is) q there
-  kept-attempt (done walks (after, ends status)) does q there quiet = ended after status does q there
-  kept-attempt (done walks (after, waits)) does q there quiet = let is : Some me ≡ Some q = sym at ∙ there in let same : me ≡ q = cc is in subst Leaves same (as-was me (record { promises = refl; execpromises = refl; table = refl; locked = refl; descriptors = refl }))
-  kept-attempt (refused walks errno cause) does q there quiet = refused-keeps errno q there
+  preserved-attempt (done walks (after, ends status)) does q there quiet = ended after status does q there
+  preserved-attempt (done walks (after, waits)) does q there quiet = let is : Some me ≡ Some q = sym at ∙ there in let same : me ≡ q = cc is in subst Leaves same (as-was me (record { promises = refl; execpromises = refl; table = refl; locked = refl; descriptors = refl }))
+  preserved-attempt (refused walks errno cause) does q there quiet = refused-keeps errno q there
     where
       refused-keeps : (errno : Errno) (q : Process) → process_at (update x pid (λ p. with_result p (negsuc 0) (errno_number errno))) pid ≡ Some q → Leaves q
       refused-keeps errno q there =
           let is : Some (with_result now (negsuc 0) (errno_number errno)) ≡ Some q = sym (update-live x pid (λ p. with_result p (negsuc 0) (errno_number errno)) now x_at) ∙ there in
           let same : with_result now (negsuc 0) (errno_number errno) ≡ q = cc is in subst Leaves same (as-was (with_result now (negsuc 0) (errno_number errno)) (record { promises = refl; execpromises = refl; table = refl; locked = refl; descriptors = refl }))
 
-  pub kept : Keeps (answer program_of s pid call)
-  kept =
+  pub preserved : Keeps (answer program_of s pid call)
+  preserved =
       by_answer Keeps program_of s pid call
       (λ none. cc)
       (λ p is missing. let same : p ≡ me = cc in subst (λ (y : Process). Keeps (answer_by_attempt s (at_call s pid y) pid (at_next_line y) (effect program_of (at_call s pid y) pid (at_next_line y) call))) (sym same)
-      (kept-attempt (effect program_of x pid now call) (does-effect program_of x pid now call)))
+      (preserved-attempt (effect program_of x pid now call) (does-effect program_of x pid now call)))
       (λ p lacks is missing lenient. let same : p ≡ me = cc in subst (λ (y : Process). Keeps (answer_by_attempt s (at_call s pid y) pid (at_next_line y) (refused 0 ENOSYS (ByPromise lacks)))) (sym same)
-      (kept-attempt (refused 0 ENOSYS (ByPromise lacks)) tt))
-      (λ p lacks is missing lenient q there quiet. absurd (ended-not_live s pid (at_next_line p) 6 order.ascending q (sym (process_at-trim (end_process s pid (at_next_line p) 6) pid) ∙ there)))
+      (preserved-attempt (refused 0 ENOSYS (ByPromise lacks)) tt))
+      (λ p lacks is missing lenient q there quiet. absurd (ended-not_live s pid (at_next_line p) 6 order.ascending q (sym (process_at-collect (end_process s pid (at_next_line p) 6) pid) ∙ there)))
 
   -- ---- others
 
@@ -182,24 +182,24 @@ module _ (program_of : Bytes → Option Program) (s : State) (pid : ℕ) (order 
     x_there : process_at x k ≡ Some p
     x_there = process_at-other s pid now k apart ∙ there
 
-    other-told : (after : State) (r : Reply) (f : Process → Process) → HasEffect x pid now call after r → KeepsOther k p (record { after = trim (update after pid f); outcome = Gone; walks = 0 })
-    other-told after r f does =
-        (p, process_at-trim (update after pid f) k ∙ update-other after pid f k apart ∙ other x pid now call x_order x_at k p apart x_there after r does, alone-itself p)
+    other-reported : (after : State) (r : Reply) (f : Process → Process) → HasEffect x pid now call after r → KeepsOther k p (record { after = collect (update after pid f); outcome = Gone; walks = 0 })
+    other-reported after r f does =
+        (p, process_at-collect (update after pid f) k ∙ update-other after pid f k apart ∙ other x pid now call x_order x_at k p apart x_there after r does, alone-itself p)
 
-    other-ended : (after : State) (status : ℕ) → process_at after k ≡ Some p → KeepsOther k p (record { after = trim (end_process after pid now status); outcome = Gone; walks = 0 })
+    other-ended : (after : State) (status : ℕ) → process_at after k ≡ Some p → KeepsOther k p (record { after = collect (end_process after pid now status); outcome = Gone; walks = 0 })
     other-ended after status stays_there =
         let left = ended-others after pid now status k p apart stays_there in
-        (left.0, process_at-trim (end_process after pid now status) k ∙ left.1, left.2)
+        (left.0, process_at-collect (end_process after pid now status) k ∙ left.1, left.2)
 
     other-attempt : (a : Attempt Effect) → Leads (Did x pid now call) a → KeepsOther k p (answer_by_attempt s x pid now a)
-    other-attempt (done walks (after, returns n)) does = other-told after (returns n) (λ p. with_result p (pos n) 0) does
-    other-attempt (done walks (after, returns_bytes n bytes)) does = other-told after (returns_bytes n bytes) (λ p. with_front bytes (with_result p (pos n) 0)) does
+    other-attempt (done walks (after, returns n)) does = other-reported after (returns n) (λ p. with_result p (pos n) 0) does
+    other-attempt (done walks (after, returns_bytes n bytes)) does = other-reported after (returns_bytes n bytes) (λ p. with_front bytes (with_result p (pos n) 0)) does
     other-attempt (done walks (after, ends status)) does = other-ended after status (other x pid now call x_order x_at k p apart x_there after (ends status) does)
     other-attempt (done walks (after, waits)) does = (p, there, alone-itself p)
     other-attempt (refused walks errno cause) does = (p, update-other x pid (λ q. with_result q (negsuc 0) (errno_number errno)) k apart ∙ x_there, alone-itself p)
 
-    pub other-kept : KeepsOther k p (answer program_of s pid call)
-    other-kept =
+    pub other-preserved : KeepsOther k p (answer program_of s pid call)
+    other-preserved =
         by_answer (KeepsOther k p) program_of s pid call
         (λ none. (p, there, alone-itself p))
         (λ y is missing. let same : y ≡ me = cc in subst (λ (y : Process). KeepsOther k p (answer_by_attempt s (at_call s pid y) pid (at_next_line y) (effect program_of (at_call s pid y) pid (at_next_line y) call))) (sym same)
@@ -208,4 +208,4 @@ module _ (program_of : Bytes → Option Program) (s : State) (pid : ℕ) (order 
         (other-attempt (refused 0 ENOSYS (ByPromise lacks)) tt))
         (λ y lacks is missing lenient.
         let left = ended-others s pid (at_next_line y) 6 k p apart there in
-        (left.0, process_at-trim (end_process s pid (at_next_line y) 6) k ∙ left.1, left.2))
+        (left.0, process_at-collect (end_process s pid (at_next_line y) 6) k ∙ left.1, left.2))

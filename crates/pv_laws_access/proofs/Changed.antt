@@ -1,15 +1,15 @@
--- What changes of a tree leave of entries and of files.
+-- Entries and files after changes of trees.
 use Rattle.std.proofs.Common.{◌≡◌, ◌≢◌, ℕ, zero, suc, ◌<◌, ◌≤◌, Bool, true, false, [], ◌∷◌, length, Option, None, Some, refl, ap, sym, ◌∙◌, ⊎_elim, ◌⊎◌, inl, inr, arith, suc-le-suc, zero-le}
 use Rattle.std.specs.FinMap.Entries.{find, put}
 use Rattle.std.proofs.lemmas.Bool.{cases_eq}
 use Rattle.pv_model.specs.Bytes.{Bytes}
 use Rattle.pv_model.specs.Calls.Descriptors.{with_content_of, with_content}
-use Rattle.pv_model.specs.Held.{among, trim}
+use Rattle.pv_model.specs.Held.{among, collect}
 use Rattle.pv_model.specs.Numbered.{Numbered, with_number, keep_if}
 use Rattle.pv_model.specs.Sealed.{is_file}
 use Rattle.pv_model.specs.State.{State}
 use Rattle.pv_model.specs.Tree.{Node, directory_node, file_node, link_node, Tree, node_at, entries_of, entries_at, is_directory, is_directory_at, find_entry, with_node, with_entry, without_entry, new_number, with_new_node}
-use Rattle.pv_laws_trees.specs.Kept.{wanted}
+use Rattle.pv_laws_trees.specs.Preserved.{wanted}
 use Rattle.pv_laws_states.specs.States.{IsTree}
 use Rattle.pv_laws_trees.proofs.Changes.{cases_name, node_at-same, node_at-other, directory-below, entries-beside, found-with_beside, found-with_other, found-without_beside, found-without_other}
 use Rattle.pv_laws_trees.proofs.Edits.{new_number-free}
@@ -17,15 +17,15 @@ use Rattle.pv_laws_states.proofs.Grown.{directory-no_file}
 use Rattle.pv_laws_trees.proofs.Numbered.{at_number-below, at_number-keep}
 use Rattle.pv_laws_trees.proofs.Entries.{by_name}
 use Rattle.pv_laws_trees.proofs.Trees.{sound}
-use Rattle.pv_laws_states.proofs.Trim.{held_after, tree-trim}
+use Rattle.pv_laws_states.proofs.Collect.{held_after, tree-collect}
 use Rattle.pv_laws_trees.proofs.Keeping.{find-only, wanted-covers}
 
--- an entry is the one, or another
+-- an entry is this one, or another
 pub cases_entry : (e d : ℕ) (q name : Bytes) → ((e ≡ d) × (q ≡ name)) ⊎ ((e ≡ d) → (q ≡ name) → ⊥)
 cases_entry e d q name =
     ⊎_elim (λ here. ⊎_elim (λ same. inl (here, same)) (λ other. inr (λ _ same. other same)) (cases_name q name)) (λ away. inr (λ here _. away here)) (cases_eq e d)
 
--- ---- a file's bytes
+-- ---- the bytes of a file
 
 pub content-other : (t : Tree) (f : ℕ) (bytes : Bytes) (n : ℕ) → n ≢ f → node_at (with_content t f bytes) n ≡ node_at t n
 content-other t f bytes n other = by (node_at t f) refl
@@ -51,7 +51,7 @@ entries-content t f bytes d = by (node_at t f) refl
 
 -- ---- entries
 
--- a directory's node is no file's
+-- a directory's node is not a file
 pub file-beside : (t : Tree) (d : ℕ) (node : Node) (f : ℕ) → is_directory_at t d ≡ true → is_file (node_at t f) ≡ true → node_at (with_node t d node) f ≡ node_at t f
 file-beside t d node f dir file =
     node_at-other t d node f (directory-below t d dir) (λ same. let isnt : is_file (node_at t f) ≡ false = ap (λ n. is_file (node_at t n)) same ∙ directory-no_file (node_at t d) dir in cc)
@@ -77,19 +77,19 @@ length-grows [] n v = zero-le
 length-grows (x ∷ xs) zero v = omega arith
 length-grows (x ∷ xs) (suc n) v = suc-le-suc (length-grows xs n v)
 
-below-kept : {X : Type 0} (xs : Numbered X) (n : ℕ) (v : X) → length (with_number xs n v) ≡ length xs → n < length xs
-below-kept [] n v long = absurd (omega arith)
-below-kept (x ∷ xs) zero v long = suc-le-suc zero-le
-below-kept (x ∷ xs) (suc n) v long = suc-le-suc (below-kept xs n v (omega arith))
+below-preserved : {X : Type 0} (xs : Numbered X) (n : ℕ) (v : X) → length (with_number xs n v) ≡ length xs → n < length xs
+below-preserved [] n v long = absurd (omega arith)
+below-preserved (x ∷ xs) zero v long = suc-le-suc zero-le
+below-preserved (x ∷ xs) (suc n) v long = suc-le-suc (below-preserved xs n v (omega arith))
 
--- where the numbers stay as many, the new one is among them
+-- if the number of inodes stays the same, the new node is among them
 pub new-within : (t : Tree) (p : ℕ × Bytes) (node : Node) → length (with_new_node t p.0 p.1 node).nodes ≡ length t.nodes → new_number t < length t.nodes
 new-within t p node long =
     let t1 : Tree = with_node t (new_number t) node in
     let first = length-grows t.nodes (new_number t) node in
     let second : length t1.nodes ≤ length (with_new_node t p.0 p.1 node).nodes =
     length-grows t1.nodes p.0 (directory_node (put by_name p.1 (new_number t) (entries_at t1 p.0))) in
-    below-kept t.nodes (new_number t) node (omega arith)
+    below-preserved t.nodes (new_number t) node (omega arith)
 
 module _ (t : Tree) (p : ℕ × Bytes) (node : Node) (dir : is_directory_at t p.0 ≡ true) (bare : entries_of (Some node) ≡ []) (below : new_number t < length t.nodes) where
   abbrev m : ℕ
@@ -119,17 +119,17 @@ module _ (t : Tree) (p : ℕ × Bytes) (node : Node) (dir : is_directory_at t p.
       node_at-other t m node f below (λ same. let isnt : is_file (node_at t f) ≡ false = ap (λ n. is_file (node_at t n)) same ∙ ap is_file (new_number-free t) in cc) in
       file-beside t1 p.0 _ f dir_one (ap is_file old ∙ file) ∙ old
 
--- ---- what is trimmed
+-- ---- collection
 
-pub entry-trim : (s : State) → IsTree s.tree → (d : ℕ) (name : Bytes) → find_entry (trim s).tree d name ≡ find_entry s.tree d name
-entry-trim s tree d name =
-    ap (λ (t : Tree). find_entry t d name) (tree-trim s) ∙ find-only s.tree (wanted s.tree (held_after s)) (sound s.tree tree.well_formed) (wanted-covers s.tree (held_after s)) d name
+pub entry-collect : (s : State) → IsTree s.tree → (d : ℕ) (name : Bytes) → find_entry (collect s).tree d name ≡ find_entry s.tree d name
+entry-collect s tree d name =
+    ap (λ (t : Tree). find_entry t d name) (tree-collect s) ∙ find-only s.tree (wanted s.tree (held_after s)) (sound s.tree tree.well_formed) (wanted-covers s.tree (held_after s)) d name
 
--- a file that is there was as it is
-pub file-trim : (s : State) (f : ℕ) → is_file (node_at (trim s).tree f) ≡ true → node_at (trim s).tree f ≡ node_at s.tree f
-file-trim s f file =
-    let kept = ap (λ (t : Tree). node_at t f) (tree-trim s) ∙ at_number-keep (among (wanted s.tree (held_after s))) s.tree.nodes f in
-    kept ∙ by (among (wanted s.tree (held_after s)) f) (node_at s.tree f) (ap is_file (sym kept) ∙ file)
+-- a file that remains after collection is unchanged
+pub file-collect : (s : State) (f : ℕ) → is_file (node_at (collect s).tree f) ≡ true → node_at (collect s).tree f ≡ node_at s.tree f
+file-collect s f file =
+    let preserved = ap (λ (t : Tree). node_at t f) (tree-collect s) ∙ at_number-keep (among (wanted s.tree (held_after s))) s.tree.nodes f in
+    preserved ∙ by (among (wanted s.tree (held_after s)) f) (node_at s.tree f) (ap is_file (sym preserved) ∙ file)
   where
     by : (b : Bool) (o : Option Node) → is_file (keep_if b o) ≡ true → keep_if b o ≡ o
     by true o is = refl

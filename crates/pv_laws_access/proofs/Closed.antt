@@ -1,4 +1,4 @@
--- What a process that is closed to a file, or can't write it, lacks: what would justify a touch.
+-- A process that is closed to a file, or cannot write it, lacks everything that would justify a touch of it.
 use Rattle.std.proofs.Common.{◌≡◌, ◌≢◌, ℕ, zero, suc, ◌+◌, ◌<◌, ℤ, pos, negsuc, Bool, true, false, cond, not, ◌&&◌, ◌||◌, if◌then◌else◌, ◌==◌, List, [], ◌∷◌, ◌++◌, map, filter, flat_map, length, Option, None, Some, option_map, Ok, Err, refl, ap, sym, subst, ◌∙◌, ◌⊎◌, inl, inr, ⊎_elim, arith}
 use Rattle.std.specs.List.{cons_option, list_all}
 use Rattle.std.specs.Prelude.{Contains, filter_map, slice_index_or}
@@ -38,7 +38,7 @@ use Rattle.pv_model.specs.Touch.{with_bytes, file_bytes, read_file, change_file,
 use Rattle.pv_model.specs.Tree.{Entries, Node, directory_node, file_node, link_node, Tree, root, node_at, entries_of, is_directory, is_directory_at, find_entry, parent, names_in, names_of}
 use Rattle.pv_model.specs.Unveil.{Table, permissions_at, directory_rights, judge_entry, governing_entry, judgement}
 use Rattle.pv_model.specs.Walk.{Walked, is_absolute, resolve, follows_last}
-use Rattle.pv_laws_states.specs.States.{IsWhole}
+use Rattle.pv_laws_states.specs.States.{IsValid}
 use Rattle.pv_laws_trees.specs.Tree.{IsSound}
 use Rattle.pv_laws_trees.specs.Walk
 use Rattle.pv_laws_trees.proofs.Entries.{by_name, tied-same}
@@ -53,7 +53,7 @@ use Rattle.pv_model.specs.Walks.{Walk, follow_of, open_walk, walks_of}
 
 -- ---- lists
 
--- what passes for every live process passes for one
+-- a property of every live process holds for one
 pub live-passes : (test : Process → Bool) (pid : ℕ) (p : Process) (rs : List (ℕ × ProcessRecord)) → find nat_cmp pid rs ≡ Some (live p)
     → list_all (λ (e : ℕ × Process). test e.1) (live_processes rs) ≡ true → test p ≡ true
 live-passes test pid p [] is all = cc
@@ -65,7 +65,7 @@ live-passes test pid p ((k, live q) ∷ rs) is all =
 live-passes test pid p ((k, ended_record parent status) ∷ rs) is all =
     find_number_cases (test p ≡ true) pid (live p) (k, ended_record parent status) rs is (λ same value. cc value) (λ there. live-passes test pid p rs there all)
 
--- where none that stands under a number passes, the one under this number does not
+-- if no value of a map passes a test, the value for a number does not
 none-numbered : {X Y : Type 0} (test : X → Bool) (g : ℕ × X → Y) (k : ℕ) (xs : Numbered X) (i : ℕ) (x : X)
     → is_empty (map g (filter (λ (d : ℕ × X). test d.1) (numbered_from k xs))) ≡ true → at_number xs i ≡ Some x → test x ≡ false
 none-numbered test g k [] i x none is = cc
@@ -89,7 +89,7 @@ gives_none test (Some k) = not (test k)
 abbrev after_it : (ℕ × Bytes → Option ℕ) → List (ℕ × Bytes) → List ℕ
 after_it g ns = filter_map (λ (k : Option ℕ). k) (map g ns)
 
--- where no entry that governs passes, none that governs a name does
+-- if no governing entry passes a test, no entry that governs a name does
 none-given : (g : ℕ × Bytes → Option ℕ) (test : ℕ → Bool) (ns : List (ℕ × Bytes))
     → is_empty (filter test (filter_map (λ (k : Option ℕ). k) (map g ns))) ≡ true → list_all (λ (n : ℕ × Bytes). gives_none test (g n)) ns ≡ true
 none-given g test [] none = refl
@@ -106,7 +106,7 @@ none-given g test (n ∷ ns) none = by (λ empty. none-given g test ns empty) (g
 abbrev AllIn : (ℕ × Bytes → Bool) → ℕ → ℕ → Bytes × ℕ → Entries → Bool → Type 0
 AllIn Q n d e es b = list_all Q (map (λ (x : Bytes × ℕ). (d, x.0)) (cond b (e ∷ filter (λ (x : Bytes × ℕ). x.1 == n) es) (filter (λ (x : Bytes × ℕ). x.1 == n) es))) ≡ true
 
--- what passes for all names of a node passes for that of an entry
+-- a property of all names of a node holds for the name of an entry
 in-passes : (Q : ℕ × Bytes → Bool) (n d : ℕ) (es : Entries) (name : Bytes) → list_all Q (names_in n es d) ≡ true → find by_name name es ≡ Some n → Q (d, name) ≡ true
 in-passes Q n d [] name all is = cc
 in-passes Q n d (e ∷ es) name all is =
@@ -186,8 +186,8 @@ module _ (t : Tree) (s : IsSound t) (f : ℕ) (file : is_directory_at t f ≡ fa
   walks-named last _ _ _ _ _ (Walk.Walks.no_parent links component rest mark at is up) apart = tt
   walks-named last _ _ _ _ _ (Walk.Walks.name_too_long links component rest mark at dot dots long) apart = tt
   walks-named last _ _ _ _ _ (Walk.Walks.in_removed links component rest mark at name is) apart = tt
-  walks-named last _ _ _ _ _ (Walk.Walks.absent links component rest mark at name stands none more) apart = tt
-  walks-named last _ _ _ _ _ (Walk.Walks.vacant links component at name stands none) apart = tt
+  walks-named last _ _ _ _ _ (Walk.Walks.absent links component rest mark at name appears none more) apart = tt
+  walks-named last _ _ _ _ _ (Walk.Walks.vacant links component at name appears none) apart = tt
   walks-named last _ _ _ _ _ (Walk.Walks.out_of_links component rest mark at n text leads followed) apart = tt
   walks-named last _ _ _ _ _ (Walk.Walks.too_heavy links component rest mark at n text leads followed heavy) apart = tt
   walks-named last _ _ _ _ _ (Walk.Walks.through links component rest mark at n text r leads followed light more) apart =
@@ -200,7 +200,7 @@ module _ (t : Tree) (s : IsSound t) (f : ℕ) (file : is_directory_at t f ≡ fa
   walks-named last _ _ _ _ _ (Walk.Walks.finds_file links component at n executable bytes leads) apart = leads.entry
   walks-named last _ _ _ _ _ (Walk.Walks.finds_link links component rest mark at n text leads followed) apart = leads.entry
   walks-named last _ _ _ _ _ (Walk.Walks.wants_directory links component at n executable bytes leads) apart = tt
-  walks-named last _ _ _ _ _ (Walk.Walks.lost links component rest mark at n name stands found none) apart = tt
+  walks-named last _ _ _ _ _ (Walk.Walks.lost links component rest mark at n name appears found none) apart = tt
 
   resolve-named : (follow : Follow) (start : ℕ) (path : Bytes) → start ≢ f → IsByName t f (resolve t follow start path)
   resolve-named follow start path apart = by (resolve t follow start path) (resolve-resolves t follow start path)
@@ -277,7 +277,7 @@ covers-w l ReadMode c is has = cc is
 covers-w l WriteMode c is has = or_one l.w (w-part l (join_permissions (permissions_of_mode WriteMode) c) has)
 covers-w l ReadWrite c is has = or_one l.w (w-part l (join_permissions (permissions_of_mode ReadWrite) c) has)
 
--- a promise that is not held is missed
+-- a promise that is not held is missing
 pub lacking : (held : Promises) (q : Promise) (rest : List Need) → contains held q ≡ false → missing_promise (Some held) ((q ∷ []) ∷ rest) ≡ None → ⊥
 lacking held q rest hasnt is =
     let bad : ◌≡◌ {A = Option Promise} (Some q) None = ap (λ b. if (b || false) then missing_promise (Some held) rest else Some q) (sym hasnt) ∙ is in cc bad
@@ -321,8 +321,8 @@ abbrev file_or : OpenFile → Option (ℕ × OpenFile) → OpenFile
 file_or other None = other
 file_or other (Some found) = found.1
 
-module _ (s : State) (whole : IsWhole s) (p : Process) (f : ℕ) (file : is_directory_at s.tree f ≡ false) where
-  -- a descriptor on the file whose mode passes, where the process has none
+module _ (s : State) (whole : IsValid s) (p : Process) (f : ℕ) (file : is_directory_at s.tree f ≡ false) where
+  -- no descriptor on the file has a mode that passes
   no-descriptor : (test : Mode → Bool) → is_empty (Sealed.descriptors_on s p f test) ≡ true
       → (d : ℤ) (k : ℕ) (o : OpenFile) → open_file s p d ≡ Some (k, o) → o.node ≡ f → test o.mode ≡ true → ⊥
   no-descriptor test none (negsuc d) k o is node mode = cc is
@@ -343,7 +343,7 @@ module _ (s : State) (whole : IsWhole s) (p : Process) (f : ℕ) (file : is_dire
       by None at is = cc is
       by (Some x) at is = at_file x at (at_number s.files x.file) refl is
 
-  -- no entry that gives the file passes a test, so no name of it is allowed for what needs it
+  -- if no entry that governs a name of the file passes a test, no name is allowed for permissions that need it
   no-permissions : (table : Table) (test : Perms → Bool) (needed : Perms) → ((l : Perms) → covers l needed ≡ true → test l ≡ true) → is_empty (Sealed.giving s p f test table) ≡ true
       → (d : ℕ) (name : Bytes) → find_entry s.tree d name ≡ Some f → judgement s.tree (Some table) (At d name (Some f)) needed ≡ Allowed → ⊥
   unfolding judgement governing_entry
@@ -359,7 +359,7 @@ module _ (s : State) (whole : IsWhole s) (p : Process) (f : ℕ) (file : is_dire
       let no : not (test (permissions_at table by.0)) ≡ true = ap (gives_none (λ (k : ℕ). test (permissions_at table k))) (sym by.1) ∙ here in
       let bad : false ≡ true = ap not (sym yes) ∙ no in cc bad
 
-  -- a place of the only walk of a call from elsewhere, with the file there, is a name of it
+  -- the place of a call's only walk, if the file is there, is a name of it
   named : (follow : Follow) (start : ℕ) (path : Bytes) → start ≢ f → (place : Place)
       → Contains (cons_option (place_found (resolve s.tree follow start path)) []) place → node_of place ≡ Some f
       → (d : ℕ) × (name : Bytes) × (place ≡ At d name (Some f)) × (find_entry s.tree d name ≡ Some f)
@@ -373,7 +373,7 @@ module _ (s : State) (whole : IsWhole s) (p : Process) (f : ℕ) (file : is_dire
       by (At d name (Some n)) entry is =
           let same : n ≡ f = cc is in (d, name, ap (λ m. At d name (Some m)) same, entry ∙ ap Some same)
 
-  -- what is tested of a process that is closed: the descriptors, and the promises or the table
+  -- the results of the test for closed: the descriptors, and the promises or the table
   record IsShut : Type 0 where
     descriptors : is_empty (Sealed.descriptors_on s p f reads) ≡ true
     restraints : (Sealed.is_pledged_without (Rpath ∷ ExecPromise ∷ Cpath ∷ []) p ≡ true) ⊎ (is_empty (Sealed.leaks_of_table s p f p.table) ≡ true)
@@ -389,7 +389,7 @@ module _ (s : State) (whole : IsWhole s) (p : Process) (f : ℕ) (file : is_dire
       by true none = inl refl
       by false none = inr none
 
-  -- a closed table allows no name of the file for what needs an opening permission
+  -- a closed table allows no name of the file for permissions that open it
   no-opening : (needed : Perms) → ((l : Perms) → covers l needed ≡ true → opening_permissions l ≡ true)
       → (o : Option Table) → is_empty (Sealed.leaks_of_table s p f o) ≡ true
       → (d : ℕ) (name : Bytes) → find_entry s.tree d name ≡ Some f → judgement s.tree o (At d name (Some f)) needed ≡ Allowed → ⊥
@@ -400,7 +400,7 @@ module _ (s : State) (whole : IsWhole s) (p : Process) (f : ℕ) (file : is_dire
       (empty-left _ (Sealed.least_first Above (Sealed.above s p f table)) (empty-left _ (Sealed.when (not (Sealed.is_held_over_exec s p f)) Exec) none))))
       d name found allowed
 
-  -- nothing justifies that it reads the file
+  -- nothing justifies a read of the file
   unread : IsShut → (pid : ℕ) → process_at s pid ≡ Some p → (call : Call) → missing_promise p.promises (needs call) ≡ None → Justifies s p call (read_file f) → ⊥
   unfolding needs
   unread c pid at call held (read_by_descriptor _ has) = no-descriptor reads c.descriptors has.0 has.1 has.2 has.4 has.5 has.6
@@ -414,21 +414,21 @@ module _ (s : State) (whole : IsWhole s) (p : Process) (f : ℕ) (file : is_dire
       (λ none. no-opening permission_x covers-x p.table none n.0 n.1 n.3 judged)
       c.restraints
 
-  -- ---- and can't write it
+  -- ---- a process that cannot write the file
 
-  record IsKept : Type 0 where
+  record IsPreserved : Type 0 where
     descriptors : is_empty (Sealed.descriptors_on s p f writes) ≡ true
-    restraints : (Sealed.is_pledged_without (Wpath ∷ ExecPromise ∷ []) p ≡ true) ⊎ (Sealed.is_kept_by_table s p f p.table ≡ true)
+    restraints : (Sealed.is_pledged_without (Wpath ∷ ExecPromise ∷ []) p ≡ true) ⊎ (Sealed.is_preserved_by_table s p f p.table ≡ true)
 
-  kept : Sealed.is_frozen_to s p f ≡ true → IsKept
+  preserved : Sealed.is_frozen_to s p f ≡ true → IsPreserved
   unfolding Sealed.is_frozen_to
-  kept is =
+  preserved is =
       let parts = and_parts (is_empty (Sealed.descriptors_on s p f writes)) _ is in
-      record { descriptors = parts.0; restraints = or_cases (Sealed.is_pledged_without (Wpath ∷ ExecPromise ∷ []) p) (Sealed.is_kept_by_table s p f p.table) parts.1 }
+      record { descriptors = parts.0; restraints = or_cases (Sealed.is_pledged_without (Wpath ∷ ExecPromise ∷ []) p) (Sealed.is_preserved_by_table s p f p.table) parts.1 }
 
-  -- a table that keeps the file allows no name of it for what needs w
+  -- such a table allows no name of the file for permissions that include w
   no-w : (needed : Perms) → ((l : Perms) → covers l needed ≡ true → l.w ≡ true)
-      → (o : Option Table) → Sealed.is_kept_by_table s p f o ≡ true
+      → (o : Option Table) → Sealed.is_preserved_by_table s p f o ≡ true
       → (d : ℕ) (name : Bytes) → find_entry s.tree d name ≡ Some f → judgement s.tree o (At d name (Some f)) needed ≡ Allowed → ⊥
   no-w needed passes None is d name found allowed = cc is
   no-w needed passes (Some table) is d name found allowed =
@@ -436,7 +436,7 @@ module _ (s : State) (whole : IsWhole s) (p : Process) (f : ℕ) (file : is_dire
       no-permissions table (λ permissions. permissions.w) needed passes
       (and_parts p.locked giving (and_parts (p.locked && giving) (Sealed.is_held_over_exec s p f) is).0).1 d name found allowed
 
-  -- an open walks from elsewhere, where the process has no descriptor on the file
+  -- an open walks to the file, on which the process has no descriptor
   record IsOpening (call : Call) (flags : OpenFlags) : Type 0 where
     start : Start
     path : Bytes
@@ -444,7 +444,7 @@ module _ (s : State) (whole : IsWhole s) (p : Process) (f : ℕ) (file : is_dire
     walk : walks_of call ≡ open_walk start path flags ∷ []
     need : needs call ≡ needs_of_mode flags.mode ++ (if flags.create then needs_cpath else [])
 
-  module _ (c : IsShut) (k : IsKept) (pid : ℕ) (at : process_at s pid ≡ Some p) where
+  module _ (c : IsShut) (k : IsPreserved) (pid : ℕ) (at : process_at s pid ≡ Some p) where
     by_mode : (m : Mode) → (reads m ≡ true) ⊎ (writes m ≡ true)
     by_mode ReadMode = inl refl
     by_mode WriteMode = inr refl
@@ -463,7 +463,7 @@ module _ (s : State) (whole : IsWhole s) (p : Process) (f : ℕ) (file : is_dire
     start-apart (AtDescriptor d) path =
         elim (is_absolute path) as (λ b. cond b p.directory (directory_of_file p (open_file s p d)) ≢ f) [ true ↦ here | false ↦ of_file d (open_file s p d) refl ]
 
-  opening : IsShut → IsKept → (pid : ℕ) → process_at s pid ≡ Some p → (call : Call) (flags : OpenFlags) → flags_of call ≡ Some flags → IsOpening call flags
+  opening : IsShut → IsPreserved → (pid : ℕ) → process_at s pid ≡ Some p → (call : Call) (flags : OpenFlags) → flags_of call ≡ Some flags → IsOpening call flags
   unfolding needs
   opening c k pid at (TheCall.Exit x) flags is = cc is
   opening c k pid at TheCall.GetPid flags is = cc is
@@ -499,8 +499,8 @@ module _ (s : State) (whole : IsWhole s) (p : Process) (f : ℕ) (file : is_dire
       subst (λ (h : OpenFlags). IsOpening (TheCall.OpenAt start path g) h) (ap (flags_or g) is)
       (record { start = start; path = path; apart = start-apart c k pid at start path; walk = refl; need = refl })
 
-  -- nothing justifies that it changes the file
-  unchanged : IsShut → IsKept → (pid : ℕ) → process_at s pid ≡ Some p → (call : Call) → missing_promise p.promises (needs call) ≡ None → Justifies s p call (change_file f) → ⊥
+  -- nothing justifies a change of the file
+  unchanged : IsShut → IsPreserved → (pid : ℕ) → process_at s pid ≡ Some p → (call : Call) → missing_promise p.promises (needs call) ≡ None → Justifies s p call (change_file f) → ⊥
   unchanged c k pid at call held (change_by_descriptor _ has) = no-descriptor writes k.descriptors has.0 has.1 has.2 has.4 has.5 has.6
   unchanged c k pid at call held (change_by_open flags place _ flagged cut allowed node) =
       let o = opening c k pid at call flags flagged in
@@ -523,30 +523,30 @@ file-plain (Some (directory_node es)) is = cc is
 file-plain (Some (file_node executable bytes)) is = refl
 file-plain (Some (link_node text)) is = cc is
 
-sealed-closed : (s : State) (whole : IsWhole s) (f : ℕ) (file : is_directory_at s.tree f ≡ false) → Sealed.is_sealed s f ≡ true
+sealed-closed : (s : State) (whole : IsValid s) (f : ℕ) (file : is_directory_at s.tree f ≡ false) → Sealed.is_sealed s f ≡ true
     → (pid : ℕ) (p : Process) → process_at s pid ≡ Some p → IsShut s whole p f file
 sealed-closed s whole f file shut pid p at =
     closed s whole p f file (live-passes (λ (q : Process). is_empty (Sealed.leaks s q f)) pid p s.processes (live-found s pid p at) (and_parts _ _ shut).1)
 
-pub sealed-not_read : (program_of : Bytes → Option Program) (s : State) (pid : ℕ) (f : ℕ) → IsWhole s → Sealed.is_file (node_at s.tree f) ≡ true → Sealed.is_sealed s f ≡ true
+pub sealed-not_read : (program_of : Bytes → Option Program) (s : State) (pid : ℕ) (f : ℕ) → IsValid s → Sealed.is_file (node_at s.tree f) ≡ true → Sealed.is_sealed s f ≡ true
     → ¬ Touches program_of s pid (read_file f)
 sealed-not_read program_of s pid f whole file shut reads_it =
     let plain = file-plain (node_at s.tree f) file in
     let e = reads-justified program_of s pid f reads_it in
     unread s whole e.0 f plain (sealed-closed s whole f plain shut pid e.0 e.2) pid e.2 e.1 e.4 e.5
 
-pub sealed-answers_alike : (program_of : Bytes → Option Program) (s : State) (pid : ℕ) (f : ℕ) (bytes : Bytes) → IsWhole s → Sealed.is_file (node_at s.tree f) ≡ true → Sealed.is_sealed s f ≡ true
+pub sealed-answers_alike : (program_of : Bytes → Option Program) (s : State) (pid : ℕ) (f : ℕ) (bytes : Bytes) → IsValid s → Sealed.is_file (node_at s.tree f) ≡ true → Sealed.is_sealed s f ≡ true
     → length bytes ≡ length (file_bytes s f) → StepsAlike f (step program_of s pid) (step program_of (with_bytes s f bytes) pid)
 sealed-answers_alike program_of s pid f bytes whole file shut long =
     let plain = file-plain (node_at s.tree f) file in
     ⊎_elim (λ e. absurd (unread s whole e.0 f plain (sealed-closed s whole f plain shut pid e.0 e.2) pid e.2 e.1 e.4 e.5)) (λ alike. alike)
     (alike-or_read program_of s pid f bytes long)
 
-pub frozen-not_changed : (program_of : Bytes → Option Program) (s : State) (pid : ℕ) (f : ℕ) → IsWhole s → Sealed.is_frozen s f ≡ true → ¬ Touches program_of s pid (change_file f)
+pub frozen-not_changed : (program_of : Bytes → Option Program) (s : State) (pid : ℕ) (f : ℕ) → IsValid s → Sealed.is_frozen s f ≡ true → ¬ Touches program_of s pid (change_file f)
 frozen-not_changed program_of s pid f whole frozen changes =
     let plain = file-plain (node_at s.tree f) changes.0 in
     let e = files-justified program_of s pid f whole changes in
     let parts = and_parts (Sealed.is_sealed s f) _ frozen in
     unchanged s whole e.0 f plain (sealed-closed s whole f plain parts.0 pid e.0 e.2)
-    (kept s whole e.0 f plain (live-passes (λ (q : Process). Sealed.is_frozen_to s q f) pid e.0 s.processes (live-found s pid e.0 e.2) parts.1))
+    (preserved s whole e.0 f plain (live-passes (λ (q : Process). Sealed.is_frozen_to s q f) pid e.0 s.processes (live-found s pid e.0 e.2) parts.1))
     pid e.2 e.1 e.4 e.5

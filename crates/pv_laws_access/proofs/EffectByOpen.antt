@@ -1,4 +1,4 @@
--- What open and openat do.
+-- The effects of open and openat.
 use Rattle.std.proofs.Common.{◌≡◌, ℕ, Bool, true, false, not, ◌&&◌, ◌||◌, if◌then◌else◌, nat_le, [], Option, None, Some, is_some, is_none, option_and_then, Ok, refl, ap, sym, ◌∙◌}
 use Rattle.std.specs.Prelude.{Contains}
 use Rattle.std.proofs.lemmas.Bool.{and_parts, not-false}
@@ -21,7 +21,7 @@ use Rattle.pv_model.specs.Tree.{Node, file_node, Tree, node_at, is_directory, ne
 use Rattle.pv_laws_states.specs.States.{is_start, is_text, is_call}
 use Rattle.pv_laws_states.proofs.Attempts.{Leads, leads-after_walks, leads-then, leads-refuse_if, leads-room, leads-following}
 use Rattle.pv_laws_states.proofs.Rests
-use Rattle.pv_laws_states.proofs.Standing.{resolve-fine, my-placed}
+use Rattle.pv_laws_states.proofs.Present.{resolve-fine, my-placed}
 use Rattle.pv_laws_access.proofs.HasEffect.{opens, creates, IsFine, Did, first-place, leads-judged}
 use Rattle.pv_model.specs.Walks.{Walk, follow_of, open_walk}
 use Rattle.pv_laws_states.proofs.Starts.{StartsWell, leads-start}
@@ -30,7 +30,7 @@ none_made : (o : Option Node) (create : Bool) → (is_none o && not create) ≡ 
 none_made None create is none = not-false create is
 none_made (Some node) create is none = cc
 
--- an open that cuts is one for writing
+-- an open that truncates is for writing
 writes-cut : (f : OpenFlags) → contradicts f ≡ false → f.truncate ≡ true → writes f.mode ≡ true
 writes-cut f sensible cut = by (writes f.mode) (ap (λ t. (t && not (writes f.mode)) || (f.exclusive && not f.create) || (f.create && f.directory)) (sym cut) ∙ sensible)
   where

@@ -1,4 +1,4 @@
--- What the calls do that leave the tree.
+-- The effects of the calls that leave the tree unchanged.
 use Rattle.std.proofs.Common.{◌≡◌, ℕ, suc, ◌+◌, ℤ, pos, negsuc, ◌+ℤ◌, Bool, true, false, not, ◌||◌, ◌==◌, if◌then◌else◌, nat_le, nat_lt, List, [], ◌∷◌, length, Option, None, Some, refl}
 use Rattle.std.specs.Prelude.{Ok}
 use Rattle.pv_model.specs.declared.call.Call.{Call}
@@ -29,7 +29,7 @@ use Rattle.pv_laws_access.proofs.Narrowing.{narrows, leads-unless_refused, leads
 use Rattle.pv_laws_access.proofs.HasEffect.{HasEffect, stays, restrains, begins, closes, copies, forks, reaps, moves, Did, open_file_for-is}
 use Rattle.pv_model.specs.Walks.{from_here}
 
--- what is not locked
+-- an attempt after the check for a lock
 leads-unlocked : {A : Type 0} (P : A → Type 0) (b : Bool) (next : Attempt A) → (b ≡ false → Leads P next) → Leads P (refuse_if_locked b >> next)
 leads-unlocked P true next is = tt
 leads-unlocked P false next is = leads-after_walks P 0 next (is refl)
@@ -64,15 +64,15 @@ module _ (s : State) (pid : ℕ) (me : Process) where
     does-pledge =
         leads-bind (D L) (λ _. Unit {0}) (asked_promises promises) (Rests.pledge_1 s pid me execpromises) (leads-any (asked_promises promises)) (λ asked _.
         leads-bind (D L) (λ _. Unit {0}) (asked_promises execpromises) (Rests.pledge_2 s pid me asked) (leads-any (asked_promises execpromises)) (λ exec_asked _.
-        leads-bind (D L) (λ kept. narrow_promises (is_lenient me.promises) me.promises asked ≡ Ok kept) (unless_refused (narrow_promises (is_lenient me.promises) me.promises asked)) (Rests.pledge_3 s pid me exec_asked)
-        (leads-unless_refused (narrow_promises (is_lenient me.promises) me.promises asked)) (λ kept narrowed.
-        leads-bind (D L) (λ kept. narrow_promises (is_lenient me.promises) me.execpromises exec_asked ≡ Ok kept) (unless_refused (narrow_promises (is_lenient me.promises) me.execpromises exec_asked))
-        (λ exec_kept. answers (with_process s pid (record me { promises = kept; execpromises = exec_kept })) 0)
-        (leads-unless_refused (narrow_promises (is_lenient me.promises) me.execpromises exec_asked)) (λ exec_kept exec_narrowed.
-        restrains (record me { promises = kept; execpromises = exec_kept }) (returns 0)
+        leads-bind (D L) (λ preserved. narrow_promises (is_lenient me.promises) me.promises asked ≡ Ok preserved) (unless_refused (narrow_promises (is_lenient me.promises) me.promises asked)) (Rests.pledge_3 s pid me exec_asked)
+        (leads-unless_refused (narrow_promises (is_lenient me.promises) me.promises asked)) (λ preserved narrowed.
+        leads-bind (D L) (λ preserved. narrow_promises (is_lenient me.promises) me.execpromises exec_asked ≡ Ok preserved) (unless_refused (narrow_promises (is_lenient me.promises) me.execpromises exec_asked))
+        (λ exec_preserved. answers (with_process s pid (record me { promises = preserved; execpromises = exec_preserved })) 0)
+        (leads-unless_refused (narrow_promises (is_lenient me.promises) me.execpromises exec_asked)) (λ exec_preserved exec_narrowed.
+        restrains (record me { promises = preserved; execpromises = exec_preserved }) (returns 0)
         (record {
-          promises = narrows (is_lenient me.promises) me.promises asked kept narrowed;
-          execpromises = narrows (is_lenient me.promises) me.execpromises exec_asked exec_kept exec_narrowed;
+          promises = narrows (is_lenient me.promises) me.promises asked preserved narrowed;
+          execpromises = narrows (is_lenient me.promises) me.execpromises exec_asked exec_preserved exec_narrowed;
           table = table-itself me.table;
           lock = λ is. is;
           closed = λ is. refl;
@@ -108,7 +108,7 @@ module _ (s : State) (pid : ℕ) (me : Process) where
       leads-place (D C) s me me.directory Last path permission_x (Rests.execve_1 s pid me program_of) (λ place found.
       leads-demand (D C) ENOENT (node_of place) (Rests.execve_2 s pid me program_of) (λ n is.
       leads-demand (D C) EACCES (executable_bytes (node_at s.tree n)) (Rests.execve_3 s pid me program_of) (λ bytes file.
-      leads-demand (D C) ENOEXEC (program_of bytes) (Rests.execve_4 s pid me) (λ program spelled. begins path program refl))))
+      leads-demand (D C) ENOEXEC (program_of bytes) (Rests.execve_4 s pid me) (λ program encoded. begins path program refl))))
 
   -- paths
 

@@ -1,4 +1,4 @@
--- What the calls do that change the tree.
+-- The effects of the calls that change the tree.
 use Rattle.std.proofs.Common.{◌≡◌, ℕ, zero, suc, ◌+◌, ℤ, true, false, not, ◌&&◌, ◌||◌, if◌then◌else◌, nat_lt, [], ◌∷◌, length, take, Option, None, Some, is_some, Ok, refl, ap}
 use Rattle.std.specs.Prelude.{Contains}
 use Rattle.std.proofs.lemmas.Bool.{and_parts, not-false}
@@ -33,7 +33,7 @@ no_node : (o : Option ℕ) → is_some o ≡ false → o ≡ None
 no_node None is = refl
 no_node (Some n) is = cc
 
--- a call that changes entries needs cpath, and nothing else
+-- a call that changes entries needs cpath and nothing else
 abbrev NeedsCpath : Call → Type 0
 NeedsCpath call = needs call ≡ needs_cpath
 
@@ -65,7 +65,7 @@ module _ (s : State) (pid : ℕ) (me : Process) where
   abbrev D : Call → Effect → Type 0
   D call = Did s pid me call
 
-  -- where a walk ends
+  -- the place where a walk ends
   abbrev ends : Walk → Option Place
   ends w = place_found (end_of s me w)
 

@@ -1,4 +1,4 @@
--- What the end of a process leaves.
+-- The state after the end of a process.
 use Rattle.std.proofs.Common.{◌≡◌, ◌≢◌, ℕ, zero, suc, ℤ, Bool, true, false, cond, not, if◌then◌else◌, ◌==◌, List, filter, Option, None, Some, is_some, refl, ap, sym, subst, ◌∙◌, ⊎_elim}
 use Rattle.std.proofs.lemmas.Bool.{cases_eq, eq-eqb, ne_eqb}
 use Rattle.std.specs.FinMap.Entries.{find, is_sorted}
@@ -10,7 +10,7 @@ use Rattle.pv_model.specs.declared.promise.Promise.{Promise}
 use Rattle.pv_model.specs.Answer.{answer, at_next_line, effect}
 use Rattle.pv_model.specs.Bytes.{Bytes}
 use Rattle.pv_model.specs.Calls.Processes.{exit_status, end_process}
-use Rattle.pv_model.specs.Held.{among, trim}
+use Rattle.pv_model.specs.Held.{among, collect}
 use Rattle.pv_model.specs.Needs.{needs}
 use Rattle.pv_model.specs.Numbered.{at_number}
 use Rattle.pv_model.specs.Program.{Next, inside, calls_for, next}
@@ -19,29 +19,29 @@ use Rattle.pv_model.specs.State.{Program, Process, ProcessRecord, live, ended_re
 use Rattle.pv_model.specs.Step.{Stepped, step, step_by}
 use Rattle.pv_model.specs.Tree.{Tree, find_entry}
 use Rattle.pv_laws_states.specs.Held.{used}
-use Rattle.pv_laws_states.specs.States.{IsTree, IsWhole}
+use Rattle.pv_laws_states.specs.States.{IsTree, IsValid}
 use Rattle.pv_laws_trees.proofs.Numbered.{keep-some}
 use Rattle.pv_laws_states.proofs.Ending.{mapped, sorted-mapped, found-mapped, mapped-found, found-filtered, filtered-found, adopted, map-adopt, tree-end}
 use Rattle.pv_laws_states.proofs.Members.{live-found}
 use Rattle.pv_laws_states.proofs.Outcomes.{at_call, by_answer}
 use Rattle.pv_laws_states.proofs.Processes.{find-put_same, find-put_other}
-use Rattle.pv_laws_states.proofs.Trim.{files-trim, processes-trim}
+use Rattle.pv_laws_states.proofs.Collect.{files-collect, processes-collect}
 use Rattle.pv_laws_states.proofs.Whole.{sorted-put_number}
-use Rattle.pv_laws_access.proofs.Changed.{entry-trim}
+use Rattle.pv_laws_access.proofs.Changed.{entry-collect}
 use Rattle.pv_laws_access.proofs.Ends as Put
-use Rattle.pv_laws_access.specs.Ends.{heir, new_parent, kept_for, IsEnded}
+use Rattle.pv_laws_access.specs.Ends.{heir, new_parent, preserved_for, IsEnded}
 
--- what is claimed of a record
+-- the record that should remain
 abbrev claim : ProcessRecord → Option ProcessRecord
 claim (live p) = Some (live p)
 claim (ended_record zero status) = None
 claim (ended_record (suc parent) status) = Some (ended_record (suc parent) status)
 
-last-trim : (s : State) → (trim s).last_process ≡ s.last_process
-unfolding trim
-last-trim s = refl
+last-collect : (s : State) → (collect s).last_process ≡ s.last_process
+unfolding collect
+last-collect s = refl
 
-module _ (s y : State) (pid : ℕ) (p me : Process) (status : ℕ) (whole : IsWhole s) (at : process_at s pid ≡ Some p)
+module _ (s y : State) (pid : ℕ) (p me : Process) (status : ℕ) (whole : IsValid s) (at : process_at s pid ≡ Some p)
     (same_tree : y.tree ≡ s.tree) (same_files : y.files ≡ s.files) (same_last : y.last_process ≡ s.last_process) (ascending : is_sorted nat_cmp y.processes ≡ true)
     (others : (k : ℕ) → k ≢ pid → find nat_cmp k y.processes ≡ find nat_cmp k s.processes) (parent : me.parent ≡ p.parent) where
   abbrev es : List (ℕ × ProcessRecord)
@@ -56,9 +56,9 @@ module _ (s y : State) (pid : ℕ) (p me : Process) (status : ℕ) (whole : IsWh
   order : is_sorted nat_cmp (mapped (adopted pid new) es) ≡ true
   order = sorted-mapped (adopted pid new) es ∙ sorted-put_number pid (ended_record me.parent status) y.processes ascending
 
-  -- what is found after the end, of what is there when the process is put away
-  abbrev Kept : ℕ → ProcessRecord → Type 0
-  Kept k r = find nat_cmp k z.processes ≡ claim (adopted pid new r)
+  -- the record found after the end
+  abbrev Preserved : ℕ → ProcessRecord → Type 0
+  Preserved k r = find nat_cmp k z.processes ≡ claim (adopted pid new r)
 
   found-z : (k : ℕ) → find nat_cmp k z.processes ≡ find nat_cmp k (filter (Put.claimed y pid me status) (mapped (adopted pid new) es))
   unfolding end_process
@@ -74,8 +74,8 @@ module _ (s y : State) (pid : ℕ) (p me : Process) (status : ℕ) (whole : IsWh
   fails (ended_record zero left) is = refl
   fails (ended_record (suc above) left) is = let bad : true ≡ false = sym (ap not (ne_eqb (suc above) 0 (λ same. cc same))) ∙ is in cc bad
 
-  kept : (k : ℕ) (r : ProcessRecord) → find nat_cmp k es ≡ Some r → Kept k r
-  kept k r found = by (Put.claimed y pid me status (k, adopted pid new r)) refl
+  preserved : (k : ℕ) (r : ProcessRecord) → find nat_cmp k es ≡ Some r → Preserved k r
+  preserved k r found = by (Put.claimed y pid me status (k, adopted pid new r)) refl
     where
       there : find nat_cmp k (mapped (adopted pid new) es) ≡ Some (adopted pid new r)
       there = mapped-found (adopted pid new) k es r found
@@ -88,7 +88,7 @@ module _ (s y : State) (pid : ℕ) (p me : Process) (status : ℕ) (whole : IsWh
           let same : adopted pid new r ≡ q = cc both in
           let bad : false ≡ true = sym drops ∙ ap (λ (x : ProcessRecord). Put.claimed y pid me status (k, x)) same ∙ was.1 in cc bad
 
-      by : (b : Bool) → Put.claimed y pid me status (k, adopted pid new r) ≡ b → Kept k r
+      by : (b : Bool) → Put.claimed y pid me status (k, adopted pid new r) ≡ b → Preserved k r
       by true keeps = found-z k ∙ filtered-found (Put.claimed y pid me status) (mapped (adopted pid new) es) k (adopted pid new r) there keeps ∙ sym (passes (adopted pid new r) keeps)
       by false drops = found-z k ∙ none drops (find nat_cmp k (filter (Put.claimed y pid me status) (mapped (adopted pid new) es))) refl ∙ sym (fails (adopted pid new r) drops)
 
@@ -98,11 +98,11 @@ module _ (s y : State) (pid : ℕ) (p me : Process) (status : ℕ) (whole : IsWh
       by : (o : Option ProcessRecord) → find nat_cmp k (filter (Put.claimed y pid me status) (mapped (adopted pid new) es)) ≡ o → o ≡ None
       by None is = refl
       by (Some q) is =
-          let kept = found-filtered (Put.claimed y pid me status) (mapped (adopted pid new) es) order k q is in
-          let was = found-mapped (adopted pid new) k es q kept.0 in
+          let preserved = found-filtered (Put.claimed y pid me status) (mapped (adopted pid new) es) order k q is in
+          let was = found-mapped (adopted pid new) k es q preserved.0 in
           let both : None ≡ Some was.0 = sym none ∙ was.1 in cc both
 
-  -- who adopts
+  -- the adopter
   heirs-same : new ≡ heir s pid
   heirs-same =
       ⊎_elim
@@ -117,14 +117,14 @@ module _ (s y : State) (pid : ℕ) (p me : Process) (status : ℕ) (whole : IsWh
   parents-same : (n : ℕ) → (if n == pid then new else n) ≡ new_parent s pid n
   parents-same n = ap (λ h. if n == pid then h else n) heirs-same
 
-  claim-ended : (n left : ℕ) → claim (adopted pid new (ended_record n left)) ≡ kept_for (new_parent s pid n) left
-  claim-ended n left = by (n == pid) ∙ ap (λ k. kept_for k left) (parents-same n)
+  claim-ended : (n left : ℕ) → claim (adopted pid new (ended_record n left)) ≡ preserved_for (new_parent s pid n) left
+  claim-ended n left = by (n == pid) ∙ ap (λ k. preserved_for k left) (parents-same n)
     where
-      zero-or : (k : ℕ) → claim (ended_record k left) ≡ kept_for k left
+      zero-or : (k : ℕ) → claim (ended_record k left) ≡ preserved_for k left
       zero-or zero = refl
       zero-or (suc k) = refl
 
-      by : (b : Bool) → claim (cond b (ended_record new left) (ended_record n left)) ≡ kept_for (if b then new else n) left
+      by : (b : Bool) → claim (cond b (ended_record new left) (ended_record n left)) ≡ preserved_for (if b then new else n) left
       by true = zero-or new
       by false = zero-or n
 
@@ -136,10 +136,10 @@ module _ (s y : State) (pid : ℕ) (p me : Process) (status : ℕ) (whole : IsWh
       by false = refl
 
   abbrev after : State
-  after = trim z
+  after = collect z
 
   found-after : (k : ℕ) → find nat_cmp k after.processes ≡ find nat_cmp k z.processes
-  found-after k = ap (find nat_cmp k) (processes-trim z)
+  found-after k = ap (find nat_cmp k) (processes-collect z)
 
   files-end : z.files ≡ y.files
   unfolding end_process
@@ -152,34 +152,34 @@ module _ (s y : State) (pid : ℕ) (p me : Process) (status : ℕ) (whole : IsWh
   pub ended-so : IsEnded s after pid p status
   ended-so = record {
     itself =
-        found-after pid ∙ kept pid (ended_record me.parent status) (find-put_same pid (ended_record me.parent status) y.processes) ∙ claim-ended me.parent status
-        ∙ ap (λ n. kept_for (new_parent s pid n) status) parent;
+        found-after pid ∙ preserved pid (ended_record me.parent status) (find-put_same pid (ended_record me.parent status) y.processes) ∙ claim-ended me.parent status
+        ∙ ap (λ n. preserved_for (new_parent s pid n) status) parent;
     live = λ k q apart there.
         ap live_process
-        (found-after k ∙ kept k (live q) (find-put_other k pid (ended_record me.parent status) y.processes apart ∙ others k apart ∙ live-found s k q there) ∙ claim-live q);
+        (found-after k ∙ preserved k (live q) (find-put_other k pid (ended_record me.parent status) y.processes apart ∙ others k apart ∙ live-found s k q there) ∙ claim-live q);
     ended = λ k above left apart there.
-        found-after k ∙ kept k (ended_record above left) (find-put_other k pid (ended_record me.parent status) y.processes apart ∙ others k apart ∙ there) ∙ claim-ended above left;
+        found-after k ∙ preserved k (ended_record above left) (find-put_other k pid (ended_record me.parent status) y.processes apart ∙ others k apart ∙ there) ∙ claim-ended above left;
     none_else = λ k apart none. found-after k ∙ absent k (find-put_other k pid (ended_record me.parent status) y.processes apart ∙ others k apart ∙ none);
     entries = λ d name.
-        entry-trim z (subst IsTree (sym (tree-end y pid me status ∙ same_tree)) whole.tree) d name ∙ ap (λ (u : Tree). find_entry u d name) (tree-end y pid me status ∙ same_tree);
+        entry-collect z (subst IsTree (sym (tree-end y pid me status ∙ same_tree)) whole.tree) d name ∙ ap (λ (u : Tree). find_entry u d name) (tree-end y pid me status ∙ same_tree);
     files = λ k file there.
-        ap (λ fs. at_number fs k) (sym (files-end ∙ same_files)) ∙ (keep-some (among (used z)) z.files k file (ap (λ fs. at_number fs k) (sym (files-trim z)) ∙ there)).1;
-    last_process = last-trim z ∙ last-end ∙ same_last;
+        ap (λ fs. at_number fs k) (sym (files-end ∙ same_files)) ∙ (keep-some (among (used z)) z.files k file (ap (λ fs. at_number fs k) (sym (files-collect z)) ∙ there)).1;
+    last_process = last-collect z ∙ last-end ∙ same_last;
   }
 
 -- ---- the laws
 
-module _ (program_of : Bytes → Option Program) (s : State) (pid : ℕ) (p : Process) (whole : IsWhole s) (at : process_at s pid ≡ Some p) where
+module _ (program_of : Bytes → Option Program) (s : State) (pid : ℕ) (p : Process) (whole : IsValid s) (at : process_at s pid ≡ Some p) where
   one : (me : Process) → process_at s pid ≡ Some me → me ≡ p
   one me found = let both : Some me ≡ Some p = sym found ∙ at in cc both
 
-  -- at a call the others are as they were
-  at-call : (me : Process) → process_at s pid ≡ Some me → (status : ℕ) → IsEnded s (trim (end_process (at_call s pid me) pid (at_next_line me) status)) pid p status
+  -- at a call, the other processes are unchanged
+  at-call : (me : Process) → process_at s pid ≡ Some me → (status : ℕ) → IsEnded s (collect (end_process (at_call s pid me) pid (at_next_line me) status)) pid p status
   at-call me found status =
       ended-so s (at_call s pid me) pid p (at_next_line me) status whole at refl refl refl (sorted-put_number pid (live (at_next_line me)) s.processes whole.processes.ascending)
       (λ k apart. find-put_other k pid (live (at_next_line me)) s.processes apart) (ap (λ (x : Process). x.parent) (one me found))
 
-  before-call : (me : Process) → process_at s pid ≡ Some me → (status : ℕ) → IsEnded s (trim (end_process s pid (at_next_line me) status)) pid p status
+  before-call : (me : Process) → process_at s pid ≡ Some me → (status : ℕ) → IsEnded s (collect (end_process s pid (at_next_line me) status)) pid p status
   before-call me found status =
       ended-so s s pid p (at_next_line me) status whole at refl refl refl whole.processes.ascending (λ k apart. refl) (ap (λ (x : Process). x.parent) (one me found))
 

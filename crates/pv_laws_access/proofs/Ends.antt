@@ -1,4 +1,4 @@
--- What processes are left with: told an answer, beside an end, inside a program.
+-- Processes after an answer, after the end of another process, and after an instruction on registers.
 use Rattle.std.proofs.Common.{◌≡◌, ◌≢◌, ℕ, suc, Bool, true, false, not, nat_le, List, filter, Option, None, Some, refl, ap, sym, subst, ◌∙◌, arith}
 use Rattle.std.specs.FinMap.Entries.{find, put, is_sorted}
 use Rattle.std.specs.Ordering.{nat_cmp}
@@ -12,16 +12,16 @@ use Rattle.pv_model.specs.Attempt.{Attempt, done, refused}
 use Rattle.pv_model.specs.Bytes.{Bytes}
 use Rattle.pv_model.specs.Calls.Processes.{is_unclaimed, adopter, end_process}
 use Rattle.pv_model.specs.Effect.{Effect, returns, returns_bytes, ends, waits}
-use Rattle.pv_model.specs.Held.{trim}
+use Rattle.pv_model.specs.Held.{collect}
 use Rattle.pv_model.specs.Program.{jump_if, Next, inside, calls_for, perform, next_by, next}
 use Rattle.pv_model.specs.State.{Program, Process, ProcessRecord, live, ended_record, State, process_at, live_process}
 use Rattle.pv_model.specs.Step.{step, step_of, step_by}
-use Rattle.pv_laws_states.specs.States.{is_number, IsWhole}
+use Rattle.pv_laws_states.specs.States.{is_number, IsValid}
 use Rattle.pv_laws_states.proofs.Ending.{mapped, sorted-mapped, found-mapped, mapped-found, found-filtered, filtered-found, adopted, map-adopt, adopted-live, live-adopted}
 use Rattle.pv_laws_states.proofs.Members.{find_number-list_all, live-found}
 use Rattle.pv_laws_states.proofs.Outcomes.{at_call}
 use Rattle.pv_laws_states.proofs.Processes.{find-put_same, find-put_other, process_at-same, process_at-other, update-is}
-use Rattle.pv_laws_states.proofs.Trim.{processes-trim}
+use Rattle.pv_laws_states.proofs.Collect.{processes-collect}
 use Rattle.pv_laws_states.proofs.Whole.{sorted-put_number}
 use Rattle.pv_laws_access.specs.Growth.{HasTheSame, IsInOrder, IsLeftAlone}
 
@@ -31,14 +31,14 @@ same-itself p = record { promises = refl; execpromises = refl; table = refl; loc
 pub alone-itself : (p : Process) → IsLeftAlone p p
 alone-itself p = record { all = refl }
 
--- it has the same restraints and descriptors
+-- the same restraints and descriptors
 pub alone-same : (p q : Process) → IsLeftAlone p q → HasTheSame p q
 alone-same p q is = subst (HasTheSame p) (sym is.all) (record { promises = refl; execpromises = refl; table = refl; locked = refl; descriptors = refl })
 
 -- ---- after a change of one process
 
-pub process_at-trim : (s : State) (k : ℕ) → process_at (trim s) k ≡ process_at s k
-process_at-trim s k = ap (λ ps. live_process (find nat_cmp k ps)) (processes-trim s)
+pub process_at-collect : (s : State) (k : ℕ) → process_at (collect s) k ≡ process_at s k
+process_at-collect s k = ap (λ ps. live_process (find nat_cmp k ps)) (processes-collect s)
 
 pub update-live : (s : State) (pid : ℕ) (f : Process → Process) (p : Process) → process_at s pid ≡ Some p → process_at (update s pid f) pid ≡ Some (f p)
 update-live s pid f p at = ap (λ x. process_at x pid) (update-is s pid f p at) ∙ process_at-same s pid (f p)
@@ -52,7 +52,7 @@ update-other s pid f k other = by (process_at s pid)
 
 -- ---- in order
 
-pub whole-in_order : (s : State) → IsWhole s → IsInOrder s
+pub whole-in_order : (s : State) → IsValid s → IsInOrder s
 whole-in_order s whole = record { ascending = whole.processes.ascending; next_is_free = by (find nat_cmp (suc s.last_process) s.processes) refl }
   where
     by : (o : Option ProcessRecord) → find nat_cmp (suc s.last_process) s.processes ≡ o → o ≡ None
@@ -61,7 +61,7 @@ whole-in_order s whole = record { ascending = whole.processes.ascending; next_is
         let number = find_number-list_all (is_number s.last_process) (suc s.last_process) r s.processes whole.processes.numbers found in
         absurd (omega (arith, leb-true (suc s.last_process) s.last_process (and_parts (nat_le 1 (suc s.last_process)) _ number).1))
 
--- a live process has another number than the next
+-- the number of a live process is not the next process number
 pub not_next : (s : State) → IsInOrder s → (pid : ℕ) (p : Process) → process_at s pid ≡ Some p → pid ≢ suc s.last_process
 not_next s order pid p at same =
     let found = live-found s pid p at in
@@ -85,38 +85,38 @@ module _ (s : State) (pid : ℕ) (me : Process) (status : ℕ) where
   abbrev pub claimed : ℕ × ProcessRecord → Bool
   claimed r = not (is_unclaimed r.1)
 
-  -- it is not live
+  -- the ended process is not live
   pub ended-not_live : is_sorted nat_cmp s.processes ≡ true → (q : Process) → process_at (end_process s pid me status) pid ≡ Some q → ⊥
   unfolding end_process
   ended-not_live ascending q at =
       let found = subst (λ es. find nat_cmp pid (filter claimed es) ≡ Some (live q)) (map-adopt pid heir put_away) (live-found (end_process s pid me status) pid q at) in
       let in_order : is_sorted nat_cmp (mapped (adopted pid heir) put_away) ≡ true = sorted-mapped (adopted pid heir) put_away ∙ sorted-put_number pid (ended_record me.parent status) s.processes ascending in
-      let kept = found-filtered claimed (mapped (adopted pid heir) put_away) in_order pid (live q) found in
-      let was = found-mapped (adopted pid heir) pid put_away (live q) kept.0 in
+      let preserved = found-filtered claimed (mapped (adopted pid heir) put_away) in_order pid (live q) found in
+      let was = found-mapped (adopted pid heir) pid put_away (live q) preserved.0 in
       let lives = live-adopted pid heir was.0 q was.2 in
       let gone = find-put_same pid (ended_record me.parent status) s.processes in
       let same : Some (ended_record me.parent status) ≡ Some (live lives.0) = sym gone ∙ was.1 ∙ ap Some lives.1 in
       cc same
 
-  -- and each other live process has another parent at most
+  -- each other live process changes at most its parent
   pub ended-others : (k : ℕ) (p : Process) → k ≢ pid → process_at s k ≡ Some p → (q : Process) × (process_at (end_process s pid me status) k ≡ Some q) × IsLeftAlone p q
   unfolding end_process
   ended-others k p other at =
       let there : find nat_cmp k put_away ≡ Some (live p) = find-put_other k pid (ended_record me.parent status) s.processes other ∙ live-found s k p at in
       let adoptee = adopted-live pid heir p in
       let moved : find nat_cmp k (mapped (adopted pid heir) put_away) ≡ Some (live adoptee.0) = mapped-found (adopted pid heir) k put_away (live p) there ∙ ap Some adoptee.1 in
-      let kept = filtered-found claimed (mapped (adopted pid heir) put_away) k (live adoptee.0) moved refl in
+      let preserved = filtered-found claimed (mapped (adopted pid heir) put_away) k (live adoptee.0) moved refl in
       let old = live-adopted pid heir (live p) adoptee.0 adoptee.1 in
       let same : p ≡ old.0 = cc (old.1) in
       let is : adoptee.0 ≡ record p { parent = adoptee.0.parent } = old.2 ∙ ap (λ (x : Process). record x { parent = adoptee.0.parent }) (sym same) in (
         adoptee.0,
-        ap live_process (ap (λ es. find nat_cmp k (filter claimed es)) (map-adopt pid heir put_away) ∙ kept),
+        ap live_process (ap (λ es. find nat_cmp k (filter claimed es)) (map-adopt pid heir put_away) ∙ preserved),
         record { all = is },
       )
 
--- ---- inside a program
+-- ---- instructions on registers
 
--- a step inside leaves the restraints and the descriptors
+-- an instruction on registers leaves the restraints and the descriptors unchanged
 abbrev pub IsSameNext : Process → Next → Type 0
 IsSameNext p (inside q) = HasTheSame p q × (q.directory ≡ p.directory)
 IsSameNext p (calls_for call) = Unit {0}
@@ -148,7 +148,7 @@ same-next p = by (Rattle.std.specs.Prelude.slice_get p.program _)
     by None = tt
     by (Some i) = same-perform p i
 
--- a step of a live process goes by what comes next in it
+-- a step of a live process is its next instruction or call
 pub step-is : (program_of : Bytes → Option Program) (s : State) (pid : ℕ) (p : Process) → process_at s pid ≡ Some p → step program_of s pid ≡ step_by program_of s pid p (next p)
 unfolding step
 step-is program_of s pid p at = ap (step_of program_of s pid) at
@@ -157,7 +157,7 @@ pub step-gone : (program_of : Bytes → Option Program) (s : State) (pid : ℕ) 
 unfolding step
 step-gone program_of s pid none = ap (step_of program_of s pid) none
 
--- what an attempt comes to is no kill
+-- the answer for an attempt is not a kill
 pub not-killed : (before x : State) (pid : ℕ) (me : Process) (attempt : Attempt Effect) (a : Promise) → (answer_by_attempt before x pid me attempt).outcome ≡ Killed a → ⊥
 not-killed before x pid me (done walks (after, returns n)) a is = cc is
 not-killed before x pid me (done walks (after, returns_bytes n bytes)) a is = cc is

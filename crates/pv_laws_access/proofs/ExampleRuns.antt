@@ -1,4 +1,4 @@
--- The touches of a worked run, by computing.
+-- The touches of a worked run, by computation.
 use Rattle.std.proofs.Common.{◌≡◌, ℕ, zero, suc, ◌<◌, lit<, pos, true, false, [], ◌∷◌, take, codes, slice_index, Option, None, Some, is_none, refl, ap, sym, ◌∙◌, inl, inr, arith}
 use Rattle.std.specs.List.{All, list_all}
 use Rattle.std.proofs.lemmas.List.Elements.{All-cons, All-nil}
@@ -9,7 +9,7 @@ use Rattle.pv_model.specs.Bytes.{Bytes}
 use Rattle.pv_model.specs.Numbered.{Numbered, at_number}
 use Rattle.pv_model.specs.State.{Process, State, first_process, process_at}
 use Rattle.pv_model.specs.Step.{step}
-use Rattle.pv_model.specs.Touch.{read_file, change_file, change_entry, tell_node, gain_descriptor, Touches}
+use Rattle.pv_model.specs.Touch.{read_file, change_file, change_entry, report_node, gain_descriptor, Touches}
 use Rattle.pv_model.specs.Tree.{root, find_entry}
 use Rattle.pv_model.specs.OnLiterals.{machine_on_literals}
 use Rattle.pv_laws_access.specs.Examples.{no_programs, state_after, EachKindExamples}
@@ -19,7 +19,6 @@ abbrev or_first : Option Process → Process
 or_first None = first_process []
 or_first (Some p) = p
 
--- process 1
 abbrev first : State → Process
 first s = or_first (process_at s 1)
 
@@ -56,7 +55,6 @@ opened = (
       let both : Some opens.file ≡ None = sym opens.opened ∙ none in cc both,
 )
 
--- the first byte of the buffer
 abbrev first_byte : State → Bytes
 first_byte s = take 1 (first s).buffer
 
@@ -82,9 +80,9 @@ changed : Touches no_programs (state_after (1 ∷ 1 ∷ 1 ∷ 1 ∷ [])) 1 (chan
 unfolding machine_on_literals
 changed = (refl, refl, λ same. longer same)
 
-told : Touches no_programs (state_after []) 1 (tell_node 2)
+reported : Touches no_programs (state_after []) 1 (report_node 2)
 unfolding machine_on_literals
-told = (
+reported = (
   first (state_after []),
   Stat (codes "/motd"),
   refl,
@@ -94,4 +92,4 @@ told = (
 )
 
 pub each-happens : EachKindExamples
-each-happens = record { tell = told; entry = made; gain = opened; read = was_read; change = changed }
+each-happens = record { report = reported; entry = made; gain = opened; read = was_read; change = changed }

@@ -1,4 +1,4 @@
--- The open files that a step leaves.
+-- The open files after a step.
 use Rattle.std.proofs.Common.{◌≡◌, ◌≢◌, ℕ, pos, negsuc, Bool, true, false, Option, None, Some, refl, ap, sym, subst, ◌∙◌, ◌⊎◌, inl, inr, ⊎_elim}
 use Rattle.std.proofs.lemmas.Bool.{cases_eq}
 use Rattle.pv_model.specs.declared.call.Call.{Call}
@@ -12,7 +12,7 @@ use Rattle.pv_model.specs.Calls.Descriptors.{new_open_file}
 use Rattle.pv_model.specs.Calls.Processes.{with_result, end_process}
 use Rattle.pv_model.specs.Effect.{Effect, Reply, returns, returns_bytes, ends, waits}
 use Rattle.pv_model.specs.Errno.{errno_number}
-use Rattle.pv_model.specs.Held.{among, trim}
+use Rattle.pv_model.specs.Held.{among, collect}
 use Rattle.pv_model.specs.Numbered.{Numbered, at_number, with_number, least_free}
 use Rattle.pv_model.specs.Program.{Next, inside, calls_for, next}
 use Rattle.pv_model.specs.State.{OpenFile, Descriptor, Program, Process, State, process_at}
@@ -22,19 +22,19 @@ use Rattle.pv_laws_states.specs.Held.{used}
 use Rattle.pv_laws_states.proofs.Attempts.{Leads}
 use Rattle.pv_laws_states.proofs.Outcomes.{at_call, by_answer}
 use Rattle.pv_laws_states.proofs.Processes.{process_at-same, process_at-other, files-update}
-use Rattle.pv_laws_states.proofs.Trim.{files-trim}
+use Rattle.pv_laws_states.proofs.Collect.{files-collect}
 use Rattle.pv_laws_trees.proofs.Numbered.{at_number-below, with_number-same, with_number-other, with_number-same_within, with_number-other_within, least_free-within, keep-some}
 use Rattle.pv_laws_access.specs.Growth.{IsInOrder, IsSameFile, IsNamedBy}
 use Rattle.pv_laws_access.proofs.HasEffect
 use Rattle.pv_laws_access.proofs.EffectByCall.{does-effect}
 use Rattle.pv_laws_access.proofs.Callers.{other}
-use Rattle.pv_laws_access.proofs.Ends.{process_at-trim, update-other, in_order-call, step-is, step-gone}
+use Rattle.pv_laws_access.proofs.Ends.{process_at-collect, update-other, in_order-call, step-is, step-gone}
 use Rattle.pv_laws_access.proofs.Frames.{others-files}
 use Rattle.pv_laws_access.specs.Frame.{CameOf, as_it_was, moved, opened, is_end}
 
--- what is kept of open files was there
-trimmed : (y : State) (k : ℕ) (left : OpenFile) → at_number (trim y).files k ≡ Some left → at_number y.files k ≡ Some left
-trimmed y k left is = (keep-some (among (used y)) y.files k left (ap (λ (fs : Numbered OpenFile). at_number fs k) (sym (files-trim y)) ∙ is)).1
+-- an open file that remains after collection existed before
+collected : (y : State) (k : ℕ) (left : OpenFile) → at_number (collect y).files k ≡ Some left → at_number y.files k ≡ Some left
+collected y k left is = (keep-some (among (used y)) y.files k left (ap (λ (fs : Numbered OpenFile). at_number fs k) (sym (files-collect y)) ∙ is)).1
 
 files-end : (y : State) (pid : ℕ) (me : Process) (status : ℕ) → (end_process y pid me status).files ≡ y.files
 unfolding end_process
@@ -51,7 +51,7 @@ module _ (s : State) (pid k : ℕ) (left : OpenFile) where
     abbrev now : Process
     now = at_next_line me
 
-    -- one that stands elsewhere
+    -- an open file at another position
     by-move : (j : ℕ) (old new : OpenFile) → at_number s.files j ≡ Some old → new.node ≡ old.node → new.mode ≡ old.mode → HasEffect.IsOwnFile y pid now call j old → at_number (with_number s.files j new) k ≡ Some left → Came
     by-move j old new was node mode own is =
         let below = at_number-below s.files j old was in
@@ -64,7 +64,7 @@ module _ (s : State) (pid k : ℕ) (left : OpenFile) where
         (λ away. as_it_was left (sym (with_number-other s.files j new k below away) ∙ is))
         (cases_eq k j)
 
-    -- a new one
+    -- a new open file
     by-open : (flags : OpenFlags) (n : ℕ) → flags_of call ≡ Some flags → at_number (with_number s.files (least_free s.files) (new_open_file flags n)) k ≡ Some left → Came
     by-open flags n flagged is =
         let within = least_free-within s.files in
@@ -96,12 +96,12 @@ module _ (s : State) (pid k : ℕ) (left : OpenFile) where
 
     came-attempt : (a : Attempt Effect) → Leads (HasEffect.Did y pid now call) a → at_number (answer_by_attempt s y pid now a).after.files k ≡ Some left → Came
     came-attempt (done walks (after, returns n)) does is =
-        came-does after (returns n) does (ap (λ (fs : Numbered OpenFile). at_number fs k) (sym (files-update after pid (λ p. with_result p (pos n) 0))) ∙ trimmed (update after pid (λ p. with_result p (pos n) 0)) k left is)
+        came-does after (returns n) does (ap (λ (fs : Numbered OpenFile). at_number fs k) (sym (files-update after pid (λ p. with_result p (pos n) 0))) ∙ collected (update after pid (λ p. with_result p (pos n) 0)) k left is)
     came-attempt (done walks (after, returns_bytes n bytes)) does is =
         came-does after (returns_bytes n bytes) does
-        (ap (λ (fs : Numbered OpenFile). at_number fs k) (sym (files-update after pid (λ p. with_front bytes (with_result p (pos n) 0)))) ∙ trimmed (update after pid (λ p. with_front bytes (with_result p (pos n) 0))) k left is)
+        (ap (λ (fs : Numbered OpenFile). at_number fs k) (sym (files-update after pid (λ p. with_front bytes (with_result p (pos n) 0)))) ∙ collected (update after pid (λ p. with_front bytes (with_result p (pos n) 0))) k left is)
     came-attempt (done walks (after, ends status)) does is =
-        came-does after (ends status) does (ap (λ (fs : Numbered OpenFile). at_number fs k) (sym (files-end after pid now status)) ∙ trimmed (end_process after pid now status) k left is)
+        came-does after (ends status) does (ap (λ (fs : Numbered OpenFile). at_number fs k) (sym (files-end after pid now status)) ∙ collected (end_process after pid now status) k left is)
     came-attempt (done walks (after, waits)) does is = as_it_was left is
     came-attempt (refused walks e c) does is = as_it_was left (ap (λ (fs : Numbered OpenFile). at_number fs k) (sym (files-update y pid (λ p. with_result p (negsuc 0) (errno_number e)))) ∙ is)
 
@@ -112,7 +112,7 @@ module _ (s : State) (pid k : ℕ) (left : OpenFile) where
         (λ none is. as_it_was left is)
         (λ p found met. came-attempt p call found (same-next p found) (effect program_of (at_call s pid p) pid (at_next_line p) call) (does-effect program_of (at_call s pid p) pid (at_next_line p) call))
         (λ p a found missing lenient. came-attempt p call found (same-next p found) (refused 0 ENOSYS (ByPromise a)) tt)
-        (λ p a found missing strict is. as_it_was left (ap (λ (fs : Numbered OpenFile). at_number fs k) (sym (files-end s pid (at_next_line p) 6)) ∙ trimmed (end_process s pid (at_next_line p) 6) k left is))
+        (λ p a found missing strict is. as_it_was left (ap (λ (fs : Numbered OpenFile). at_number fs k) (sym (files-end s pid (at_next_line p) 6)) ∙ collected (end_process s pid (at_next_line p) 6) k left is))
       where
         same-next : (p : Process) → process_at s pid ≡ Some p → next p ≡ calls_for call
         same-next p found = let both : Some p ≡ Some me = sym found ∙ at in let same : p ≡ me = cc both in ap next same ∙ made
@@ -147,28 +147,28 @@ module _ (program_of : Bytes → Option Program) (s : State) (pid k : ℕ) (p : 
     x_live : process_at x k ≡ Some p
     x_live = process_at-other s pid now' k apart ∙ live
 
-    kept-told : (after : State) (r : Reply) (f : Process → Process) → HasEffect.HasEffect x pid now' call after r → process_at (trim (update after pid f)) k ≡ Some p
-    kept-told after r f does =
-        process_at-trim (update after pid f) k ∙ update-other after pid f k apart ∙ other x pid now' call (in_order-call s pid me order at) (process_at-same s pid now') k p apart x_live after r does
+    preserved-reported : (after : State) (r : Reply) (f : Process → Process) → HasEffect.HasEffect x pid now' call after r → process_at (collect (update after pid f)) k ≡ Some p
+    preserved-reported after r f does =
+        process_at-collect (update after pid f) k ∙ update-other after pid f k apart ∙ other x pid now' call (in_order-call s pid me order at) (process_at-same s pid now') k p apart x_live after r does
 
-    kept-attempt : (a : Attempt Effect) → Leads (HasEffect.Did x pid now' call) a → is_end (answer_by_attempt s x pid now' a).outcome ≡ false → process_at (answer_by_attempt s x pid now' a).after k ≡ Some p
-    kept-attempt (done walks (after, returns n)) does goes = kept-told after (returns n) (λ q. with_result q (pos n) 0) does
-    kept-attempt (done walks (after, returns_bytes n bytes)) does goes = kept-told after (returns_bytes n bytes) (λ q. with_front bytes (with_result q (pos n) 0)) does
-    kept-attempt (done walks (after, ends status)) does goes = cc goes
-    kept-attempt (done walks (after, waits)) does goes = live
-    kept-attempt (refused walks e c) does goes = update-other x pid (λ q. with_result q (negsuc 0) (errno_number e)) k apart ∙ x_live
+    preserved-attempt : (a : Attempt Effect) → Leads (HasEffect.Did x pid now' call) a → is_end (answer_by_attempt s x pid now' a).outcome ≡ false → process_at (answer_by_attempt s x pid now' a).after k ≡ Some p
+    preserved-attempt (done walks (after, returns n)) does goes = preserved-reported after (returns n) (λ q. with_result q (pos n) 0) does
+    preserved-attempt (done walks (after, returns_bytes n bytes)) does goes = preserved-reported after (returns_bytes n bytes) (λ q. with_front bytes (with_result q (pos n) 0)) does
+    preserved-attempt (done walks (after, ends status)) does goes = cc goes
+    preserved-attempt (done walks (after, waits)) does goes = live
+    preserved-attempt (refused walks e c) does goes = update-other x pid (λ q. with_result q (negsuc 0) (errno_number e)) k apart ∙ x_live
 
-  kept-answer : (call : Call) → is_end (answer program_of s pid call).outcome ≡ false → process_at (answer program_of s pid call).after k ≡ Some p
-  kept-answer call =
+  preserved-answer : (call : Call) → is_end (answer program_of s pid call).outcome ≡ false → process_at (answer program_of s pid call).after k ≡ Some p
+  preserved-answer call =
       by_answer (λ a. is_end a.outcome ≡ false → process_at a.after k ≡ Some p) program_of s pid call
       (λ none goes. live)
-      (λ me found met. kept-attempt me call found (effect program_of (at_call s pid me) pid (at_next_line me) call) (does-effect program_of (at_call s pid me) pid (at_next_line me) call))
-      (λ me a found missing lenient. kept-attempt me call found (refused 0 ENOSYS (ByPromise a)) tt)
+      (λ me found met. preserved-attempt me call found (effect program_of (at_call s pid me) pid (at_next_line me) call) (does-effect program_of (at_call s pid me) pid (at_next_line me) call))
+      (λ me a found missing lenient. preserved-attempt me call found (refused 0 ENOSYS (ByPromise a)) tt)
       (λ me a found missing strict goes. cc goes)
 
-  kept-next : (me : Process) (n : Next) → is_end (step_by program_of s pid me n).outcome ≡ false → process_at (step_by program_of s pid me n).after k ≡ Some p
-  kept-next me (inside q) goes = process_at-other s pid q k apart ∙ live
-  kept-next me (calls_for call) goes = kept-answer call goes
+  preserved-next : (me : Process) (n : Next) → is_end (step_by program_of s pid me n).outcome ≡ false → process_at (step_by program_of s pid me n).after k ≡ Some p
+  preserved-next me (inside q) goes = process_at-other s pid q k apart ∙ live
+  preserved-next me (calls_for call) goes = preserved-answer call goes
 
   pub others-keep_all : is_end (step program_of s pid).outcome ≡ false → process_at (step program_of s pid).after k ≡ Some p
   others-keep_all goes = of (process_at s pid) refl
@@ -177,4 +177,4 @@ module _ (program_of : Bytes → Option Program) (s : State) (pid k : ℕ) (p : 
       of None gone = ap (λ (w : Stepped). process_at w.after k) (step-gone program_of s pid gone) ∙ live
       of (Some me) at =
           let same = step-is program_of s pid me at in
-          ap (λ (w : Stepped). process_at w.after k) same ∙ kept-next me (next me) (ap (λ (w : Stepped). is_end w.outcome) (sym same) ∙ goes)
+          ap (λ (w : Stepped). process_at w.after k) same ∙ preserved-next me (next me) (ap (λ (w : Stepped). is_end w.outcome) (sym same) ∙ goes)

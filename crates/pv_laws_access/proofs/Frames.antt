@@ -1,4 +1,4 @@
--- What a step leaves of the open files of other processes.
+-- The open files of other processes after a step.
 use Rattle.std.proofs.Common.{◌≡◌, ◌≢◌, ◌⊎◌, inl, inr, ℕ, ℤ, pos, negsuc, Option, None, Some, refl, ap, sym, subst, ◌∙◌, ⊎_elim}
 use Rattle.std.proofs.lemmas.Bool.{cases_eq}
 use Rattle.pv_model.specs.declared.call.Call.{Call}
@@ -10,7 +10,7 @@ use Rattle.pv_model.specs.Bytes.{Bytes}
 use Rattle.pv_model.specs.Calls.Processes.{with_result, end_process}
 use Rattle.pv_model.specs.Effect.{Effect, Reply, returns, returns_bytes, ends, waits, open_file}
 use Rattle.pv_model.specs.Errno.{errno_number}
-use Rattle.pv_model.specs.Held.{among, trim}
+use Rattle.pv_model.specs.Held.{among, collect}
 use Rattle.pv_model.specs.Numbered.{Numbered, at_number, with_number, least_free}
 use Rattle.pv_model.specs.Program.{Next, inside, calls_for, next}
 use Rattle.pv_model.specs.State.{OpenFile, Descriptor, Program, Process, State, process_at}
@@ -22,14 +22,14 @@ use Rattle.pv_laws_states.proofs.Attempts.{Leads}
 use Rattle.pv_laws_states.proofs.Members.{among-used}
 use Rattle.pv_laws_states.proofs.Outcomes.{at_call, by_answer}
 use Rattle.pv_laws_states.proofs.Processes.{process_at-same, process_at-other, files-update}
-use Rattle.pv_laws_states.proofs.Trim.{files-trim}
+use Rattle.pv_laws_states.proofs.Collect.{files-collect}
 use Rattle.pv_laws_access.specs.Growth.{IsInOrder, IsSameFile, IsNamedBy}
 use Rattle.pv_laws_access.proofs.Callers.{other}
 use Rattle.pv_laws_access.proofs.HasEffect.{HasEffect, stays, restrains, begins, closes, copies, forks, reaps, moves, cuts, writes_bytes, makes, links, unlinks, renames, opens, creates, Did}
 use Rattle.pv_laws_access.proofs.EffectByCall.{does-effect}
 use Rattle.pv_laws_access.proofs.Ends.{update-other, in_order-call, ended-others, step-is, step-gone}
 
--- an open file is left under its number
+-- an open file stays under its number
 abbrev IsLeft : Type 0 → Numbered OpenFile → ℕ → OpenFile → Type 0
 IsLeft Named files k file = (left : OpenFile) × (at_number files k ≡ Some left) × IsSameFile file left × ((left ≡ file) ⊎ Named)
 
@@ -37,7 +37,7 @@ module _ (Named : Type 0) where
   left-as_was : (files : Numbered OpenFile) (k : ℕ) (file : OpenFile) → at_number files k ≡ Some file → IsLeft Named files k file
   left-as_was files k file there = (file, there, record { node = refl; mode = refl }, inl refl)
 
-  -- another under a number, on the same node in the same mode
+  -- another open file under a number, with the same node and mode
   left-moved : (files : Numbered OpenFile) (j : ℕ) (old new : OpenFile) (k : ℕ) (file : OpenFile) → at_number files j ≡ Some old → new.node ≡ old.node → new.mode ≡ old.mode → at_number files k ≡ Some file
       → ((k ≡ j) → Named) → IsLeft Named (with_number files j new) k file
   left-moved files j old new k file is node mode there named =
@@ -54,13 +54,13 @@ module _ (Named : Type 0) where
       (λ away. left-as_was (with_number files j new) k file (with_number-other files j new k below away ∙ there))
       (cases_eq k j)
 
-  -- a new one under the least free number
+  -- a new open file under the least free number
   left-beside : (files : Numbered OpenFile) (new : OpenFile) (k : ℕ) (file : OpenFile) → at_number files k ≡ Some file → IsLeft Named (with_number files (least_free files) new) k file
   left-beside files new k file there =
       left-as_was (with_number files (least_free files) new) k file
       (with_number-other_within files (least_free files) new k (least_free-within files) (λ same. let none = ap (at_number files) same ∙ least_free-free files in cc) ∙ there)
 
--- the call's own descriptor is of the open file
+-- the call's own descriptor refers to the open file
 abbrev IsOwn : State → Process → Call → ℕ → Type 0
 IsOwn s me call k = (d : ℤ) × (file : OpenFile) × (descriptor_of call ≡ Some d) × (open_file s me d ≡ Some (k, file))
 
@@ -74,7 +74,7 @@ module _ (s : State) (pid : ℕ) (me : Process) (call : Call) (k : ℕ) (file : 
   as_it_is : IsLeft Own s.files k file
   as_it_is = left-as_was Own s.files k file there
 
-  -- what a call leaves
+  -- the open files after a call
   left-does : (after : State) (r : Reply) → HasEffect s pid me call after r → IsLeft Own after.files k file
   left-does _ _ (stays r waiting) = as_it_is
   left-does _ _ (restrains q r no_more same parent table goes) = as_it_is
@@ -93,13 +93,12 @@ module _ (s : State) (pid : ℕ) (me : Process) (call : Call) (k : ℕ) (file : 
   left-does _ _ (opens flags place n m flagged allowed is fine written) = left-beside Own s.files _ k file there
   left-does _ _ (creates flags place q m flagged allowed create named none fine) = left-beside Own s.files _ k file there
 
--- what a live process uses is kept
-left-trim : (Named : Type 0) (s : State) (pid : ℕ) (p : Process) (d : ℕ) (x : Descriptor) (file : OpenFile) → process_at s pid ≡ Some p → at_number p.descriptors d ≡ Some x → IsLeft Named s.files x.file file
-    → IsLeft Named (trim s).files x.file file
-left-trim Named s pid p d x file at has is =
-    (is.0, ap (λ (fs : Numbered OpenFile). at_number fs x.file) (files-trim s) ∙ keep-passes (among (used s)) s.files x.file (among-used s pid p d x at has) ∙ is.1, is.2, is.3)
+-- an open file that a live process uses is not collected
+left-collect : (Named : Type 0) (s : State) (pid : ℕ) (p : Process) (d : ℕ) (x : Descriptor) (file : OpenFile) → process_at s pid ≡ Some p → at_number p.descriptors d ≡ Some x → IsLeft Named s.files x.file file
+    → IsLeft Named (collect s).files x.file file
+left-collect Named s pid p d x file at has is =
+    (is.0, ap (λ (fs : Numbered OpenFile). at_number fs x.file) (files-collect s) ∙ keep-passes (among (used s)) s.files x.file (among-used s pid p d x at has) ∙ is.1, is.2, is.3)
 
--- by another name
 left-named : (N M : Type 0) (files : Numbered OpenFile) (k : ℕ) (file : OpenFile) → (N → M) → IsLeft N files k file → IsLeft M files k file
 left-named N M files k file to is = (is.0, is.1, is.2, ⊎_elim (λ same. inl same) (λ named. inr (to named)) is.3)
 
@@ -115,10 +114,10 @@ module _ (program_of : Bytes → Option Program) (s : State) (pid : ℕ) (order 
   as-was : Leaves s
   as-was = left-as_was (IsNamedBy s pid x.file) s.files x.file file there
 
-  left-ended : (y : State) (me : Process) (status : ℕ) → y.files ≡ s.files → process_at y k ≡ Some p → Leaves (trim (end_process y pid me status))
+  left-ended : (y : State) (me : Process) (status : ℕ) → y.files ≡ s.files → process_at y k ≡ Some p → Leaves (collect (end_process y pid me status))
   left-ended y me status same at =
       let left = ended-others y pid me status k p apart at in
-      left-trim (IsNamedBy s pid x.file) (end_process y pid me status) k left.0 d x file left.1
+      left-collect (IsNamedBy s pid x.file) (end_process y pid me status) k left.0 d x file left.1
       (ap (λ (q : Process). at_number q.descriptors d) left.2.all ∙ has)
       (subst (λ (fs : Numbered OpenFile). IsLeft (IsNamedBy s pid x.file) fs x.file file) (sym (files-ended y pid me status ∙ same)) as-was)
 
@@ -129,30 +128,30 @@ module _ (program_of : Bytes → Option Program) (s : State) (pid : ℕ) (order 
     abbrev now : Process
     now = at_next_line me
 
-    -- what the call names it named before
+    -- an open file that the call names is one that it named before the step
     own-before : IsOwn y now call x.file → IsNamedBy s pid x.file
     own-before own = record { p = me; call = call; d = own.0; file = own.1; at = at; next_is = made; own = own.2; opened = own.3 }
 
     y_live : process_at y k ≡ Some p
     y_live = process_at-other s pid now k apart ∙ live
 
-    left-told : (after : State) (r : Reply) (f : Process → Process) → HasEffect y pid now call after r → Leaves (trim (update after pid f))
-    left-told after r f does =
-        left-trim (IsNamedBy s pid x.file) (update after pid f) k p d x file
+    left-reported : (after : State) (r : Reply) (f : Process → Process) → HasEffect y pid now call after r → Leaves (collect (update after pid f))
+    left-reported after r f does =
+        left-collect (IsNamedBy s pid x.file) (update after pid f) k p d x file
         (update-other after pid f k apart ∙ other y pid now call (in_order-call s pid me order at) (process_at-same s pid now) k p apart y_live after r does) has
         (subst (λ (fs : Numbered OpenFile). IsLeft (IsNamedBy s pid x.file) fs x.file file) (sym (files-update after pid f))
         (left-named (IsOwn y now call x.file) (IsNamedBy s pid x.file) after.files x.file file own-before (left-does y pid now call x.file file there after r does)))
 
     left-attempt : (a : Attempt Effect) → Leads (Did y pid now call) a → Leaves (answer_by_attempt s y pid now a).after
-    left-attempt (done walks (after, returns n)) does = left-told after (returns n) (λ q. with_result q (pos n) 0) does
-    left-attempt (done walks (after, returns_bytes n bytes)) does = left-told after (returns_bytes n bytes) (λ q. with_front bytes (with_result q (pos n) 0)) does
+    left-attempt (done walks (after, returns n)) does = left-reported after (returns n) (λ q. with_result q (pos n) 0) does
+    left-attempt (done walks (after, returns_bytes n bytes)) does = left-reported after (returns_bytes n bytes) (λ q. with_front bytes (with_result q (pos n) 0)) does
     left-attempt (done walks (after, ends status)) does =
-        subst (λ (z : State). Leaves (trim (end_process z pid now status))) (sym (Rattle.pv_laws_access.proofs.HasEffect.ends-stays y pid now call after (ends status) status does refl)) (left-ended y now status refl y_live)
+        subst (λ (z : State). Leaves (collect (end_process z pid now status))) (sym (Rattle.pv_laws_access.proofs.HasEffect.ends-stays y pid now call after (ends status) status does refl)) (left-ended y now status refl y_live)
     left-attempt (done walks (after, waits)) does = as-was
     left-attempt (refused walks errno cause) does =
         subst (λ (fs : Numbered OpenFile). IsLeft (IsNamedBy s pid x.file) fs x.file file) (sym (files-update y pid (λ q. with_result q (negsuc 0) (errno_number errno)))) as-was
 
-  -- a step of a process that calls
+  -- a step of a process that makes a call
   made-one : (call : Call) (me you : Process) → process_at s pid ≡ Some me → next me ≡ calls_for call → process_at s pid ≡ Some you → next you ≡ calls_for call
   made-one call me you at made found = let both : Some you ≡ Some me = sym found ∙ at in let same : you ≡ me = cc both in ap next same ∙ made
 

@@ -1,4 +1,4 @@
--- What a call may leave and answer: said once, and each law is read off it.
+-- The possible effects of a call, as one relation from which each law follows.
 use Rattle.std.proofs.Common.{◌≡◌, ℕ, suc, ℤ, Bool, true, false, cond, not, if◌then◌else◌, ◌==◌, List, [], ◌∷◌, Option, None, Some, Ok, refl, ap, sym, subst, ◌∙◌, arith}
 use Rattle.std.specs.List.{cons_option}
 use Rattle.std.specs.Prelude.{Contains, filter_map}
@@ -27,30 +27,30 @@ use Rattle.pv_model.specs.Tree.{Node, file_node, entries_of, new_number, with_ne
 use Rattle.pv_model.specs.Unveil.{judgement}
 use Rattle.pv_model.specs.Walk.{resolve}
 use Rattle.pv_laws_states.specs.Courses.{is_unveil}
-use Rattle.pv_laws_states.specs.States.{is_call, IsWhole}
+use Rattle.pv_laws_states.specs.States.{is_call, IsValid}
 use Rattle.pv_laws_states.proofs.Attempts.{Leads, leads-after_walks, leads-walk}
-use Rattle.pv_laws_states.proofs.Standing.{IsFinePlace}
+use Rattle.pv_laws_states.proofs.Present.{IsFinePlace}
 use Rattle.pv_laws_access.specs.Growth.{MayDoNoMore}
 use Rattle.pv_laws_access.specs.Justice.{changes_bytes}
 use Rattle.pv_model.specs.Walks.{Walk}
 
--- an answer that the process goes on with
-abbrev pub goes_on : Reply → Bool
-goes_on (returns n) = true
-goes_on (returns_bytes n bytes) = true
-goes_on (ends status) = false
-goes_on waits = false
+-- a reply after which the process continues
+abbrev pub continues : Reply → Bool
+continues (returns n) = true
+continues (returns_bytes n bytes) = true
+continues (ends status) = false
+continues waits = false
 
--- a call that changes bytes, by its own descriptor of a file that is open for writing
+-- a call changes bytes by its own descriptor for a file that is open for writing
 abbrev pub WritesBy : State → Process → Call → ℕ → Type 0
 WritesBy s me call f = (changes_bytes call ≡ true) × HasDescriptor s me call writes f
 
 module _ (s : State) (pid : ℕ) (me : Process) (call : Call) where
-  -- in a whole state the place is one that calls may use
+  -- in a valid state, the place is valid
   abbrev pub IsFine : Place → Type 0
-  IsFine place = IsWhole s → process_at s pid ≡ Some me → is_call call ≡ true → IsFinePlace s.tree place
+  IsFine place = IsValid s → process_at s pid ≡ Some me → is_call call ≡ true → IsFinePlace s.tree place
 
-  -- a place of the call's walks that has a name, and that the table allows to change
+  -- a place of the call's walks that has a name, and that the table allows changing
   pub record MayChange (place : Place) (p : ℕ × Bytes) : Type 0 where
     pub allowed : IsAllowed s me call permission_c place
     pub name : name_of place ≡ Some p
@@ -62,27 +62,27 @@ module _ (s : State) (pid : ℕ) (me : Process) (call : Call) where
   IsOwnFile k file = (d : ℤ) × (descriptor_of call ≡ Some d) × (open_file s me d ≡ Some (k, file))
 
   pub data HasEffect : State → Reply → Type 0 where
-    -- nothing, or its end; and a wait may wait
+    -- nothing changes, or the process ends; or a wait waits
     stays : (r : Reply) → (r ≡ waits → call ≡ Wait) → HasEffect s r
-    -- it narrows its restraints, or goes elsewhere
-    restrains : (q : Process) (r : Reply) → MayDoNoMore me q → q.descriptors ≡ me.descriptors → q.parent ≡ me.parent → (is_unveil call ≡ false → (q.table ≡ me.table) × (q.locked ≡ me.locked)) → goes_on r ≡ true
+    -- the process narrows its restraints, or changes its directory
+    restrains : (q : Process) (r : Reply) → MayDoNoMore me q → q.descriptors ≡ me.descriptors → q.parent ≡ me.parent → (is_unveil call ≡ false → (q.table ≡ me.table) × (q.locked ≡ me.locked)) → continues r ≡ true
         → HasEffect (with_process s pid q) r
     begins : (path : Bytes) (program : Program) → call ≡ Execve path → HasEffect (with_process s pid (with_program s pid me program)) (returns 0)
-    -- a descriptor less, or one more of the same open file
+    -- a descriptor is removed, or one for the same open file is added
     closes : (d : ℕ) → HasEffect (with_process s pid (record me { descriptors = without_number me.descriptors d })) (returns 0)
     copies : (d : ℤ) (x : Descriptor) (n : ℕ) → descriptor_at me d ≡ Some x
         → HasEffect (with_process s pid (record me { descriptors = with_number me.descriptors n (record { file = x.file; close_on_exec = false }) })) (returns n)
     forks : call ≡ Fork → HasEffect (record (with_process s (suc s.last_process) (child s pid me)) { last_process = suc s.last_process }) (returns (suc s.last_process))
-    -- an ended process is forgotten
+    -- the record of an ended process is removed
     reaps : (k : ℕ) (r : Reply) → (is_sorted nat_cmp s.processes ≡ true → (parent : ℕ) × (status : ℕ) × (find nat_cmp k s.processes ≡ Some (ended_record parent status)))
-        → goes_on r ≡ true → HasEffect (record s { processes = where_key nat_cmp (λ other. not (other == k)) s.processes }) r
-    -- an open file stands elsewhere
-    moves : (k : ℕ) (old new : OpenFile) (r : Reply) → at_number s.files k ≡ Some old → new.node ≡ old.node → new.mode ≡ old.mode → IsOwnFile k old → goes_on r ≡ true → HasEffect (with_file s k new) r
-    -- a file has other bytes
+        → continues r ≡ true → HasEffect (record s { processes = where_key nat_cmp (λ other. not (other == k)) s.processes }) r
+    -- an open file has another position
+    moves : (k : ℕ) (old new : OpenFile) (r : Reply) → at_number s.files k ≡ Some old → new.node ≡ old.node → new.mode ≡ old.mode → IsOwnFile k old → continues r ≡ true → HasEffect (with_file s k new) r
+    -- the bytes of a file are replaced
     cuts : (f : ℕ) (bytes : Bytes) → WritesBy s me call f → HasEffect (with_tree s (with_content s.tree f bytes)) (returns 0)
     writes_bytes : (f : ℕ) (bytes : Bytes) (k : ℕ) (old new : OpenFile) (n : ℕ) → WritesBy s me call f → at_number s.files k ≡ Some old → new.node ≡ old.node → new.mode ≡ old.mode → IsOwnFile k old
         → HasEffect (with_file (with_tree s (with_content s.tree f bytes)) k new) (returns n)
-    -- an entry comes, goes, or moves
+    -- an entry is added, removed, or moved
     makes : (place : Place) (p : ℕ × Bytes) (node : Node) → MayChange place p → node_of place ≡ None → entries_of (Some node) ≡ []
         → HasEffect (with_tree s (with_new_node s.tree p.0 p.1 node)) (returns 0)
     links : (place : Place) (p : ℕ × Bytes) (old : Place) (n : ℕ) → MayChange place p → IsAllowed s me call permission_r old → node_of old ≡ Some n → IsFine old
@@ -90,7 +90,7 @@ module _ (s : State) (pid : ℕ) (me : Process) (call : Call) where
     unlinks : (place : Place) (p : ℕ × Bytes) → MayChange place p → HasEffect (with_tree s (without_entry s.tree p.0 p.1)) (returns 0)
     renames : (place : Place) (p : ℕ × Bytes) (there : Place) (q : ℕ × Bytes) (n : ℕ) → MayChange place p → MayChange there q → node_of place ≡ Some n
         → HasEffect (with_tree s (with_entry (without_entry s.tree p.0 p.1) q.0 q.1 n)) (returns 0)
-    -- a file or a directory is opened, or a file is made and opened
+    -- a file or a directory is opened, or a file is created and opened
     opens : (flags : OpenFlags) (place : Place) (n m : ℕ) → flags_of call ≡ Some flags → IsAllowed s me call (permissions_of_open flags) place → node_of place ≡ Some n → IsFine place
         → (flags.truncate ≡ true → writes flags.mode ≡ true)
         → HasEffect (with_open_file s pid me flags n (if flags.truncate then with_content s.tree n [] else s.tree)) (returns m)
@@ -101,16 +101,16 @@ module _ (s : State) (pid : ℕ) (me : Process) (call : Call) where
   abbrev pub Did : Effect → Type 0
   Did (after, r) = HasEffect after r
 
-  -- a call that ends its process leaves the rest to the end
+  -- a call that ends its process leaves the rest to the end of processes
   pub ends-stays : (after : State) (r : Reply) (status : ℕ) → HasEffect after r → r ≡ ends status → after ≡ s
   ends-stays _ _ status (stays r waiting) is = refl
-  ends-stays _ _ status (restrains q r no_more same parent table goes) is = let on = ap goes_on is in cc
+  ends-stays _ _ status (restrains q r no_more same parent table goes) is = let on = ap continues is in cc
   ends-stays _ _ status (begins path program new) is = cc
   ends-stays _ _ status (closes d) is = cc
   ends-stays _ _ status (copies d x n found) is = cc
   ends-stays _ _ status (forks new) is = cc
-  ends-stays _ _ status (reaps k r gone goes) is = let on = ap goes_on is in cc
-  ends-stays _ _ status (moves k old new r found node mode named goes) is = let on = ap goes_on is in cc
+  ends-stays _ _ status (reaps k r gone goes) is = let on = ap continues is in cc
+  ends-stays _ _ status (moves k old new r found node mode named goes) is = let on = ap continues is in cc
   ends-stays _ _ status (cuts f bytes has) is = cc
   ends-stays _ _ status (writes_bytes f bytes k old new n has found node mode named) is = cc
   ends-stays _ _ status (makes place p node change free bare) is = cc
@@ -130,7 +130,7 @@ second-place g w v ws first place before is =
     subst (λ o. Contains (cons_option o (filter_map g (v ∷ ws))) place) (sym before)
     (subst (λ o. Contains (cons_option (Some first) (cons_option o (filter_map g ws))) place) (sym is) (1, omega arith, refl))
 
--- the judgement that lets a call go on
+-- the decision that lets a call continue
 pub leads-judged : {A : Type 0} (P : A → Type 0) (s : State) (me : Process) (start : ℕ) (follow : Follow) (path : Bytes) (needed : Perms) (next : Place → Attempt A)
     → ((place : Place) → resolve s.tree follow start path ≡ Ok place → judgement s.tree me.table place needed ≡ Allowed → Leads P (next place))
     → Leads P (walk_from s start follow path >>= (λ place. judge_for s me place needed >> next place))

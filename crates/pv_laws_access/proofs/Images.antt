@@ -1,4 +1,4 @@
--- Steps and runs in one program image, forks and executions.
+-- Steps and runs in one program image, forks and execves.
 use Rattle.std.proofs.Common.{◌≡◌, ◌≢◌, ℕ, suc, pos, Bool, true, false, ◌&&◌, ◌||◌, if◌then◌else◌, nat_le, nat_lt, List, [], ◌∷◌, length, Option, None, Some, is_some, refl, ap, sym, subst, ◌∙◌, ⊎_elim}
 use Rattle.std.proofs.lemmas.Bool.{cases_eq}
 use Rattle.pv_model.specs.declared.call.Call.{Call}
@@ -11,22 +11,22 @@ use Rattle.pv_model.specs.Attempt.{Attempt, done, refused, ◌>>◌, refuse_if}
 use Rattle.pv_model.specs.Bytes.{Bytes}
 use Rattle.pv_model.specs.Calls.Processes.{with_result, child, fork, with_program, executable_bytes, execve}
 use Rattle.pv_model.specs.Effect.{Effect, returns, returns_bytes, ends, waits, answers, node_of}
-use Rattle.pv_model.specs.Held.{trim}
+use Rattle.pv_model.specs.Held.{collect}
 use Rattle.pv_model.specs.Perms.{permission_x}
 use Rattle.pv_model.specs.Program.{Next, inside, calls_for, next}
 use Rattle.pv_model.specs.State.{Program, Process, State, process_at, with_process}
 use Rattle.pv_model.specs.Step.{Stepped, step, step_by, run}
 use Rattle.pv_model.specs.Tree.{node_at}
 use Rattle.pv_laws_states.specs.Courses.{is_unveil}
-use Rattle.pv_laws_states.specs.States.{SpellsPrograms, IsWhole}
+use Rattle.pv_laws_states.specs.States.{EncodesPrograms, IsValid}
 use Rattle.pv_laws_states.proofs.Attempts.{Leads, leads-demand, leads-place}
 use Rattle.pv_laws_states.proofs.BySteps.{step-keeps_whole}
 use Rattle.pv_laws_states.proofs.Outcomes.{at_call, by_answer}
 use Rattle.pv_laws_states.proofs.Processes.{process_at-same, process_at-other}
 use Rattle.pv_laws_states.proofs.Rests
 use Rattle.pv_laws_access.specs.Growth.{MayDoNoMore, HasTheSame, IsInOrder, IsLeftAlone, begins_image, HasExecuted, StaysInImage}
-use Rattle.pv_laws_access.proofs.Callers.{kept, other-kept}
-use Rattle.pv_laws_access.proofs.Ends.{alone-itself, alone-same, process_at-trim, update-live, update-other, whole-in_order, IsSameNext, same-next, step-is, step-gone}
+use Rattle.pv_laws_access.proofs.Callers.{preserved, other-preserved}
+use Rattle.pv_laws_access.proofs.Ends.{alone-itself, alone-same, process_at-collect, update-live, update-other, whole-in_order, IsSameNext, same-next, step-is, step-gone}
 use Rattle.pv_laws_access.proofs.Narrowing.{no_more-along, no_more-same, no_more-of_same}
 
 -- ---- steps
@@ -39,9 +39,9 @@ grows-never program_of s pid p q order at there quiet =
   where
     by : (n : Next) → IsSameNext p n → process_at (step_by program_of s pid p n).after pid ≡ Some q → begins_image n (step_by program_of s pid p n).outcome ≡ false → MayDoNoMore p q
     by (inside r) same left none = let now : Some r ≡ Some q = sym (process_at-same s pid r) ∙ left in let eq : r ≡ q = cc now in subst (MayDoNoMore p) eq (no_more-of_same p r same.0)
-    by (calls_for call) same left none = (kept program_of s pid order p at call q left none).0
+    by (calls_for call) same left none = (preserved program_of s pid order p at call q left none).0
 
--- where it makes no unveil, the table and the lock stay too
+-- a call other than unveil leaves the table and the lock unchanged
 pub tables-stay : (program_of : Bytes → Option Program) (s : State) (pid : ℕ) (p q : Process) → IsInOrder s → process_at s pid ≡ Some p → process_at (step program_of s pid).after pid ≡ Some q
     → begins_image (next p) (step program_of s pid).outcome ≡ false → ((call : Call) → next p ≡ calls_for call → is_unveil call ≡ false) → (q.table ≡ p.table) × (q.locked ≡ p.locked)
 tables-stay program_of s pid p q order at there quiet others =
@@ -52,7 +52,7 @@ tables-stay program_of s pid p q order at there quiet others =
         → (q.table ≡ p.table) × (q.locked ≡ p.locked)
     by (inside r) which same left none =
         let now : Some r ≡ Some q = sym (process_at-same s pid r) ∙ left in let eq : r ≡ q = cc now in subst (λ (x : Process). (x.table ≡ p.table) × (x.locked ≡ p.locked)) eq (same.0.table, same.0.locked)
-    by (calls_for call) which same left none = (kept program_of s pid order p at call q left none).1 (others call which)
+    by (calls_for call) which same left none = (preserved program_of s pid order p at call q left none).1 (others call which)
 
 pub others-keep : (program_of : Bytes → Option Program) (s : State) (pid other : ℕ) (p : Process) → IsInOrder s → other ≢ pid → process_at s other ≡ Some p
     → (q : Process) × (process_at (step program_of s pid).after other ≡ Some q) × IsLeftAlone p q
@@ -60,13 +60,13 @@ others-keep program_of s pid other p order apart there = of (process_at s pid) r
   where
     by : (me : Process) → process_at s pid ≡ Some me → (n : Next) → (q : Process) × (process_at (step_by program_of s pid me n).after other ≡ Some q) × IsLeftAlone p q
     by me at (inside r) = (p, process_at-other s pid r other apart ∙ there, alone-itself p)
-    by me at (calls_for call) = other-kept program_of s pid order me at call other p apart there
+    by me at (calls_for call) = other-preserved program_of s pid order me at call other p apart there
 
     of : (o : Option Process) → process_at s pid ≡ o → (q : Process) × (process_at (step program_of s pid).after other ≡ Some q) × IsLeftAlone p q
     of None none = (p, ap (λ (w : Stepped). process_at w.after other) (step-gone program_of s pid none) ∙ there, alone-itself p)
     of (Some me) at = subst (λ (w : Stepped). (q : Process) × (process_at w.after other ≡ Some q) × IsLeftAlone p q) (sym (step-is program_of s pid me at)) (by me at (next me))
 
--- a step that calls
+-- a step that makes a call
 step-calls : (program_of : Bytes → Option Program) (s : State) (pid : ℕ) (p : Process) (call : Call) → process_at s pid ≡ Some p → next p ≡ calls_for call
     → step program_of s pid ≡ step_by program_of s pid p (calls_for call)
 step-calls program_of s pid p call at is = step-is program_of s pid p at ∙ ap (step_by program_of s pid p) is
@@ -80,23 +80,23 @@ module _ (before x : State) (pid : ℕ) (now : Process) where
   abbrev forked : State
   forked = record (with_process x number (child x pid now)) { last_process = number }
 
-  -- the child is live under its number, also where that is the parent's own
+  -- the child is live under its number, even if that is the parent's own
   abbrev HasChild : ℕ → Answered → Type 0
   HasChild n a = a.outcome ≡ Value n → (c : Process) × (process_at a.after n ≡ Some c) × HasTheSame now c
 
-  born : (f : Process → Process) → ((p : Process) → HasTheSame p (f p)) → (c : Process) × (process_at (trim (update forked pid f)) number ≡ Some c) × HasTheSame now c
+  born : (f : Process → Process) → ((p : Process) → HasTheSame p (f p)) → (c : Process) × (process_at (collect (update forked pid f)) number ≡ Some c) × HasTheSame now c
   born f same =
       let there : process_at forked number ≡ Some (child x pid now) = process_at-same x number (child x pid now) in
       ⊎_elim
       (λ own. (
         f (child x pid now),
-        process_at-trim (update forked pid f) number ∙ ap (process_at (update forked pid f)) own ∙ update-live forked pid f (child x pid now) (ap (process_at forked) (sym own) ∙ there),
-        let told = same (child x pid now) in
-            record { promises = told.promises; execpromises = told.execpromises; table = told.table; locked = told.locked; descriptors = told.descriptors },
+        process_at-collect (update forked pid f) number ∙ ap (process_at (update forked pid f)) own ∙ update-live forked pid f (child x pid now) (ap (process_at forked) (sym own) ∙ there),
+        let reported = same (child x pid now) in
+            record { promises = reported.promises; execpromises = reported.execpromises; table = reported.table; locked = reported.locked; descriptors = reported.descriptors },
       ))
       (λ other. (
         child x pid now,
-        process_at-trim (update forked pid f) number ∙ update-other forked pid f number other ∙ there,
+        process_at-collect (update forked pid f) number ∙ update-other forked pid f number other ∙ there,
         record { promises = refl; execpromises = refl; table = refl; locked = refl; descriptors = refl },
       ))
       (cases_eq number pid)
@@ -109,7 +109,7 @@ module _ (before x : State) (pid : ℕ) (now : Process) where
       by false is =
           let same : number ≡ n = cc is in
           let c = born (λ p. with_result p (pos number) 0) (λ p. record { promises = refl; execpromises = refl; table = refl; locked = refl; descriptors = refl }) in
-          (c.0, ap (process_at (trim (update forked pid (λ p. with_result p (pos number) 0)))) (sym same) ∙ c.1, c.2)
+          (c.0, ap (process_at (collect (update forked pid (λ p. with_result p (pos number) 0)))) (sym same) ∙ c.1, c.2)
 
 pub child-same : (program_of : Bytes → Option Program) (s : State) (pid n : ℕ) (p : Process) → process_at s pid ≡ Some p → next p ≡ calls_for Fork → (step program_of s pid).outcome ≡ Value n
     → (c : Process) × (process_at (step program_of s pid).after n ≡ Some c) × HasTheSame p c
@@ -125,13 +125,13 @@ child-same program_of s pid n p at is answered =
     forks =
         by_answer (λ a. a.outcome ≡ Value n → (c : Process) × (process_at a.after n ≡ Some c) × HasTheSame p c) program_of s pid Fork
         (λ none. cc)
-        (λ me found missing told. let c = has_child s (at_call s pid me) pid (at_next_line me) n told in (c.0, c.1, since me c.0 (cc) c.2))
-        (λ me lacks found missing lenient told. cc)
-        (λ me lacks found missing lenient told. cc)
+        (λ me found missing reported. let c = has_child s (at_call s pid me) pid (at_next_line me) n reported in (c.0, c.1, since me c.0 (cc) c.2))
+        (λ me lacks found missing lenient reported. cc)
+        (λ me lacks found missing lenient reported. cc)
 
 -- ---- execve
 
--- the program that an execve leaves
+-- the program after an execve
 abbrev pub Executes : State → ℕ → Process → Effect → Type 0
 Executes s pid me (after, r) = (program : Program) × (after ≡ with_process s pid (with_program s pid me program)) × (r ≡ returns 0)
 
@@ -140,9 +140,9 @@ executes program_of s pid me path =
     leads-place (Executes s pid me) s me me.directory Last path permission_x (Rests.execve_1 s pid me program_of) (λ place found.
     leads-demand (Executes s pid me) ENOENT (node_of place) (Rests.execve_2 s pid me program_of) (λ n is.
     leads-demand (Executes s pid me) EACCES (executable_bytes (node_at s.tree n)) (Rests.execve_3 s pid me program_of) (λ bytes file.
-    leads-demand (Executes s pid me) ENOEXEC (program_of bytes) (Rests.execve_4 s pid me) (λ program spelled. (program, refl, refl)))))
+    leads-demand (Executes s pid me) ENOEXEC (program_of bytes) (Rests.execve_4 s pid me) (λ program encoded. (program, refl, refl)))))
 
--- what is left of the restraints
+-- the restraints after an execve
 executed : (s : State) (pid : ℕ) (me q : Process) (program : Program) → HasTheSame (with_program s pid me program) q → HasExecuted me q
 executed s pid me q program same = record {
   promises = same.promises;
@@ -161,8 +161,8 @@ abbrev Executed : Process → ℕ → ℕ → Answered → Type 0
 Executed p pid n a = a.outcome ≡ Value n → (n ≡ 0) × ((q : Process) × (process_at a.after pid ≡ Some q) × HasExecuted p q)
 
 executed-attempt : (s x : State) (pid n : ℕ) (me now : Process) → HasTheSame me now → (a : Attempt Effect) → Leads (Executes x pid now) a → Executed me pid n (answer_by_attempt s x pid now a)
-executed-attempt s x pid n me now same (done walks (after, returns m)) does told =
-    let value : m ≡ n = cc told in
+executed-attempt s x pid n me now same (done walks (after, returns m)) does reported =
+    let value : m ≡ n = cc reported in
     let zero_reply : returns m ≡ returns 0 = does.2 in
     let zero : m ≡ 0 = cc zero_reply in
     let new : Process = with_program x pid now does.0 in
@@ -171,7 +171,7 @@ executed-attempt s x pid n me now same (done walks (after, returns m)) does told
       sym value ∙ zero,
       (
         f new,
-        process_at-trim (update after pid f) pid ∙ update-live after pid f new at,
+        process_at-collect (update after pid f) pid ∙ update-live after pid f new at,
         let is = executed x pid now (f new) does.0 (record { promises = refl; execpromises = refl; table = refl; locked = refl; descriptors = refl }) in
             record {
               promises = is.promises ∙ same.execpromises;
@@ -181,10 +181,10 @@ executed-attempt s x pid n me now same (done walks (after, returns m)) does told
             },
       ),
     )
-executed-attempt s x pid n me now same (done walks (after, returns_bytes m bytes)) does told = cc
-executed-attempt s x pid n me now same (done walks (after, ends status)) does told = cc
-executed-attempt s x pid n me now same (done walks (after, waits)) does told = cc
-executed-attempt s x pid n me now same (refused walks errno cause) does told = cc
+executed-attempt s x pid n me now same (done walks (after, returns_bytes m bytes)) does reported = cc
+executed-attempt s x pid n me now same (done walks (after, ends status)) does reported = cc
+executed-attempt s x pid n me now same (done walks (after, waits)) does reported = cc
+executed-attempt s x pid n me now same (refused walks errno cause) does reported = cc
 
 pub execve-leaves : (program_of : Bytes → Option Program) (s : State) (pid n : ℕ) (p : Process) (path : Bytes) → process_at s pid ≡ Some p → next p ≡ calls_for (Execve path)
     → (step program_of s pid).outcome ≡ Value n → (n ≡ 0) × ((q : Process) × (process_at (step program_of s pid).after pid ≡ Some q) × HasExecuted p q)
@@ -200,18 +200,18 @@ execve-leaves program_of s pid n p path at is answered =
         (λ me found missing. let same : me ≡ p = cc in subst (λ (y : Process). Executed y pid n (answer_by_attempt s (at_call s pid me) pid (at_next_line me) (execve (at_call s pid me) pid (at_next_line me) program_of path))) same
         (executed-attempt s (at_call s pid me) pid n me (at_next_line me) (record { promises = refl; execpromises = refl; table = refl; locked = refl; descriptors = refl })
         (execve (at_call s pid me) pid (at_next_line me) program_of path) (executes program_of (at_call s pid me) pid (at_next_line me) path)))
-        (λ me lacks found missing lenient told. cc)
-        (λ me lacks found missing lenient told. cc)
+        (λ me lacks found missing lenient reported. cc)
+        (λ me lacks found missing lenient reported. cc)
 
 -- ---- runs
 
-pub runs-without : (program_of : Bytes → Option Program) → SpellsPrograms program_of → (s : State) (pid : ℕ) (pids : List ℕ) (p q : Process) → IsWhole s → process_at s pid ≡ Some p
+pub runs-without : (program_of : Bytes → Option Program) → EncodesPrograms program_of → (s : State) (pid : ℕ) (pids : List ℕ) (p q : Process) → IsValid s → process_at s pid ≡ Some p
     → StaysInImage program_of pid pids s → process_at (run program_of pids s).final pid ≡ Some q → MayDoNoMore p q
-runs-without program_of spells s pid [] p q whole at stays there = let is : Some p ≡ Some q = sym at ∙ there in let same : p ≡ q = cc is in subst (MayDoNoMore p) same (no_more-same p p refl refl refl refl)
-runs-without program_of spells s pid (k ∷ ks) p q whole at stays there =
+runs-without program_of encodes s pid [] p q whole at stays there = let is : Some p ≡ Some q = sym at ∙ there in let same : p ≡ q = cc is in subst (MayDoNoMore p) same (no_more-same p p refl refl refl refl)
+runs-without program_of encodes s pid (k ∷ ks) p q whole at stays there =
     let live = lives (process_at (step program_of s k).after pid) refl stays.1 in
     no_more-along p live.0 q (first live.0 live.1)
-    (runs-without program_of spells (step program_of s k).after pid ks live.0 q (step-keeps_whole program_of spells s k whole) live.1 stays.2 there)
+    (runs-without program_of encodes (step program_of s k).after pid ks live.0 q (step-keeps_whole program_of encodes s k whole) live.1 stays.2 there)
   where
     lives : (o : Option Process) → process_at (step program_of s k).after pid ≡ o → is_some o ≡ true → (r : Process) × (process_at (step program_of s k).after pid ≡ Some r)
     lives None none is = cc
@@ -222,7 +222,7 @@ runs-without program_of spells s pid (k ∷ ks) p q whole at stays there =
         ⊎_elim
         (λ same. grows-never program_of s pid p r (whole-in_order s whole) at (ap (λ j. process_at (step program_of s j).after pid) (sym same) ∙ found) (stays.0 same p at))
         (λ other.
-        let kept = others-keep program_of s k pid p (whole-in_order s whole) (λ same. other (sym same)) at in
-        let is : Some kept.0 ≡ Some r = sym kept.1 ∙ found in
-        let same : kept.0 ≡ r = cc is in subst (MayDoNoMore p) same (no_more-of_same p kept.0 (alone-same p kept.0 kept.2)))
+        let preserved = others-keep program_of s k pid p (whole-in_order s whole) (λ same. other (sym same)) at in
+        let is : Some preserved.0 ≡ Some r = sym preserved.1 ∙ found in
+        let same : preserved.0 ≡ r = cc is in subst (MayDoNoMore p) same (no_more-of_same p preserved.0 (alone-same p preserved.0 preserved.2)))
         (cases_eq k pid)

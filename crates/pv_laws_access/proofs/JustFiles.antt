@@ -13,7 +13,7 @@ use Rattle.pv_model.specs.Bytes.{Bytes}
 use Rattle.pv_model.specs.Calls.Descriptors.{with_content}
 use Rattle.pv_model.specs.Calls.Processes.{end_process}
 use Rattle.pv_model.specs.Effect.{Reply, node_of, name_of, bytes_of}
-use Rattle.pv_model.specs.Held.{trim}
+use Rattle.pv_model.specs.Held.{collect}
 use Rattle.pv_model.specs.Needs.{needs, needs_cpath, needs_of_mode, permissions_of_mode, permissions_of_open}
 use Rattle.pv_model.specs.Perms.{no_permissions, join_permissions, covers, permission_c}
 use Rattle.pv_model.specs.Program.{calls_for, next}
@@ -23,9 +23,9 @@ use Rattle.pv_model.specs.State.{Program, Process, State, writes, process_at}
 use Rattle.pv_model.specs.Touch.{change_file, change_entry, file_bytes, flags_of, IsAllowed, Touches, Justifies, change_by_descriptor, change_by_open, entry_by_place}
 use Rattle.pv_model.specs.Tree.{Node, file_node, Tree, node_at, entries_of, is_directory_at, find_entry, with_entry, without_entry, with_new_node}
 use Rattle.pv_model.specs.Unveil.{Table, permissions_at, judge_entry, governing_entry, judgement}
-use Rattle.pv_laws_states.specs.States.{is_call, IsTree, IsWhole}
+use Rattle.pv_laws_states.specs.States.{is_call, IsTree, IsValid}
 use Rattle.pv_laws_states.proofs.ByTree.{FineName, named-place}
-use Rattle.pv_laws_states.proofs.Standing.{IsFinePlace}
+use Rattle.pv_laws_states.proofs.Present.{IsFinePlace}
 use Rattle.pv_laws_trees.proofs.Changes.{shape-without_entry}
 use Rattle.pv_laws_states.proofs.Ending.{tree-end}
 use Rattle.pv_laws_trees.proofs.Entries.{by_name}
@@ -33,7 +33,7 @@ use Rattle.pv_laws_states.proofs.Outcomes.{at_call}
 use Rattle.pv_laws_states.proofs.Processes.{process_at-same, tree-update}
 use Rattle.pv_laws_states.proofs.Replies.{whole-at_call}
 use Rattle.pv_laws_access.specs.Justice.{changes_bytes, ChangesBytes, HasEffectNext, IsExplained}
-use Rattle.pv_laws_access.proofs.Changed.{cases_entry, content-other, entries-content, file-beside, entry-with_other, entry-without_other, new-within, entry-new_other, file-new, entry-trim, file-trim}
+use Rattle.pv_laws_access.proofs.Changed.{cases_entry, content-other, entries-content, file-beside, entry-with_other, entry-without_other, new-within, entry-new_other, file-new, entry-collect, file-collect}
 use Rattle.pv_laws_access.proofs.HasEffect
 use Rattle.pv_laws_access.proofs.Narrowing.{covers-along}
 use Rattle.pv_laws_access.proofs.Touched.{touched, allowed-back}
@@ -53,7 +53,7 @@ judged-fewer t (Some table) place many few fewer allowed = by (governing_entry t
           | false ↦ λ hasnt none. cc none
         ] refl is
 
--- an open that makes asks for c
+-- an open that creates needs c
 making : (flags : OpenFlags) → flags.create ≡ true → covers (permissions_of_open flags) permission_c ≡ true
 making flags create =
     ap (λ b. covers (join_permissions (permissions_of_mode flags.mode) (if b then permission_c else no_permissions)) permission_c) create
@@ -80,14 +80,14 @@ making flags create =
         all false false false true = refl
         all false false false false = refl
 
--- what a call that opens needs
+-- the needs of a call that opens
 pub needs-open : (call : Call) (flags : OpenFlags) → flags_of call ≡ Some flags → needs call ≡ needs_of_mode flags.mode ++ (if flags.create then needs_cpath else [])
 unfolding needs
 needs-open (TheCall.Open path g) flags is = let same : g ≡ flags = cc is in ap (λ (h : OpenFlags). needs_of_mode h.mode ++ (if h.create then needs_cpath else [])) same
 needs-open (TheCall.OpenAt start path g) flags is = let same : g ≡ flags = cc is in ap (λ (h : OpenFlags). needs_of_mode h.mode ++ (if h.create then needs_cpath else [])) same
 needs-open call flags is = cc is
 
--- an open that cuts a file, at a place that is allowed for its permissions
+-- an open that truncates a file, at a place that is allowed for its permissions
 pub record IsCut (s : State) (me : Process) (call : Call) (f : ℕ) : Type 0 where
   pub flags : OpenFlags
   pub place : Place
@@ -97,7 +97,7 @@ pub record IsCut (s : State) (me : Process) (call : Call) (f : ℕ) : Type 0 whe
   pub allowed : IsAllowed s me call (permissions_of_open flags) place
   pub node : node_of place ≡ Some f
 
--- how a call writes a file: by a descriptor that is open for writing, or by such an open
+-- a call writes a file: by a descriptor that is open for writing, or by such an open
 abbrev pub IsWritten : State → Process → Call → ℕ → Type 0
 IsWritten s me call f = HasEffect.WritesBy s me call f ⊎ IsCut s me call f
 
@@ -112,11 +112,11 @@ written-changes s me call f is = ⊎_elim (λ has. has.0) (λ c. opens call c.fl
     opens (TheCall.OpenAt start path g) flags flagged = refl
     opens call flags flagged = cc flagged
 
--- a call needs cpath, perhaps after others
+-- a call needs cpath, possibly among other promises
 abbrev pub AsksCpath : Call → Type 0
 AsksCpath call = (others : List Need) × (needs call ≡ others ++ needs_cpath)
 
--- a place of the call's at an entry, which calls may use, and which is allowed for c
+-- a valid place of the call at an entry, which is allowed for c
 pub record IsEdited (s : State) (me : Process) (call : Call) (d : ℕ) (name : Bytes) : Type 0 where
   pub place : Place
   pub allowed : IsAllowed s me call permission_c place
@@ -124,7 +124,7 @@ pub record IsEdited (s : State) (me : Process) (call : Call) (d : ℕ) (name : B
   pub fine : IsFinePlace s.tree place
   pub asks : AsksCpath call
 
-module _ (s : State) (pid : ℕ) (me : Process) (call : Call) (whole : IsWhole s) (at : process_at s pid ≡ Some me) (is_good : is_call call ≡ true) where
+module _ (s : State) (pid : ℕ) (me : Process) (call : Call) (whole : IsValid s) (at : process_at s pid ≡ Some me) (is_good : is_call call ≡ true) where
   abbrev pub Change : Place → ℕ × Bytes → Type 0
   Change = HasEffect.MayChange s pid me call
 
@@ -137,7 +137,7 @@ module _ (s : State) (pid : ℕ) (me : Process) (call : Call) (whole : IsWhole s
   pub many : (u : Tree) → IsTree u → u.inodes ≡ s.tree.inodes → length u.nodes ≡ length s.tree.nodes
   many u tree same = tree.well_formed.numbers ∙ ap suc same ∙ sym whole.tree.well_formed.numbers
 
-  -- a directory stays one beside a change of entries
+  -- a directory stays a directory when entries change
   pub between-directory : (p : ℕ × Bytes) → is_directory_at s.tree p.0 ≡ true → (q : ℕ) → is_directory_at s.tree q ≡ true → is_directory_at (without_entry s.tree p.0 p.1) q ≡ true
   between-directory p dir q into = (shape-without_entry s.tree p.0 p.1 dir whole.tree.well_formed.each_node).directory q ∙ into
 
@@ -150,7 +150,7 @@ module _ (s : State) (pid : ℕ) (me : Process) (call : Call) (whole : IsWhole s
     named-so : (p : ℕ × Bytes) → (d ≡ p.0) → (name ≡ p.1) → ◌≡◌ {A = Option (ℕ × Bytes)} (Some p) (Some (d, name))
     named-so p here same = λ i. Some (sym here i, sym same i)
 
-    -- the entry is edited by a call that needs cpath
+    -- a call that needs cpath changes the entry
     abbrev E : Type 0
     E = IsEdited s me call d name
 
@@ -257,7 +257,7 @@ module _ (s : State) (pid : ℕ) (me : Process) (call : Call) (whole : IsWhole s
 
 -- ---- the laws
 
--- the call that edits an entry, with its promises held
+-- the call that changes an entry, with its promises held
 pub record IsEditedBy (s : State) (pid : ℕ) (d : ℕ) (name : Bytes) : Type 0 where
   pub me : Process
   pub call : Call
@@ -266,17 +266,17 @@ pub record IsEditedBy (s : State) (pid : ℕ) (d : ℕ) (name : Bytes) : Type 0 
   pub held : missing_promise me.promises (needs call) ≡ None
   pub edited : IsEdited s me call d name
 
-pub entries-edited : (program_of : Bytes → Option Program) (s : State) (pid : ℕ) (d : ℕ) (name : Bytes) → IsWhole s → Touches program_of s pid (change_entry d name) → IsEditedBy s pid d name
+pub entries-edited : (program_of : Bytes → Option Program) (s : State) (pid : ℕ) (d : ℕ) (name : Bytes) → IsValid s → Touches program_of s pid (change_entry d name) → IsEditedBy s pid d name
 entries-edited program_of s pid d name whole changes =
     let T : State → Type 0 = λ y. find_entry y.tree d name ≢ find_entry s.tree d name in
     let t = touched program_of s pid whole T
     (λ differs. differs refl)
     (λ p q at same differs. differs refl)
     (λ y me status tree ascending others differs.
-    differs (entry-trim (end_process y pid me status) (subst IsTree (sym (tree-end y pid me status ∙ tree)) whole.tree) d name ∙ ap (λ (u : Tree). find_entry u d name) (tree-end y pid me status ∙ tree)))
+    differs (entry-collect (end_process y pid me status) (subst IsTree (sym (tree-end y pid me status ∙ tree)) whole.tree) d name ∙ ap (λ (u : Tree). find_entry u d name) (tree-end y pid me status ∙ tree)))
     changes in
-    let same : find_entry (trim (update t.after pid t.told)).tree d name ≡ find_entry t.after.tree d name =
-    entry-trim (update t.after pid t.told) (subst IsTree (sym (tree-update t.after pid t.told)) t.tree) d name ∙ ap (λ (u : Tree). find_entry u d name) (tree-update t.after pid t.told) in
+    let same : find_entry (collect (update t.after pid t.reported)).tree d name ≡ find_entry t.after.tree d name =
+    entry-collect (update t.after pid t.reported) (subst IsTree (sym (tree-update t.after pid t.reported)) t.tree) d name ∙ ap (λ (u : Tree). find_entry u d name) (tree-update t.after pid t.reported) in
     let by =
     entries-by (at_call s pid t.me) pid (at_next_line t.me) t.call (whole-at_call s pid t.me whole t.at) (process_at-same s pid (at_next_line t.me)) t.is d name t.after t.reply t.does t.tree
     (λ eq. t.touch (same ∙ eq)) in
@@ -289,16 +289,16 @@ entries-edited program_of s pid d name whole changes =
       edited = record { place = by.place; allowed = allowed-back s pid t.me t.call permission_c by.place by.allowed; named = by.named; fine = by.fine; asks = by.asks };
     }
 
-pub entries-explained : (program_of : Bytes → Option Program) (s : State) (pid : ℕ) (d : ℕ) (name : Bytes) → IsWhole s → Touches program_of s pid (change_entry d name)
+pub entries-explained : (program_of : Bytes → Option Program) (s : State) (pid : ℕ) (d : ℕ) (name : Bytes) → IsValid s → Touches program_of s pid (change_entry d name)
     → (e : IsExplained s pid (change_entry d name)) × AsksCpath e.1
 entries-explained program_of s pid d name whole changes =
     let e = entries-edited program_of s pid d name whole changes in
     ((e.me, e.call, e.at, e.next_is, e.held, entry_by_place e.edited.place d name e.edited.allowed e.edited.named), e.edited.asks)
 
-pub entries-justified : (program_of : Bytes → Option Program) (s : State) (pid : ℕ) (d : ℕ) (name : Bytes) → IsWhole s → Touches program_of s pid (change_entry d name) → IsExplained s pid (change_entry d name)
+pub entries-justified : (program_of : Bytes → Option Program) (s : State) (pid : ℕ) (d : ℕ) (name : Bytes) → IsValid s → Touches program_of s pid (change_entry d name) → IsExplained s pid (change_entry d name)
 entries-justified program_of s pid d name whole changes = (entries-explained program_of s pid d name whole changes).0
 
--- what was written at the call is written before it
+-- a file that is written at the call is written before it
 written-back : (s : State) (pid : ℕ) (me : Process) (call : Call) (f : ℕ) → IsWritten (at_call s pid me) (at_next_line me) call f → IsWritten s me call f
 written-back s pid me call f is =
     ⊎_elim (λ has. inl has)
@@ -321,17 +321,17 @@ pub record IsWrittenBy (s : State) (pid : ℕ) (f : ℕ) : Type 0 where
   pub held : missing_promise me.promises (needs call) ≡ None
   pub written : IsWritten s me call f
 
-pub files-written : (program_of : Bytes → Option Program) (s : State) (pid : ℕ) (f : ℕ) → IsWhole s → Touches program_of s pid (change_file f) → IsWrittenBy s pid f
+pub files-written : (program_of : Bytes → Option Program) (s : State) (pid : ℕ) (f : ℕ) → IsValid s → Touches program_of s pid (change_file f) → IsWrittenBy s pid f
 files-written program_of s pid f whole changes =
     let T : State → Type 0 = λ y. (is_file (node_at y.tree f) ≡ true) × (file_bytes y f ≢ file_bytes s f) in
     let t = touched program_of s pid whole T
     (λ differs. differs.1 refl)
     (λ p q at same differs. differs.1 refl)
     (λ y me status tree ascending others differs.
-    differs.1 (ap bytes_of (file-trim (end_process y pid me status) f differs.0 ∙ ap (λ (u : Tree). node_at u f) (tree-end y pid me status ∙ tree))))
+    differs.1 (ap bytes_of (file-collect (end_process y pid me status) f differs.0 ∙ ap (λ (u : Tree). node_at u f) (tree-end y pid me status ∙ tree))))
     (changes.1, changes.2) in
-    let same : node_at (trim (update t.after pid t.told)).tree f ≡ node_at t.after.tree f =
-    file-trim (update t.after pid t.told) f t.touch.0 ∙ ap (λ (u : Tree). node_at u f) (tree-update t.after pid t.told) in
+    let same : node_at (collect (update t.after pid t.reported)).tree f ≡ node_at t.after.tree f =
+    file-collect (update t.after pid t.reported) f t.touch.0 ∙ ap (λ (u : Tree). node_at u f) (tree-update t.after pid t.reported) in
     record {
       me = t.me;
       call = t.call;
@@ -343,13 +343,13 @@ files-written program_of s pid f whole changes =
           (λ eq. t.touch.1 (ap bytes_of same ∙ eq)));
     }
 
-pub files-justified : (program_of : Bytes → Option Program) (s : State) (pid : ℕ) (f : ℕ) → IsWhole s → Touches program_of s pid (change_file f) → IsExplained s pid (change_file f)
+pub files-justified : (program_of : Bytes → Option Program) (s : State) (pid : ℕ) (f : ℕ) → IsValid s → Touches program_of s pid (change_file f) → IsExplained s pid (change_file f)
 files-justified program_of s pid f whole changes =
     let e = files-written program_of s pid f whole changes in
     (e.me, e.call, e.at, e.next_is, e.held, written-justifies s e.me e.call f e.written)
 
--- so by a call that changes bytes
-pub files-changed : (program_of : Bytes → Option Program) (s : State) (pid : ℕ) (f : ℕ) → IsWhole s → Touches program_of s pid (change_file f) → HasEffectNext ChangesBytes s pid f
+-- the call is one that changes bytes
+pub files-changed : (program_of : Bytes → Option Program) (s : State) (pid : ℕ) (f : ℕ) → IsValid s → Touches program_of s pid (change_file f) → HasEffectNext ChangesBytes s pid f
 files-changed program_of s pid f whole changes =
     let e = files-written program_of s pid f whole changes in
     (e.me, e.call, e.at, e.next_is, e.held, (written-changes s e.me e.call f e.written, written-justifies s e.me e.call f e.written))

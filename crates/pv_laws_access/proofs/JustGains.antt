@@ -12,7 +12,7 @@ use Rattle.pv_model.specs.Bytes.{Bytes}
 use Rattle.pv_model.specs.Calls.Descriptors.{new_open_file}
 use Rattle.pv_model.specs.Calls.Processes.{child, end_process}
 use Rattle.pv_model.specs.Effect.{Reply, node_of, descriptor_at, open_file, open_file_of}
-use Rattle.pv_model.specs.Held.{among, trim}
+use Rattle.pv_model.specs.Held.{among, collect}
 use Rattle.pv_model.specs.Needs.{needs, permissions_of_open}
 use Rattle.pv_model.specs.Numbered.{Numbered, at_number, with_number, without_number, least_free}
 use Rattle.pv_model.specs.Program.{calls_for, next}
@@ -21,22 +21,22 @@ use Rattle.pv_model.specs.State.{OpenFile, Descriptor, Program, Process, State, 
 use Rattle.pv_model.specs.Touch.{gain_descriptor, flags_of, HasOpen, Touches, IsAllowed, Justifies, gain_by_open}
 use Rattle.pv_model.specs.Tree.{new_number}
 use Rattle.pv_laws_states.specs.Held.{used}
-use Rattle.pv_laws_states.specs.States.{is_call, IsWhole}
-use Rattle.pv_laws_states.proofs.ByProcess.{kept_descriptor}
+use Rattle.pv_laws_states.specs.States.{is_call, IsValid}
+use Rattle.pv_laws_states.proofs.ByProcess.{preserved_descriptor}
 use Rattle.pv_laws_trees.proofs.Numbered.{at_number-below, with_number-same, with_number-other, without_number-same, without_number-other, least_free-free, keep-some}
 use Rattle.pv_laws_states.proofs.Outcomes.{at_call}
 use Rattle.pv_laws_states.proofs.Processes.{process_at-same, process_at-other, files-update}
-use Rattle.pv_laws_states.proofs.Trim.{files-trim}
+use Rattle.pv_laws_states.proofs.Collect.{files-collect}
 use Rattle.pv_laws_access.specs.Growth.{IsInOrder}
 use Rattle.pv_laws_access.specs.Justice.{IsExplained}
 use Rattle.pv_laws_access.proofs.Callers.{spared, caller}
 use Rattle.pv_laws_access.proofs.HasEffect
-use Rattle.pv_laws_access.proofs.Ends.{process_at-trim, update-live, whole-in_order, not_next, in_order-call, ended-not_live}
+use Rattle.pv_laws_access.proofs.Ends.{process_at-collect, update-live, whole-in_order, not_next, in_order-call, ended-not_live}
 use Rattle.pv_laws_access.proofs.Touched.{touched, back}
 
--- ---- what is open
+-- ---- open files
 
--- a descriptor of an open file on a node, with a mode
+-- a descriptor for an open file on a node, with a mode
 pub record Opens (files : Numbered OpenFile) (ds : Numbered Descriptor) (n : ℕ) (mode : Mode) : Type 0 where
   pub number : ℕ
   pub descriptor : Descriptor
@@ -71,7 +71,7 @@ pub opens-has : (s : State) (pid n : ℕ) (mode : Mode) (p : Process) → proces
 opens-has s pid n mode p at is =
     (p, pos is.number, is.descriptor.file, is.file, at, ap (open_file_of s) is.there ∙ ap (option_map {U = ℕ × OpenFile} (λ f. (is.descriptor.file, f))) is.opened, is.node, is.mode_is)
 
--- what stands under a number after a change was there, or is the new
+-- a value after a change existed before, or is the new value
 with_number-was : {X : Type 0} (xs : Numbered X) (n : ℕ) (v : X) (m : ℕ) (y : X) → at_number (with_number xs n v) m ≡ Some y → (v ≡ y) ⊎ (at_number xs m ≡ Some y)
 with_number-was [] n v zero y is = inl (cc is)
 with_number-was [] n v (suc m) y is = cc
@@ -80,7 +80,7 @@ with_number-was (x ∷ xs) zero v (suc m) y is = inr is
 with_number-was (x ∷ xs) (suc n) v zero y is = inr is
 with_number-was (x ∷ xs) (suc n) v (suc m) y is = with_number-was xs n v m y is
 
--- an open with a mode, whose place is allowed for its permissions and is one that calls may use
+-- an open with a mode at a valid place that is allowed for its permissions
 pub record IsOpened (s : State) (pid : ℕ) (me : Process) (call : Call) (n : ℕ) (mode : Mode) : Type 0 where
   pub flags : OpenFlags
   pub place : Place
@@ -116,7 +116,7 @@ module _ (s : State) (pid : ℕ) (me : Process) (call : Call) (order : IsInOrder
   descriptor_of-at (negsuc d) x is file opened node mode_is = cc
   descriptor_of-at (pos d) x is file opened node mode_is = not_open (record { number = d; descriptor = x; file = file; there = is; opened = opened; node = node; mode_is = mode_is })
 
-  -- an open file that stands elsewhere is on the same node, with the same mode
+  -- an open file at another position has the same node and mode
   moved : (k : ℕ) (old new : OpenFile) → at_number s.files k ≡ Some old → new.node ≡ old.node → new.mode ≡ old.mode → NowOpens (with_number s.files k new) me.descriptors → ⊥
   moved k old new there node mode_is opens =
       let below = at_number-below s.files k old there in
@@ -166,7 +166,7 @@ module _ (s : State) (pid : ℕ) (me : Process) (call : Call) (order : IsInOrder
   gains-by _ _ (HasEffect.restrains p r no_more same parent table goes) q there opens = absurd (not_open (subst (NowOpens s.files) same (by_change s p q there s.files opens)))
   gains-by _ _ (HasEffect.begins path program is) q there opens =
       let now = by_change s _ q there s.files opens in
-      absurd (not_open (record { number = now.number; descriptor = now.descriptor; file = now.file; there = kept_descriptor me.descriptors now.number now.descriptor now.there; opened = now.opened; node = now.node; mode_is = now.mode_is }))
+      absurd (not_open (record { number = now.number; descriptor = now.descriptor; file = now.file; there = preserved_descriptor me.descriptors now.number now.descriptor now.there; opened = now.opened; node = now.node; mode_is = now.mode_is }))
   gains-by _ _ (HasEffect.closes d) q there opens =
       let now = by_change s _ q there s.files opens in
       ⊎_elim
@@ -205,30 +205,30 @@ pub record IsOpenedBy (s : State) (pid n : ℕ) (mode : Mode) : Type 0 where
   pub is : is_call call ≡ true
   pub opened : IsOpened (at_call s pid me) pid (at_next_line me) call n mode
 
-pub gains-opened : (program_of : Bytes → Option Program) (s : State) (pid n : ℕ) (mode : Mode) → IsWhole s → Touches program_of s pid (gain_descriptor n mode) → IsOpenedBy s pid n mode
+pub gains-opened : (program_of : Bytes → Option Program) (s : State) (pid n : ℕ) (mode : Mode) → IsValid s → Touches program_of s pid (gain_descriptor n mode) → IsOpenedBy s pid n mode
 gains-opened program_of s pid n mode whole gains =
     let T : State → Type 0 = λ y. HasOpen y pid n mode × (HasOpen s pid n mode → ⊥) in
     let t = touched program_of s pid whole T
     (λ both. both.1 both.0)
     (λ p q at same both. both.1 (opens-has s pid n mode p at (subst (λ ds. Opens s.files ds n mode) same (has-opens (with_process s pid q) pid n mode both.0 q (process_at-same s pid q)))))
     (λ y me status tree ascending others both.
-    ended-not_live y pid me status ascending both.0.0 (sym (process_at-trim (end_process y pid me status) pid) ∙ both.0.4))
+    ended-not_live y pid me status ascending both.0.0 (sym (process_at-collect (end_process y pid me status) pid) ∙ both.0.4))
     gains in
     let x : State = at_call s pid t.me in
     let now : Process = at_next_line t.me in
     let order = in_order-call s pid t.me (whole-in_order s whole) t.at in
     let x_at = process_at-same s pid now in
     let left = caller x pid now t.call order x_at t.after t.reply t.does in
-    let z : State = update t.after pid t.told in
-    let there : process_at (trim z) pid ≡ Some (t.told left.0) = process_at-trim z pid ∙ update-live t.after pid t.told left.0 left.1 in
-    let opens = has-opens (trim z) pid n mode t.touch.0 (t.told left.0) there in
-    let kept = keep-some (among (used z)) z.files opens.descriptor.file opens.file (ap (λ fs. at_number fs opens.descriptor.file) (sym (files-trim z)) ∙ opens.opened) in
+    let z : State = update t.after pid t.reported in
+    let there : process_at (collect z) pid ≡ Some (t.reported left.0) = process_at-collect z pid ∙ update-live t.after pid t.reported left.0 left.1 in
+    let opens = has-opens (collect z) pid n mode t.touch.0 (t.reported left.0) there in
+    let preserved = keep-some (among (used z)) z.files opens.descriptor.file opens.file (ap (λ fs. at_number fs opens.descriptor.file) (sym (files-collect z)) ∙ opens.opened) in
     let was : Opens t.after.files left.0.descriptors n mode = record {
       number = opens.number;
       descriptor = opens.descriptor;
       file = opens.file;
       there = ap (λ ds. at_number ds opens.number) (sym (t.same left.0)) ∙ opens.there;
-      opened = ap (λ fs. at_number fs opens.descriptor.file) (sym (files-update t.after pid t.told)) ∙ kept.1;
+      opened = ap (λ fs. at_number fs opens.descriptor.file) (sym (files-update t.after pid t.reported)) ∙ preserved.1;
       node = opens.node;
       mode_is = opens.mode_is;
     } in
@@ -242,7 +242,7 @@ gains-opened program_of s pid n mode whole gains =
       opened = gains-by x pid now t.call order x_at n mode (λ old. t.touch.1 (opens-has s pid n mode t.me t.at old)) t.after t.reply t.does left.0 left.1 was;
     }
 
-pub gains-justified : (program_of : Bytes → Option Program) (s : State) (pid n : ℕ) (mode : Mode) → IsWhole s → Touches program_of s pid (gain_descriptor n mode) → IsExplained s pid (gain_descriptor n mode)
+pub gains-justified : (program_of : Bytes → Option Program) (s : State) (pid n : ℕ) (mode : Mode) → IsValid s → Touches program_of s pid (gain_descriptor n mode) → IsExplained s pid (gain_descriptor n mode)
 gains-justified program_of s pid n mode whole gains =
     let e = gains-opened program_of s pid n mode whole gains in (
       e.me,

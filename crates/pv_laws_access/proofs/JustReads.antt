@@ -1,4 +1,4 @@
--- What justifies that a step depends on a file's bytes.
+-- What justifies that a step depends on the bytes of a file.
 use Rattle.std.proofs.Common.{◌≡◌, ℕ, pos, negsuc, true, false, if◌then◌else◌, length, Option, None, Some, refl, ap, sym, subst, ◌⊎◌, inl, inr, ⊎_elim}
 use Rattle.pv_model.specs.declared.call.Call.{Call}
 use Rattle.pv_model.specs.declared.errno.Errno.{Errno}
@@ -12,36 +12,36 @@ use Rattle.pv_model.specs.Bytes.{Bytes}
 use Rattle.pv_model.specs.Calls.Processes.{with_result, end_process}
 use Rattle.pv_model.specs.Effect.{Effect, Reply, returns, returns_bytes, ends, waits}
 use Rattle.pv_model.specs.Errno.{errno_number}
-use Rattle.pv_model.specs.Held.{trim}
+use Rattle.pv_model.specs.Held.{collect}
 use Rattle.pv_model.specs.Needs.{needs}
 use Rattle.pv_model.specs.Numbered.{Numbered}
 use Rattle.pv_model.specs.Program.{Next, inside, calls_for, next}
 use Rattle.pv_model.specs.Promises.{missing_promise, is_lenient}
 use Rattle.pv_model.specs.State.{Program, Process, State, process_at}
 use Rattle.pv_model.specs.Step.{Stepped, step, step_of, step_by}
-use Rattle.pv_model.specs.Touch.{read_file, change_file, change_entry, tell_node, gain_descriptor, with_bytes, file_bytes, Touches, IsJustified}
+use Rattle.pv_model.specs.Touch.{read_file, change_file, change_entry, report_node, gain_descriptor, with_bytes, file_bytes, Touches, IsJustified}
 use Rattle.pv_model.specs.Trace.{call_lines}
 use Rattle.pv_model.specs.Tree.{Node}
-use Rattle.pv_laws_states.specs.States.{IsWhole}
+use Rattle.pv_laws_states.specs.States.{IsValid}
 use Rattle.pv_laws_states.proofs.Outcomes.{at_call}
 use Rattle.pv_laws_states.proofs.Apart.{lines-alike}
 use Rattle.pv_laws_access.specs.Justice.{ReadsBytes, HasEffectNext, IsExplained}
 use Rattle.pv_laws_access.specs.Secrets.{StepsAlike}
 use Rattle.pv_laws_access.proofs.JustFiles.{entries-justified, files-justified}
 use Rattle.pv_laws_access.proofs.JustGains.{gains-justified}
-use Rattle.pv_laws_access.proofs.JustTelling.{telling-justified}
-use Rattle.pv_laws_access.proofs.Near.{GoesByLength, IsExact, IsFine, as_is, as_is-fine, near-length_of, AreNear, near_state, IsNear, near-trim, same-but_file, near-bytes}
+use Rattle.pv_laws_access.proofs.JustReporting.{reporting-justified}
+use Rattle.pv_laws_access.proofs.Near.{GoesByLength, IsExact, IsFine, as_is, as_is-fine, near-length_of, AreNear, near_state, IsNear, near-collect, same-but_file, near-bytes}
 use Rattle.pv_laws_access.proofs.NearCalls.{AreNearBy, near-effect}
 use Rattle.pv_laws_access.proofs.Touched.{back}
 
 module _ (size : ℕ → ℕ) (fine : IsFine size) where
-  -- the same answer, and states that differ in the file alone
+  -- the same answer, and states that differ only in the file
   record IsNearAnswer (f : ℕ) (a b : Answered) : Type 0 where
     outcome : b.outcome ≡ a.outcome
     walks : b.walks ≡ a.walks
     after : IsNear size f a.after b.after
 
-  -- the lines of a call say nothing else
+  -- the lines of a call are the same
   near-lines : (f pid : ℕ) (p : Process) (call : Call) (a b : Answered) → IsNearAnswer f a b → call_lines pid p call b ≡ call_lines pid p call a
   near-lines f pid p call a b near =
       lines-alike pid p call b a (record { outcome = near.outcome; walks = near.walks; buffer = λ n len said. ap (λ (y : State). process_at y pid) near.after.rest })
@@ -55,8 +55,8 @@ module _ (size : ℕ → ℕ) (fine : IsFine size) where
       by None = record { nodes = near; rest = refl }
       by (Some p) = record { nodes = near; rest = refl }
 
-  trimmed : (f : ℕ) (a b : State) → IsNear size f a b → IsNear size f (trim a) (trim b)
-  trimmed f a b near = subst (λ (y : State). IsNear size f (trim a) (trim y)) (sym near.rest) (near-trim size f a b.tree.nodes near.nodes)
+  collected : (f : ℕ) (a b : State) → IsNear size f a b → IsNear size f (collect a) (collect b)
+  collected f a b near = subst (λ (y : State). IsNear size f (collect a) (collect y)) (sym near.rest) (near-collect size f a b.tree.nodes near.nodes)
 
   updated : (f : ℕ) (a b : State) → IsNear size f a b → (pid : ℕ) (g : Process → Process) → IsNear size f (update a pid g) (update b pid g)
   updated f a b near pid g = subst (λ (y : State). IsNear size f (update a pid g) (update y pid g)) (sym near.rest) (near-update f a b.tree.nodes near.nodes pid g)
@@ -73,9 +73,9 @@ module _ (size : ℕ → ℕ) (fine : IsFine size) where
         subst (λ (z : Reply). IsNearAnswer f (answer_by_attempt s x pid now (done w (a, r))) (answer_by_attempt u y pid now (done v (b, z)))) is.1 (by r)
       where
         by : (r : Reply) → IsNearAnswer f (answer_by_attempt s x pid now (done w (a, r))) (answer_by_attempt u y pid now (done v (b, r)))
-        by (returns n) = record { outcome = refl; walks = sym is.0; after = trimmed f (update a pid (λ p. with_result p (pos n) 0)) (update b pid (λ p. with_result p (pos n) 0)) (updated f a b is.2 pid (λ p. with_result p (pos n) 0)) }
-        by (returns_bytes n bytes) = record { outcome = refl; walks = sym is.0; after = trimmed f (update a pid (λ p. with_front bytes (with_result p (pos n) 0))) (update b pid (λ p. with_front bytes (with_result p (pos n) 0))) (updated f a b is.2 pid (λ p. with_front bytes (with_result p (pos n) 0))) }
-        by (ends status) = record { outcome = refl; walks = sym is.0; after = trimmed f (end_process a pid now status) (end_process b pid now status) (ended f a b is.2 pid now status) }
+        by (returns n) = record { outcome = refl; walks = sym is.0; after = collected f (update a pid (λ p. with_result p (pos n) 0)) (update b pid (λ p. with_result p (pos n) 0)) (updated f a b is.2 pid (λ p. with_result p (pos n) 0)) }
+        by (returns_bytes n bytes) = record { outcome = refl; walks = sym is.0; after = collected f (update a pid (λ p. with_front bytes (with_result p (pos n) 0))) (update b pid (λ p. with_front bytes (with_result p (pos n) 0))) (updated f a b is.2 pid (λ p. with_front bytes (with_result p (pos n) 0))) }
+        by (ends status) = record { outcome = refl; walks = sym is.0; after = collected f (end_process a pid now status) (end_process b pid now status) (ended f a b is.2 pid now status) }
         by waits = record { outcome = refl; walks = sym is.0; after = near }
     near-attempt (done w (a, r)) (refused v g d) is = absurd is
     near-attempt (refused w e c) (done v (b, q)) is = absurd is
@@ -83,16 +83,17 @@ module _ (size : ℕ → ℕ) (fine : IsFine size) where
         subst (λ (k : Errno). IsNearAnswer f (answer_by_attempt s x pid now (refused w e c)) (answer_by_attempt u y pid now (refused v k d))) is.1
         (record { outcome = ap (Failed e) (sym is.2); walks = sym is.0; after = updated f x y alike pid (λ p. with_result p (negsuc 0) (errno_number e)) })
 
-    near-killed : (me : Process) (p : Promise) → IsNearAnswer f (record { after = trim (end_process s pid me 6); outcome = Killed p; walks = 0 }) (record { after = trim (end_process u pid me 6); outcome = Killed p; walks = 0 })
-    near-killed me p = record { outcome = refl; walks = refl; after = trimmed f (end_process s pid me 6) (end_process u pid me 6) (ended f s u near pid me 6) }
+    near-killed : (me : Process) (p : Promise) → IsNearAnswer f (record { after = collect (end_process s pid me 6); outcome = Killed p; walks = 0 }) (record { after = collect (end_process u pid me 6); outcome = Killed p; walks = 0 })
+    near-killed me p = record { outcome = refl; walks = refl; after = collected f (end_process s pid me 6) (end_process u pid me 6) (ended f s u near pid me 6) }
 
-  -- two steps answer alike and tell the same lines, and what they leave differs in the file alone
+  -- two steps have the same outcome and lines, and the next states differ only in the file
   pub record AreNearSteps (f : ℕ) (a b : Stepped) : Type 0 where
     pub outcome : b.outcome ≡ a.outcome
     pub lines : b.lines ≡ a.lines
     pub after : IsNear size f a.after b.after
 
-  -- the call is justified to read, its promises held, or the bytes do not matter, nor their number where it does not go by that
+  -- the call is justified to read, with its promises held; or the bytes do not matter, nor does their number if the
+  -- call does not depend on it
   module _ (program_of : Bytes → Option Program) (f : ℕ) (s : State) (pid : ℕ) (ys : Numbered Node) (near : AreNear size f s.tree.nodes ys) where
     abbrev u : State
     u = near_state s ys
@@ -113,15 +114,15 @@ module _ (size : ℕ → ℕ) (fine : IsFine size) where
       lacking : (p : Promise) → IsNearAnswer f (answer_where program_of s x pid now call (Some p)) (answer_where program_of u (at_call u pid me) pid now call (Some p))
       lacking p =
           elim (is_lenient me.promises) as (λ b. IsNearAnswer f
-          (if b then answer_by_attempt s x pid now (refused 0 ENOSYS (ByPromise p)) else record { after = trim (end_process s pid now 6); outcome = Killed p; walks = 0 })
-          (if b then answer_by_attempt u (at_call u pid me) pid now (refused 0 ENOSYS (ByPromise p)) else record { after = trim (end_process u pid now 6); outcome = Killed p; walks = 0 })) [
+          (if b then answer_by_attempt s x pid now (refused 0 ENOSYS (ByPromise p)) else record { after = collect (end_process s pid now 6); outcome = Killed p; walks = 0 })
+          (if b then answer_by_attempt u (at_call u pid me) pid now (refused 0 ENOSYS (ByPromise p)) else record { after = collect (end_process u pid now 6); outcome = Killed p; walks = 0 })) [
             | true ↦ near-attempt f s u near_s x (at_call u pid me) (record { nodes = near; rest = refl }) pid now (refused 0 ENOSYS (ByPromise p)) (refused 0 ENOSYS (ByPromise p)) (refl, refl, refl)
             | false ↦ near-killed f s u near_s x (at_call u pid me) (record { nodes = near; rest = refl }) pid now now p
           ]
 
-      -- what goes by the length after the line goes by it before
+      -- a call that depends on the length after the line is advanced depends on it before
       length_back : GoesByLength x now call f → GoesByLength s me call f
-      length_back by = ⊎_elim (λ asks. inl (asks.0, back s pid me call (tell_node f) asks.1)) (λ changes. inr (changes.0, back s pid me call (change_file f) changes.1)) by
+      length_back by = ⊎_elim (λ asks. inl (asks.0, back s pid me call (report_node f) asks.1)) (λ changes. inr (changes.0, back s pid me call (change_file f) changes.1)) by
 
       by_promise : ((missing_promise me.promises (needs call) ≡ None) → GoesByLength s me call f → IsExact size) → (o : Option Promise) → missing_promise me.promises (needs call) ≡ o
           → IsRead ⊎ IsNearAnswer f (answer_where program_of s x pid now call o) (answer_where program_of u (at_call u pid me) pid now call o)
@@ -152,14 +153,15 @@ module _ (size : ℕ → ℕ) (fine : IsFine size) where
       unfolding step
       by_step = by_process (process_at s pid) refl
 
-  -- with other bytes, of one size, the step answers alike and leaves a state that differs in them alone, where the read is not justified, and lengths of one size are the same if it goes by that
+  -- with other bytes of similar length, the step has the same outcome and a next state that differs only in them,
+  -- unless a read is justified; the lengths are equal if the step depends on them
   pub near-or_read : (program_of : Bytes → Option Program) (s : State) (pid f : ℕ) (bytes : Bytes) → size (length bytes) ≡ size (length (file_bytes s f)) → (HasEffectNext GoesByLength s pid f → IsExact size)
       → HasEffectNext ReadsBytes s pid f ⊎ AreNearSteps f (step program_of s pid) (step program_of (with_bytes s f bytes) pid)
   near-or_read program_of s pid f bytes long exact =
       let near = near-bytes size s f bytes long in
       subst (λ (y : State). HasEffectNext ReadsBytes s pid f ⊎ AreNearSteps f (step program_of s pid) (step program_of y pid)) (sym near.rest) (by_step program_of f s pid (with_bytes s f bytes).tree.nodes near.nodes exact)
 
--- with other bytes, as many, it does so
+-- the same for other bytes of equal length
 near-as_many : (program_of : Bytes → Option Program) (s : State) (pid f : ℕ) (bytes : Bytes) → length bytes ≡ length (file_bytes s f)
     → HasEffectNext ReadsBytes s pid f ⊎ AreNearSteps as_is as_is-fine f (step program_of s pid) (step program_of (with_bytes s f bytes) pid)
 near-as_many program_of s pid f bytes long = near-or_read as_is as_is-fine program_of s pid f bytes long (λ by m n same. same)
@@ -171,7 +173,8 @@ reads-justified program_of s pid f reads =
     (λ alike. absurd (⊎_elim (λ other. other alike.outcome) (λ apart. apart (same-but_file as_is f (step program_of s pid).after (step program_of u pid).after alike.after)) reads.3))
     (near-as_many program_of s pid f reads.0 reads.2)
 
--- with other bytes, as many, the step answers alike and leaves a state that differs in them alone, where the read is not justified
+-- with other bytes of equal length, the step has the same outcome and lines, and a next state that differs only in
+-- them, unless a read is justified
 pub alike-or_read : (program_of : Bytes → Option Program) (s : State) (pid f : ℕ) (bytes : Bytes) → length bytes ≡ length (file_bytes s f)
     → IsExplained s pid (read_file f) ⊎ StepsAlike f (step program_of s pid) (step program_of (with_bytes s f bytes) pid)
 alike-or_read program_of s pid f bytes long =
@@ -185,11 +188,11 @@ alike-or_read program_of s pid f bytes long =
     }))
     (near-as_many program_of s pid f bytes long)
 
--- ---- every touch
+-- ---- all touches
 
-pub all-justified : (program_of : Bytes → Option Program) (s : State) (pid : ℕ) → IsWhole s → IsJustified program_of s pid
+pub all-justified : (program_of : Bytes → Option Program) (s : State) (pid : ℕ) → IsValid s → IsJustified program_of s pid
 all-justified program_of s pid whole (read_file f) touches = reads-justified program_of s pid f touches
 all-justified program_of s pid whole (change_file f) touches = files-justified program_of s pid f whole touches
 all-justified program_of s pid whole (change_entry d name) touches = entries-justified program_of s pid d name whole touches
-all-justified program_of s pid whole (tell_node n) touches = telling-justified program_of s pid n whole touches
+all-justified program_of s pid whole (report_node n) touches = reporting-justified program_of s pid n whole touches
 all-justified program_of s pid whole (gain_descriptor n mode) touches = gains-justified program_of s pid n mode whole touches

@@ -1,13 +1,16 @@
--- Lemmas of what a process can reach.
--- - restraints: Narrowing (promises and tables that lose), Ends (trim, updates and ends leave them), Callers (the caller and each
---   other process after a call), Images (steps and runs in one program image), Frames (open files of others), Promised (what is lacked)
--- - what calls leave: HasEffect (each call in one of sixteen cases, with the place or descriptor that it went by), shown call by call
---   in EffectByProcess, EffectByTree, EffectByOpen, EffectByCall; Touched (from a step to the effect that made a touch), Changed (what changes
---   of a tree leave of entries and files)
--- - justice, read off the cases: JustFiles, JustGains, JustTelling, JustReads
--- - states that differ in a file's bytes: Near, NearCalls (each call beside itself, for any lengths of one size)
--- - closed, sealed, frozen: Closed (who is closed lacks what would justify a touch), Verdicts (the order of reasons)
--- - an example, by computing: ExampleRuns
+-- Lemmas about access control.
+-- - Rights: Narrowing (promises and tables), Ends, Callers (the caller and other processes after a call), Images (one
+--   program image), Frames and Framed (open files), Promised and Missing (missing promises), Refused, Inherited
+--   (descendants), Ended (exit and kills).
+-- - Effects: HasEffect (the possible effects of a call, in sixteen cases), EffectByProcess, EffectByTree, EffectByOpen,
+--   EffectByCall; Touched (from a touch to an effect), Changed (changes of trees).
+-- - Justification: JustFiles, JustGains, JustReporting, JustReads.
+-- - Secrecy: Near and NearCalls (states that differ in one file's bytes), Closed, Verdicts (audits), Brought (new
+--   names), Provenance, Confinement, Preserved (governing entries), Invariant (one step), ForEver (runs).
+-- - Refusals: Judged (decisions), Decided (the last walk decides), TableSays (UNVL lines), Firsts (orders of promises),
+--   Spared and Pledged (promises).
+-- - Names: Named, Moved (permissions that come with names), Next and Ascending (getdents), Listed (listings).
+-- - Examples by computation: ExampleRuns, EndExampleRuns, Held, RefusalExampleRuns, NameExampleRuns, Reported.
 pub mod Narrowing
 pub mod HasEffect
 pub mod EffectByProcess
@@ -21,7 +24,7 @@ pub mod Changed
 pub mod Touched
 pub mod JustFiles
 pub mod JustGains
-pub mod JustTelling
+pub mod JustReporting
 pub mod Near
 pub mod NearCalls
 pub mod JustReads
@@ -30,8 +33,35 @@ pub mod Closed
 pub mod Frames
 pub mod Verdicts
 pub mod Promised
--- Lemmas of what steps leave of others: Ended (exit and kills, record by record), Framed (which open files stay, come and go),
--- EndExampleRuns (the example, by computing).
+-- ---- effects on others
 pub mod Ended
 pub mod Framed
 pub mod EndExampleRuns
+-- ---- secrecy along runs
+pub mod Brought
+pub mod Provenance
+pub mod Confinement
+pub mod Preserved
+pub mod Invariant
+pub mod ForEver
+-- ---- the sandbox
+pub mod Judged
+pub mod Inherited
+pub mod Missing
+pub mod Refused
+pub mod Held
+-- ---- refusals
+pub mod Decided
+pub mod TableSays
+pub mod Firsts
+pub mod Spared
+pub mod Pledged
+pub mod RefusalExampleRuns
+-- ---- names and their order
+pub mod Named
+pub mod Moved
+pub mod Next
+pub mod Ascending
+pub mod Listed
+pub mod NameExampleRuns
+pub mod Reported

@@ -25,7 +25,7 @@ use Rattle.pv_laws_access.specs.Growth.{GainsNone, IsLesserEntry, KeepsEntries, 
 
 -- ---- promises
 
--- each promise stands among all at its number
+-- the index of each promise is its number
 in_order : (p : Promise) → slice_get all_promises (promise_bit p) ≡ Some p
 in_order Stdio = refl
 in_order Rpath = refl
@@ -60,7 +60,7 @@ in_order Audio = refl
 in_order Video = refl
 in_order Bpf = refl
 
--- what is not found fails everywhere
+-- if no element is found, all fail the test
 find-none : {X : Type 0} (test : X → Bool) (xs : List X) (k : ℕ) (x : X) → find test xs ≡ None → slice_get xs k ≡ Some x → test x ≡ false
 find-none test [] k x none at = cc
 find-none test (y ∷ ys) k x none at =
@@ -73,7 +73,7 @@ find-none test (y ∷ ys) k x none at =
     by zero at is later = let same : y ≡ x = cc in ap test (sym same) ∙ is
     by (suc k) at is later = later k at
 
--- a bit of what two sets share is one of the second
+-- a bit of the intersection of two sets is a bit of the second
 shared : (a h m : ℕ) → bit_and (bit_and a h) m ≡ m → bit_and h m ≡ m
 shared a h m is =
     let twice : bit_and h (bit_and a h) ≡ bit_and a h = ap (bit_and h) (and_comm a h) ∙ sym (and_assoc a h h) ∙ ap (λ x. bit_and x a) (and_self h) ∙ and_comm h a in
@@ -92,25 +92,25 @@ held_of a true none is = refl
 held_of true false none is = cc
 held_of false false none is = cc
 
-pub narrows : (lenient : Bool) (held asked kept : Option Promises) → narrow_promises lenient held asked ≡ Ok kept → GainsNone held kept
-narrows lenient held None kept is = let same : held ≡ kept = cc in subst (GainsNone held) same (gains-self held)
-narrows lenient None (Some asked) kept is = tt
-narrows lenient (Some held) (Some asked) kept is =
-    elim lenient as (λ b. cond b (Ok (Some (bit_and asked held))) (unless_increase (first_increase held asked) asked) ≡ Ok kept → GainsNone (Some held) kept) [
-      | true ↦ λ ok. let same : Some (bit_and asked held) ≡ kept = cc ok in subst (GainsNone (Some held)) same (λ p has. shared-contains asked held p has)
+pub narrows : (lenient : Bool) (held asked preserved : Option Promises) → narrow_promises lenient held asked ≡ Ok preserved → GainsNone held preserved
+narrows lenient held None preserved is = let same : held ≡ preserved = cc in subst (GainsNone held) same (gains-self held)
+narrows lenient None (Some asked) preserved is = tt
+narrows lenient (Some held) (Some asked) preserved is =
+    elim lenient as (λ b. cond b (Ok (Some (bit_and asked held))) (unless_increase (first_increase held asked) asked) ≡ Ok preserved → GainsNone (Some held) preserved) [
+      | true ↦ λ ok. let same : Some (bit_and asked held) ≡ preserved = cc ok in subst (GainsNone (Some held)) same (λ p has. shared-contains asked held p has)
       | false ↦ λ ok. strict (first_increase held asked) refl ok
     ] is
   where
-    strict : (o : Option Promise) → first_increase held asked ≡ o → unless_increase o asked ≡ Ok kept → GainsNone (Some held) kept
+    strict : (o : Option Promise) → first_increase held asked ≡ o → unless_increase o asked ≡ Ok preserved → GainsNone (Some held) preserved
     strict None none ok =
-        let same : Some asked ≡ kept = cc in
+        let same : Some asked ≡ preserved = cc in
         subst (GainsNone (Some held)) same (λ p has. held_of (contains asked p) (contains held p)
         (find-none (λ q. contains asked q && not (contains held q)) all_promises (promise_bit p) p none (in_order p)) has)
     strict (Some p) some ok = cc
 
--- what a refusal lets through
-pub leads-unless_refused : (r : Result (Option Promises) Promise) → Leads (λ kept. r ≡ Ok kept) (unless_refused r)
-leads-unless_refused (Ok kept) = refl
+-- the value if the promises are not refused
+pub leads-unless_refused : (r : Result (Option Promises) Promise) → Leads (λ preserved. r ≡ Ok preserved) (unless_refused r)
+leads-unless_refused (Ok preserved) = refl
 leads-unless_refused (Err p) = tt
 
 pub gains-along : (a b c : Option Promises) → GainsNone a b → GainsNone b c → GainsNone a c
@@ -188,7 +188,7 @@ same_target-same (Name d name) (Name e other) is =
     let parts = and_parts (d == e) (bytes_eq name other) is in
     λ i. Name (eqb-true d e parts.0 i) (bytes_eq-same name other parts.1 i)
 
--- the first that passes does
+-- the first element that passes passes
 first_passes : {X : Type 0} (test : X → Bool) (xs : List X) (x : X) → slice_get xs (position_or_len test xs) ≡ Some x → test x ≡ true
 first_passes test [] x at = cc
 first_passes test (y ∷ ys) x at =
@@ -204,7 +204,7 @@ position-at test xs k is =
       | false ↦ λ none. cc none
     ] is
 
--- the entry for a target is for it
+-- the entry found for a target has that target
 entry-target : (table : Table) (target : Target) (k : ℕ) (e : Target × Perms) → entry_for table target ≡ Some k → slice_get table k ≡ Some e → e.0 ≡ target
 entry-target table target k e is at =
     let test : Target × Perms → Bool = λ e. same_target e.0 target in
@@ -223,7 +223,7 @@ append-lesser [] more j e at = cc
 append-lesser (x ∷ xs) more zero e at = subst (IsLesserEntry e) (sym at) (lesser-itself e)
 append-lesser (x ∷ xs) more (suc j) e at = append-lesser xs more j e at
 
--- an entry more, or one with fewer permissions
+-- a new entry, or an entry with fewer permissions
 pub leads-add_entry : (table : Table) (target : Target) (permissions : Perms) (o : Option ℕ) → entry_for table target ≡ o → Leads (KeepsEntries table) (add_entry table target permissions o)
 leads-add_entry table target permissions (Some k) is =
     elim (covers (permissions_at table k) permissions) as (λ b. covers (permissions_at table k) permissions ≡ b → Leads (KeepsEntries table) (cond b (give (with_permissions table k target permissions)) (refused 0 EPERM (ByUnveil (Some k))))) [

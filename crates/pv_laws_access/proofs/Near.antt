@@ -1,4 +1,4 @@
--- Trees that differ in the bytes of one file alone, whose lengths are of one size.
+-- Trees that differ only in the bytes of one file, whose lengths are similar: equal under a function `size`.
 use Rattle.std.proofs.Common.{◌≡◌, ◌≢◌, ℕ, zero, suc, ◌+◌, ◌*◌, Bool, true, false, cond, ◌&&◌, ◌||◌, if◌then◌else◌, ◌==◌, nat_le, nat_lt, List, [], ◌∷◌, ◌++◌, map, flat_map, length, drop, sum_by, Option, None, Some, is_some, refl, ap, ap₂, sym, subst, ◌∙◌, ◌⊎◌, inl, inr, ⊎_elim, option_and_then, arith}
 use Rattle.std.specs.List.{list_any}
 use Rattle.std.specs.Option.{option_or}
@@ -17,7 +17,7 @@ use Rattle.pv_model.specs.Bytes.{Bytes}
 use Rattle.pv_model.specs.Calls.Descriptors.{with_content_of, with_content}
 use Rattle.pv_model.specs.Calls.Paths.{link_text}
 use Rattle.pv_model.specs.Effect.{bytes_of, status_of, status}
-use Rattle.pv_model.specs.Held.{among, trim}
+use Rattle.pv_model.specs.Held.{among, collect}
 use Rattle.pv_model.specs.Numbered.{Numbered, at_number, with_number, least_free, keep_if, keep_from, keep, present, numbered_from}
 use Rattle.pv_model.specs.Room.{node_length, rounded_up, index_blocks, need, greatest_length, is_too_long, fits}
 use Rattle.pv_model.specs.State.{Process, State, with_tree}
@@ -35,28 +35,26 @@ with_nodes t ys = record t { nodes = ys }
 abbrev pub near_state : State → Numbered Node → State
 near_state s ys = with_tree s (with_nodes s.tree ys)
 
--- ---- sizes of lengths
+-- ---- similarity of lengths
 
--- lengths of one size are the same
+-- similar lengths are equal
 abbrev pub IsExact : (ℕ → ℕ) → Type 0
 IsExact size = (m n : ℕ) → size m ≡ size n → m ≡ n
 
--- lengths of one size take as many blocks
+-- similar lengths need the same number of blocks
 abbrev pub IsFine : (ℕ → ℕ) → Type 0
 IsFine size = (m n : ℕ) → size m ≡ size n → rounded_up m 512 ≡ rounded_up n 512
 
--- a call goes by the length of a file: it asks for its size, or might change its bytes
+-- a call depends on the length of a file: it asks for its size, or may change its bytes
 abbrev pub GoesByLength : State → Process → Call → ℕ → Type 0
 GoesByLength s p call f = AsksSize s p call f ⊎ ChangesBytes s p call f
 
--- a length as it is
 abbrev pub as_is : ℕ → ℕ
 as_is n = n
 
 abbrev pub as_is-fine : IsFine as_is
 as_is-fine m n same = ap (λ k. rounded_up k 512) same
 
--- the blocks that a length takes
 abbrev pub blocks : ℕ → ℕ
 blocks n = rounded_up n 512
 
@@ -83,12 +81,12 @@ past-alike V2 m n same = past_whole 1290 m n same
 module _ (size : ℕ → ℕ) where
   -- ---- nodes
 
-  -- the same, or files of one size
+  -- equal nodes, or files of similar length
   abbrev pub IsNearNode : Option Node → Option Node → Type 0
   IsNearNode x y =
       (x ≡ y) ⊎ ((executable : Bool) × (old : Bytes) × (new : Bytes) × (x ≡ Some (file_node executable old)) × (y ≡ Some (file_node executable new)) × (size (length new) ≡ size (length old)))
 
-  -- what is told of a node without a file's bytes is the same
+  -- a view of a node that ignores a file's bytes is the same
   pub near-view : {V : Type 0} (view : Option Node → V) (x y : Option Node) → ((executable : Bool) (old new : Bytes) → size (length new) ≡ size (length old) → view (Some (file_node executable new)) ≡ view (Some (file_node executable old)))
       → IsNearNode x y → view y ≡ view x
   near-view view x y alike near =
@@ -100,7 +98,7 @@ module _ (size : ℕ → ℕ) where
 
   -- ---- maps of nodes
 
-  -- the same but for the node under a number
+  -- two maps differ only in the node for a number
   abbrev pub AreNear : ℕ → Numbered Node → Numbered Node → Type 0
   AreNear f [] [] = Unit {0}
   AreNear f [] (y ∷ ys) = ⊥
@@ -138,7 +136,7 @@ module _ (size : ℕ → ℕ) where
   near-itself zero (x ∷ xs) = (inl refl, refl)
   near-itself (suc f) (x ∷ xs) = (refl, near-itself f xs)
 
-  -- a change of both
+  -- both maps are changed in the same way
   pub near-set : (f : ℕ) (xs ys : Numbered Node) (n : ℕ) (v : Node) → AreNear f xs ys → AreNear f (with_number xs n v) (with_number ys n v)
   near-set f [] [] n v near = near-itself f (Some v ∷ [])
   near-set f [] (y ∷ ys) n v near = absurd near
@@ -148,7 +146,7 @@ module _ (size : ℕ → ℕ) where
   near-set (suc f) (x ∷ xs) (y ∷ ys) zero v near = (refl, near.1)
   near-set (suc f) (x ∷ xs) (y ∷ ys) (suc n) v near = (near.0, near-set f xs ys n v near.1)
 
-  -- a change at the file's own number
+  -- both maps are changed at the file's own number
   near-put : (f : ℕ) (xs ys : Numbered Node) (v w : Node) → IsNearNode (Some v) (Some w) → (x : Option Node) → is_some x ≡ true → at_number xs f ≡ x → AreNear f xs ys → AreNear f (with_number xs f v) (with_number ys f w)
   near-put f [] [] v w alike x some at near = let none : is_some x ≡ false = ap is_some (sym at) in cc
   near-put f [] (y ∷ ys) v w alike x some at near = absurd near
@@ -167,7 +165,7 @@ module _ (size : ℕ → ℕ) where
   near-keep_from k zero test (x ∷ xs) (y ∷ ys) near = (near-keep_if (test k) x y near.0, ap (keep_from (suc k) test) near.1)
   near-keep_from k (suc f) test (x ∷ xs) (y ∷ ys) near = (ap (keep_if (test k)) near.0, near-keep_from (suc k) f test xs ys near.1)
 
-  -- what is folded over the nodes, without a file's bytes
+  -- a fold over the nodes that ignores a file's bytes
   near-fold : {R V : Type 0} (F : Numbered Node → R) (view : Option Node → V) (S : V → R → R) → ((o : Option Node) (zs : Numbered Node) → F (o ∷ zs) ≡ S (view o) (F zs))
       → ((x y : Option Node) → IsNearNode x y → view y ≡ view x) → (f : ℕ) (xs ys : Numbered Node) → AreNear f xs ys → F ys ≡ F xs
   near-fold F view S steps alike f [] [] near = refl
@@ -190,7 +188,6 @@ module _ (size : ℕ → ℕ) where
   near-least_free : (f : ℕ) (xs ys : Numbered Node) → AreNear f xs ys → least_free ys ≡ least_free xs
   near-least_free = near-fold least_free is_some (λ b n. cond b (suc n) 0) free_step near-some
 
-  -- the numbers that are named
   abbrev named_from : ℕ → Numbered Node → List ℕ
   named_from k zs = flat_map (λ (d : ℕ × Node). map (λ e. e.1) (entries_of (Some d.1))) (numbered_from k zs)
 
@@ -210,7 +207,7 @@ module _ (size : ℕ → ℕ) where
   near-named k (suc f) (x ∷ xs) (y ∷ ys) near =
       named_step k y ys ∙ ap₂ (λ (a b : List ℕ). a ++ b) (ap names (sym near.0)) (near-named (suc k) f xs ys near.1) ∙ sym (named_step k x xs)
 
-  -- how many are there, and what they need
+  -- the number of nodes, and the blocks that they need
   count_step : (o : Option Node) (zs : Numbered Node) → length (present (o ∷ zs)) ≡ cond (is_some o) (suc (length (present zs))) (length (present zs))
   count_step None zs = refl
   count_step (Some node) zs = refl
@@ -314,7 +311,7 @@ module _ (size : ℕ → ℕ) where
     unfolding ancestors
     ancestors-near d = ap (λ n. ancestors_within u n d) (near-length f t.nodes ys near) ∙ ancestors_within-near (length t.nodes) d
 
-    -- what is told of the file too, where its length is the same
+    -- a view of the file that depends on its length, if that is equal
     at-length : {V : Type 0} (view : Option Node → V) (n : ℕ) → (n ≡ f → IsExact size) → ((executable : Bool) (old new : Bytes) → length new ≡ length old → view (Some (file_node executable new)) ≡ view (Some (file_node executable old)))
         → view (node_at u n) ≡ view (node_at t n)
     at-length view n exact alike =
@@ -346,20 +343,20 @@ module _ (size : ℕ → ℕ) where
 
   -- ---- states
 
-  -- states that differ in the bytes of one file alone
+  -- two states differ only in the bytes of one file
   pub record IsNear (f : ℕ) (a b : State) : Type 0 where
     pub nodes : AreNear f a.tree.nodes b.tree.nodes
     pub rest : b ≡ near_state a b.tree.nodes
 
-  pub near-trim : (f : ℕ) (a : State) (ys : Numbered Node) → AreNear f a.tree.nodes ys → IsNear f (trim a) (trim (near_state a ys))
-  unfolding trim
-  near-trim f a ys near = record {
-    nodes = subst (λ ns. AreNear f (trim a).tree.nodes (keep (among (root ∷ ns ++ Rattle.pv_laws_states.proofs.Trim.held_after a)) ys)) (sym (near-named 0 f a.tree.nodes ys near))
-        (near-keep_from 0 f (among (root ∷ named_numbers a.tree ++ Rattle.pv_laws_states.proofs.Trim.held_after a)) a.tree.nodes ys near);
+  pub near-collect : (f : ℕ) (a : State) (ys : Numbered Node) → AreNear f a.tree.nodes ys → IsNear f (collect a) (collect (near_state a ys))
+  unfolding collect
+  near-collect f a ys near = record {
+    nodes = subst (λ ns. AreNear f (collect a).tree.nodes (keep (among (root ∷ ns ++ Rattle.pv_laws_states.proofs.Collect.held_after a)) ys)) (sym (near-named 0 f a.tree.nodes ys near))
+        (near-keep_from 0 f (among (root ∷ named_numbers a.tree ++ Rattle.pv_laws_states.proofs.Collect.held_after a)) a.tree.nodes ys near);
     rest = refl;
   }
 
-  -- as much room
+  -- both trees have room, or neither does
   pub fits-near : IsFine size → (f : ℕ) (t : Tree) (ys : Numbered Node) → AreNear f t.nodes ys → fits (with_nodes t ys) ≡ fits t
   unfolding fits
   fits-near fine f t ys near = ap₂ (λ a b. nat_le a t.inodes && nat_le b t.blocks) (near-count f t.nodes ys near) (near-needs fine t.version f t.nodes ys near)
@@ -368,7 +365,7 @@ module _ (size : ℕ → ℕ) where
   unfolding is_too_long
   too_long-near fine f t ys near = near-long fine t.version f t.nodes ys near
 
-  -- they are the same but for the file
+  -- two maps are equal except at the file
   near-with : (f : ℕ) (xs ys : Numbered Node) (z w : Node) → AreNear f xs ys → at_number xs f ≡ Some z → at_number ys f ≡ Some w → with_number xs f w ≡ ys
   near-with f [] [] z w near at is = cc
   near-with f [] (y ∷ ys) z w near at is = absurd near
@@ -383,7 +380,7 @@ module _ (size : ℕ → ℕ) where
   near-same zero (x ∷ xs) (y ∷ ys) near same = ap₂ (λ o (os : Numbered Node). o ∷ os) same (sym near.1)
   near-same (suc f) (x ∷ xs) (y ∷ ys) near same = ap₂ (λ o (os : Numbered Node). o ∷ os) (sym near.0) (near-same f xs ys near.1 same)
 
-  -- a file keeps its own bytes
+  -- replacing the bytes of a file by themselves
   own-content : (t : Tree) (f : ℕ) → with_content t f (bytes_of (node_at t f)) ≡ t
   own-content t f = by (node_at t f) refl
     where
@@ -406,7 +403,7 @@ module _ (size : ℕ → ℕ) where
           ∙ ap (with_nodes a.tree) (near-with f a.tree.nodes b.tree.nodes (file_node files.0 files.1) (file_node files.0 files.2) near.nodes files.3 files.4))
           alike
 
-  -- with other bytes, of one size, a state is near
+  -- a state with other bytes of similar length
   pub near-bytes : (s : State) (f : ℕ) (bytes : Bytes) → size (length bytes) ≡ size (length (file_bytes s f)) → IsNear f s (with_bytes s f bytes)
   near-bytes s f bytes long = by (node_at s.tree f) refl (ap (λ n. n) long)
     where
@@ -421,7 +418,7 @@ module _ (size : ℕ → ℕ) where
         rest = refl;
       }
 
-  -- the file's bytes are of one size
+  -- the lengths of the file are similar
   pub near-length_of : (f : ℕ) (a b : State) → IsNear f a b → size (length (file_bytes b f)) ≡ size (length (file_bytes a f))
   near-length_of f a b near =
       near-view (λ o. size (length (bytes_of o))) (node_at a.tree f) (node_at b.tree f) (λ executable old new long. long) (near-at f a.tree.nodes b.tree.nodes near.nodes f)

@@ -1,4 +1,4 @@
--- What calls do in states that differ in the bytes of one file alone, whose lengths are of one size.
+-- Calls in two states that differ only in the bytes of one file, whose lengths are similar.
 use Rattle.std.proofs.Common.{◌≡◌, ℕ, zero, suc, ◌+◌, ◌-◌, ℤ, pos, ◌+ℤ◌, Bool, true, false, not, ◌&&◌, ◌||◌, if◌then◌else◌, ◌==◌, nat_le, nat_lt, min, List, [], ◌∷◌, length, take, drop, Option, None, Some, Ok, Err, is_some, is_none, option_and_then, refl, ap, ap₂, sym, subst, ◌∙◌, ◌⊎◌, inl, inr, ⊎_elim, arith}
 use Rattle.std.specs.List.{list_any}
 use Rattle.std.specs.FinMap.Entries.{put, where_key}
@@ -27,14 +27,14 @@ use Rattle.pv_model.specs.Calls.Paths.{link_text, chdir, stat_at, readlink, same
 use Rattle.pv_model.specs.Calls.Processes.{statuses, child, children, reap, execve, with_program, executable_bytes}
 use Rattle.pv_model.specs.Calls.Restraints.{asked_promises, unless_refused, add_target, refuse_if_locked, pledge, unveil}
 use Rattle.pv_model.specs.Effect.{Effect, Reply, returns, returns_bytes, ends, waits, answers, answers_bytes, place_or_refusal, walk_from, judgement_or_refusal, judge_for, with_room, node_of, name_of, descriptor_at, open_file, status, bytes_of, overwrite, resize, start_directory, end_of}
-use Rattle.pv_model.specs.Held.{trim}
+use Rattle.pv_model.specs.Held.{collect}
 use Rattle.pv_model.specs.Needs.{permissions_of_open}
 use Rattle.pv_model.specs.Numbered.{Numbered, at_number, with_number, least_free}
 use Rattle.pv_model.specs.Perms.{permission_r, permission_x, permission_c, read_permissions}
 use Rattle.pv_model.specs.Promises.{narrow_promises, is_lenient}
 use Rattle.pv_model.specs.Room.{is_too_long, fits}
 use Rattle.pv_model.specs.State.{OpenFile, Program, Process, State, reads, writes, with_process, with_tree}
-use Rattle.pv_model.specs.Touch.{place_found, read_by_descriptor, read_by_execve, change_by_descriptor, tell_by_descriptor, tell_by_place}
+use Rattle.pv_model.specs.Touch.{place_found, read_by_descriptor, read_by_execve, change_by_descriptor, report_by_descriptor, report_by_place}
 use Rattle.pv_model.specs.Tree.{Node, directory_node, file_node, link_node, Tree, node_at, entries_at, is_directory, is_directory_at, with_node, with_entry, without_entry, new_number, with_new_node}
 use Rattle.pv_model.specs.Unveil.{judgement, target_of}
 use Rattle.pv_model.specs.Walk.{Walked, begins_walk, resolve, is_absolute}
@@ -42,7 +42,7 @@ use Rattle.pv_laws_trees.proofs.Entries.{by_name, is_other}
 use Rattle.pv_laws_states.proofs.Rests
 use Rattle.pv_laws_access.proofs.HasEffect.{first-place, open_file_for-is}
 use Rattle.pv_laws_access.specs.Justice.{ReadsBytes, asks_size}
-use Rattle.pv_laws_access.proofs.Near.{GoesByLength, IsExact, IsFine, near-view, AreNear, near-at, near-beside, near-set, near-file, with_nodes, entries-near, directory-near, resolve-near, judgement-near, target-near, ancestors-near, status-near, link-near, long-near, new-near, near_state, IsNear, near-trim, fits-near, too_long-near}
+use Rattle.pv_laws_access.proofs.Near.{GoesByLength, IsExact, IsFine, near-view, AreNear, near-at, near-beside, near-set, near-file, with_nodes, entries-near, directory-near, resolve-near, judgement-near, target-near, ancestors-near, status-near, link-near, long-near, new-near, near_state, IsNear, near-collect, fits-near, too_long-near}
 use Rattle.pv_model.specs.Walks.{Walk, follow_of, from_here, execve_walk}
 
 over-length : (old : Bytes) (at : ℕ) (new : Bytes) → length (overwrite old at new) ≡ min at (length old + (at - length old)) + length new + (length old - (at + length new))
@@ -52,7 +52,7 @@ pub size-length : (old : Bytes) (n : ℕ) → length (resize old n) ≡ n
 size-length old n = let long : length (resize old n) ≡ min n (length old) + (n - length old) = simp (length-append, length-take, length-replicate) in omega (arith, long)
 
 module _ (size : ℕ → ℕ) (fine : IsFine size) where
-  -- ---- attempts that are near
+  -- ---- similar attempts
 
   abbrev pub AreNearBy : ℕ → Attempt Effect → Attempt Effect → Type 0
   AreNearBy f (done w (a, r)) (done v (b, q)) = (w ≡ v) × (r ≡ q) × IsNear size f a b
@@ -83,7 +83,7 @@ module _ (size : ℕ → ℕ) (fine : IsFine size) where
     near-then : {B : Type 0} (a b : Attempt B) → b ≡ a → (k h : Attempt Effect) → By k h → By (a >> k) (b >> h)
     near-then a b same k h is = subst (λ c. By (a >> k) (c >> h)) (sym same) (by_then a k h is)
 
-    -- what has room, by two tests
+    -- the check for room, as two conditions
     abbrev step : ℕ → State → Bool → Bool → Attempt Effect
     step n z long fit = (refuse_if EFBIG long >> (refuse_if ENOSPC (not fit) >> give z)) >>= (λ roomy. answers roomy n)
 
@@ -97,15 +97,15 @@ module _ (size : ℕ → ℕ) (fine : IsFine size) where
 
         whole : By (with_room a >>= (λ roomy. answers roomy n)) (with_room (near_state a b.tree.nodes) >>= (λ roomy. answers roomy n))
         whole =
-            let trimmed = near-trim size f a b.tree.nodes near.nodes in
-            let tree : (trim (near_state a b.tree.nodes)).tree ≡ with_nodes (trim a).tree (trim (near_state a b.tree.nodes)).tree.nodes = ap (λ (z : State). z.tree) trimmed.rest in
-            let long : is_too_long (trim (near_state a b.tree.nodes)).tree ≡ is_too_long (trim a).tree = ap is_too_long tree ∙ too_long-near size fine f (trim a).tree (trim (near_state a b.tree.nodes)).tree.nodes trimmed.nodes in
-            let fit : fits (trim (near_state a b.tree.nodes)).tree ≡ fits (trim a).tree = ap fits tree ∙ fits-near size fine f (trim a).tree (trim (near_state a b.tree.nodes)).tree.nodes trimmed.nodes in
-            subst (λ l. By (step n a (is_too_long (trim a).tree) (fits (trim a).tree)) (step n (near_state a b.tree.nodes) l (fits (trim (near_state a b.tree.nodes)).tree))) (sym long)
-            (subst (λ k. By (step n a (is_too_long (trim a).tree) (fits (trim a).tree)) (step n (near_state a b.tree.nodes) (is_too_long (trim a).tree) k)) (sym fit)
-            (by (near_state a b.tree.nodes) (record { nodes = near.nodes; rest = refl }) (is_too_long (trim a).tree) (fits (trim a).tree)))
+            let collected = near-collect size f a b.tree.nodes near.nodes in
+            let tree : (collect (near_state a b.tree.nodes)).tree ≡ with_nodes (collect a).tree (collect (near_state a b.tree.nodes)).tree.nodes = ap (λ (z : State). z.tree) collected.rest in
+            let long : is_too_long (collect (near_state a b.tree.nodes)).tree ≡ is_too_long (collect a).tree = ap is_too_long tree ∙ too_long-near size fine f (collect a).tree (collect (near_state a b.tree.nodes)).tree.nodes collected.nodes in
+            let fit : fits (collect (near_state a b.tree.nodes)).tree ≡ fits (collect a).tree = ap fits tree ∙ fits-near size fine f (collect a).tree (collect (near_state a b.tree.nodes)).tree.nodes collected.nodes in
+            subst (λ l. By (step n a (is_too_long (collect a).tree) (fits (collect a).tree)) (step n (near_state a b.tree.nodes) l (fits (collect (near_state a b.tree.nodes)).tree))) (sym long)
+            (subst (λ k. By (step n a (is_too_long (collect a).tree) (fits (collect a).tree)) (step n (near_state a b.tree.nodes) (is_too_long (collect a).tree) k)) (sym fit)
+            (by (near_state a b.tree.nodes) (record { nodes = near.nodes; rest = refl }) (is_too_long (collect a).tree) (fits (collect a).tree)))
 
-  -- ---- trees that are changed alike
+  -- ---- trees changed in the same way
 
   near-entry : (f : ℕ) (t : Tree) (ys : Numbered Node) → AreNear size f t.nodes ys → (d : ℕ) (name : Bytes) (n : ℕ) → AreNear size f (with_entry t d name n).nodes (with_entry (with_nodes t ys) d name n).nodes
   near-entry f t ys near d name n =
@@ -147,7 +147,7 @@ module _ (size : ℕ → ℕ) (fine : IsFine size) where
           refl,
         ))
 
-    -- a file's bytes, changed alike in both
+    -- the bytes of a file, changed in the same way
     near-content : Goal (node_at t g) (node_at (with_nodes t ys) g)
     near-content =
         ⊎_elim
@@ -178,7 +178,7 @@ module _ (size : ℕ → ℕ) (fine : IsFine size) where
         (λ place. judge_for s me place needed >> k place) (λ place. judge_for u me place needed >> h place) (λ place.
         near-then f (judge_for s me place needed) (judge_for u me place needed) (ap judgement_or_refusal (judgement-near size f s.tree ys near me.table place needed)) (k place) (h place) (is place))
 
-    -- ---- either something holds, or the attempts are near
+    -- ---- a condition holds, or the attempts are similar
 
     abbrev Or : Type 0 → Attempt Effect → Attempt Effect → Type 0
     Or X a b = X ⊎ B a b
@@ -224,11 +224,11 @@ module _ (size : ℕ → ℕ) (fine : IsFine size) where
     near-pledge promises execpromises =
         near-bind f (asked_promises promises) (asked_promises promises) refl (Rests.pledge_1 s pid me execpromises) (Rests.pledge_1 u pid me execpromises) (λ asked.
         near-bind f (asked_promises execpromises) (asked_promises execpromises) refl (Rests.pledge_2 s pid me asked) (Rests.pledge_2 u pid me asked) (λ exec_asked.
-        near-bind f (unless_refused (narrow_promises (is_lenient me.promises) me.promises asked)) (unless_refused (narrow_promises (is_lenient me.promises) me.promises asked)) refl (Rests.pledge_3 s pid me exec_asked) (Rests.pledge_3 u pid me exec_asked) (λ kept.
+        near-bind f (unless_refused (narrow_promises (is_lenient me.promises) me.promises asked)) (unless_refused (narrow_promises (is_lenient me.promises) me.promises asked)) refl (Rests.pledge_3 s pid me exec_asked) (Rests.pledge_3 u pid me exec_asked) (λ preserved.
         near-bind f (unless_refused (narrow_promises (is_lenient me.promises) me.execpromises exec_asked)) (unless_refused (narrow_promises (is_lenient me.promises) me.execpromises exec_asked)) refl
-        (λ exec_kept. answers (with_process s pid (record me { promises = kept; execpromises = exec_kept })) 0)
-        (λ exec_kept. answers (with_process u pid (record me { promises = kept; execpromises = exec_kept })) 0)
-        (λ exec_kept. own (record me { promises = kept; execpromises = exec_kept }) 0))))
+        (λ exec_preserved. answers (with_process s pid (record me { promises = preserved; execpromises = exec_preserved })) 0)
+        (λ exec_preserved. answers (with_process u pid (record me { promises = preserved; execpromises = exec_preserved })) 0)
+        (λ exec_preserved. own (record me { promises = preserved; execpromises = exec_preserved }) 0))))
 
     near-unveil : (path permissions : Option Bytes) → B (unveil s pid me path permissions) (unveil u pid me path permissions)
     near-unveil None None = own (record me { locked = true }) 0
@@ -251,15 +251,15 @@ module _ (size : ℕ → ℕ) (fine : IsFine size) where
         near-then f (refuse_if ENOTDIR (not (is_directory_at s.tree n))) (refuse_if ENOTDIR (not (is_directory_at u.tree n))) (ap (λ b. refuse_if ENOTDIR (not b)) (dir-near n))
         (answers (with_process s pid (record me { directory = n })) 0) (answers (with_process u pid (record me { directory = n })) 0) (own (record me { directory = n }) 0)))
 
-    told : (n : ℕ) → (n ≡ f → IsExact size) → B (answers_bytes s 0 (status s.tree n)) (answers_bytes u 0 (status u.tree n))
-    told n exact = (refl, ap (returns_bytes 0) (sym (status-near size f s.tree ys near n exact)), record { nodes = near; rest = refl })
+    reported : (n : ℕ) → (n ≡ f → IsExact size) → B (answers_bytes s 0 (status s.tree n)) (answers_bytes u 0 (status u.tree n))
+    reported n exact = (refl, ap (returns_bytes 0) (sym (status-near size f s.tree ys near n exact)), record { nodes = near; rest = refl })
 
     near-stat : (follow : Follow) (path : Bytes) → ((place : Place) → resolve s.tree follow me.directory path ≡ Ok place → judgement s.tree me.table place permission_r ≡ Allowed → node_of place ≡ Some f → IsExact size)
         → B (stat_at s pid me (from_here follow path permission_r)) (stat_at u pid me (from_here follow path permission_r))
     near-stat follow path exact =
         nothing_else (stat_at s pid me (from_here follow path permission_r)) (stat_at u pid me (from_here follow path permission_r))
         (or-place ⊥ me.directory follow path permission_r (Rests.stat_1 s pid me) (Rests.stat_1 u pid me) (λ place found allowed.
-        or-demand ⊥ ENOENT (node_of place) (λ n. answers_bytes s 0 (status s.tree n)) (λ n. answers_bytes u 0 (status u.tree n)) (λ n is. inr (told n (λ here. exact place found allowed (is ∙ ap (λ k. Some k) here))))))
+        or-demand ⊥ ENOENT (node_of place) (λ n. answers_bytes s 0 (status s.tree n)) (λ n. answers_bytes u 0 (status u.tree n)) (λ n is. inr (reported n (λ here. exact place found allowed (is ∙ ap (λ k. Some k) here))))))
 
     near-readlink : (path : Bytes) → B (readlink s pid me path) (readlink u pid me path)
     near-readlink path =
@@ -368,7 +368,7 @@ module _ (size : ℕ → ℕ) (fine : IsFine size) where
     near-fstat : (d : ℤ) → ((g : ℕ × OpenFile) → OwnDescriptor d g → IsExact size) → B (fstat s pid me d) (fstat u pid me d)
     near-fstat d exact =
         nothing_else (fstat s pid me d) (fstat u pid me d)
-        (or-demand ⊥ EBADF (open_file s me d) (λ (k, file). answers_bytes s 0 (status s.tree file.node)) (λ (k, file). answers_bytes u 0 (status u.tree file.node)) (λ g own. inr (told g.1.node (λ here. exact g (own, here)))))
+        (or-demand ⊥ EBADF (open_file s me d) (λ (k, file). answers_bytes s 0 (status s.tree file.node)) (λ (k, file). answers_bytes u 0 (status u.tree file.node)) (λ g own. inr (reported g.1.node (λ here. exact g (own, here)))))
 
     directory_of-near : (d : ℤ) → directory_of u pid me d ≡ directory_of s pid me d
     directory_of-near d =
@@ -523,7 +523,7 @@ module _ (size : ℕ → ℕ) (fine : IsFine size) where
         (ap (λ b. refuse_if EISDIR (b && writes g.mode)) (there-view is_directory (λ executable old new long. refl) (node_of place))) (Rests.open_6 s pid me g place) (Rests.open_6 u pid me g place)
         (near-open_node g (name_of place) (node_of place)))))))))))
 
-    -- ---- what reads a file's bytes
+    -- ---- calls that read the bytes of a file
 
     or-read : (d n : ℤ) → Or (ReadsBytes s me (TheCall.Read d n) f) (read s pid me d n) (read u pid me d n)
     or-read d n =
@@ -579,16 +579,16 @@ module _ (size : ℕ → ℕ) (fine : IsFine size) where
     near-effect program_of (TheCall.Dup2 d e) exact = inr (near-dup2 d e)
     near-effect program_of (TheCall.Read d n) exact = or-read d n
     near-effect program_of (TheCall.Write d n) exact = inr (near-write d n (λ g may own. exact (inr (refl, change_by_descriptor f (d, g.0, g.1, refl, own.0, own.1, may)))))
-    near-effect program_of (TheCall.Lseek d by whence) exact = inr (near-lseek d by whence (λ asks g own. exact (inl (asks, tell_by_descriptor f (d, g.0, g.1, refl, own.0, own.1, refl)))))
-    near-effect program_of (TheCall.Fstat d) exact = inr (near-fstat d (λ g own. exact (inl (refl, tell_by_descriptor f (d, g.0, g.1, refl, own.0, own.1, refl)))))
+    near-effect program_of (TheCall.Lseek d by whence) exact = inr (near-lseek d by whence (λ asks g own. exact (inl (asks, report_by_descriptor f (d, g.0, g.1, refl, own.0, own.1, refl)))))
+    near-effect program_of (TheCall.Fstat d) exact = inr (near-fstat d (λ g own. exact (inl (refl, report_by_descriptor f (d, g.0, g.1, refl, own.0, own.1, refl)))))
     near-effect program_of (TheCall.Ftruncate d n) exact = inr (near-ftruncate d n)
     near-effect program_of (TheCall.Getdents d) exact = inr (near-getdents d)
     near-effect program_of (TheCall.Fchdir d) exact = inr (near-fchdir d)
     near-effect program_of (TheCall.Chdir path) exact = inr (near-chdir path)
     near-effect program_of (TheCall.Stat path) exact = inr (near-stat Last path (λ place found allowed is.
-        exact (inl (refl, tell_by_place place f (first-place (λ (w : Walk). place_found (end_of s me w)) (from_here Last path permission_r) [] place (ap place_found found), allowed) is))))
+        exact (inl (refl, report_by_place place f (first-place (λ (w : Walk). place_found (end_of s me w)) (from_here Last path permission_r) [] place (ap place_found found), allowed) is))))
     near-effect program_of (TheCall.Lstat path) exact = inr (near-stat Keep path (λ place found allowed is.
-        exact (inl (refl, tell_by_place place f (first-place (λ (w : Walk). place_found (end_of s me w)) (from_here Keep path permission_r) [] place (ap place_found found), allowed) is))))
+        exact (inl (refl, report_by_place place f (first-place (λ (w : Walk). place_found (end_of s me w)) (from_here Keep path permission_r) [] place (ap place_found found), allowed) is))))
     near-effect program_of (TheCall.Readlink path) exact = inr (near-readlink path)
     near-effect program_of (TheCall.Mkdir path) exact = inr (near-make KeepTrimmed (directory_node []) path)
     near-effect program_of (TheCall.Symlink text path) exact = inr (near-symlink text path)

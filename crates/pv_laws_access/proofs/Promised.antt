@@ -1,4 +1,4 @@
--- What a process lacks a promise for.
+-- What a process cannot do without a promise.
 use Rattle.std.proofs.Common.{◌≡◌, ◌≢◌, ◌⊎◌, inl, inr, ⊎_elim, ℕ, Bool, true, false, not, ◌||◌, if◌then◌else◌, List, [], ◌∷◌, ◌++◌, Option, None, Some, refl, ap, sym, subst, ◌∙◌}
 use Rattle.std.proofs.lemmas.Bool.{and_parts, cases_eq}
 use Rattle.pv_model.specs.declared.call.Call.{Call}
@@ -14,13 +14,13 @@ use Rattle.pv_model.specs.State.{Program, Process, State, reads, writes, process
 use Rattle.pv_model.specs.Step.{step}
 use Rattle.pv_model.specs.Touch.{gain_descriptor, Touches, Justifies, gain_by_open}
 use Rattle.pv_model.specs.Tree.{find_entry}
-use Rattle.pv_laws_states.specs.States.{IsWhole}
+use Rattle.pv_laws_states.specs.States.{IsValid}
 use Rattle.pv_laws_access.proofs.JustFiles.{entries-explained, needs-open}
 use Rattle.pv_laws_access.proofs.JustGains.{gains-justified}
 
 -- ---- promises that are held
 
--- where all needs are met, so are those after others
+-- if all needs are met, so are those after the first
 met-following : (o : Option Promises) (others more : List Need) → missing_promise o (others ++ more) ≡ None → missing_promise o more ≡ None
 met-following o [] more met = met
 met-following o ([] ∷ others) more met = met-following o others more met
@@ -30,7 +30,7 @@ met-following o ((p ∷ ps) ∷ others) more met =
       | false ↦ λ bad. cc bad
     ] met
 
--- a promise that is not held is missed
+-- a promise that is not held is missing
 pub missed : (o : Option Promises) (q : Promise) (rest : List Need) → has_none_of (q ∷ []) o ≡ true → missing_promise o ((q ∷ []) ∷ rest) ≡ None → ⊥
 missed None q rest none met = cc none
 missed (Some held) q rest none met = by (contains held q) (and_parts (not (contains held q)) true none).0 met
@@ -60,7 +60,7 @@ equal-or_not None (Some n) = inr (λ is. cc is)
 equal-or_not (Some m) None = inr (λ is. cc is)
 equal-or_not (Some m) (Some n) = ⊎_elim (λ same. inl (ap Some same)) (λ other. inr (λ is. let same : m ≡ n = cc is in other same)) (cases_eq m n)
 
-pub without-cpath : (program_of : Bytes → Option Program) (s : State) (pid : ℕ) (p : Process) (d : ℕ) (name : Bytes) → IsWhole s → process_at s pid ≡ Some p
+pub without-cpath : (program_of : Bytes → Option Program) (s : State) (pid : ℕ) (p : Process) (d : ℕ) (name : Bytes) → IsValid s → process_at s pid ≡ Some p
     → is_pledged_without (Cpath ∷ []) p ≡ true → find_entry (step program_of s pid).after.tree d name ≡ find_entry s.tree d name
 without-cpath program_of s pid p d name whole at none =
     ⊎_elim (λ same. same)
@@ -71,14 +71,14 @@ without-cpath program_of s pid p d name whole at none =
     absurd (no-cpath e.0.0.promises e.1.0 (ap (λ (q : Process). is_pledged_without (Cpath ∷ []) q) same ∙ none) (ap (missing_promise e.0.0.promises) (sym e.1.1) ∙ e.0.4)))
     (equal-or_not (find_entry (step program_of s pid).after.tree d name) (find_entry s.tree d name))
 
--- a descriptor that is gained comes by an open whose promises are held
+-- a gained descriptor results from an open whose promises are held
 met-mode : (s : State) (q : Process) (call : Call) (n : ℕ) (mode : Mode) → missing_promise q.promises (needs call) ≡ None → Justifies s q call (gain_descriptor n mode)
     → (rest : List Need) × (missing_promise q.promises (needs_of_mode mode ++ rest) ≡ None)
 met-mode s q call n mode met (gain_by_open flags place _ _ flagged moded allowed node) =
     let rest : List Need = if flags.create then needs_cpath else [] in
     (rest, ap (λ m. missing_promise q.promises (needs_of_mode m ++ rest)) (sym moded) ∙ ap (missing_promise q.promises) (sym (needs-open call flags flagged)) ∙ met)
 
-module _ (program_of : Bytes → Option Program) (s : State) (pid : ℕ) (p : Process) (n : ℕ) (mode : Mode) (whole : IsWhole s) (at : process_at s pid ≡ Some p) where
+module _ (program_of : Bytes → Option Program) (s : State) (pid : ℕ) (p : Process) (n : ℕ) (mode : Mode) (whole : IsValid s) (at : process_at s pid ≡ Some p) where
   met-gain : Touches program_of s pid (gain_descriptor n mode) → (rest : List Need) × (missing_promise p.promises (needs_of_mode mode ++ rest) ≡ None)
   met-gain gains =
       let e = gains-justified program_of s pid n mode whole gains in

@@ -1,4 +1,4 @@
--- A touch that only a call's effect can make is made by one.
+-- A touch that only the effect of a call can make is made by a call.
 use Rattle.std.proofs.Common.{◌≡◌, ◌≢◌, ℕ, pos, negsuc, true, Option, None, Some, refl, ap, sym, subst, ◌∙◌}
 use Rattle.std.specs.FinMap.Entries.{is_sorted}
 use Rattle.std.specs.Ordering.{nat_cmp}
@@ -12,35 +12,35 @@ use Rattle.pv_model.specs.Bytes.{Bytes}
 use Rattle.pv_model.specs.Calls.Processes.{with_result, end_process}
 use Rattle.pv_model.specs.Effect.{Effect, Reply, returns, returns_bytes, ends, waits}
 use Rattle.pv_model.specs.Errno.{errno_number}
-use Rattle.pv_model.specs.Held.{trim}
+use Rattle.pv_model.specs.Held.{collect}
 use Rattle.pv_model.specs.Needs.{needs}
 use Rattle.pv_model.specs.Program.{Next, inside, calls_for, next}
 use Rattle.pv_model.specs.Promises.{missing_promise}
 use Rattle.pv_model.specs.State.{Program, Process, live, State, process_at, with_process}
 use Rattle.pv_model.specs.Step.{Stepped, step, step_by}
-use Rattle.pv_model.specs.Touch.{Touch, IsAllowed, Justifies, read_by_descriptor, read_by_execve, change_by_descriptor, change_by_open, entry_by_place, tell_by_descriptor, tell_by_place, gain_by_open}
+use Rattle.pv_model.specs.Touch.{Touch, IsAllowed, Justifies, read_by_descriptor, read_by_execve, change_by_descriptor, change_by_open, entry_by_place, report_by_descriptor, report_by_place, gain_by_open}
 use Rattle.pv_model.specs.declared.perms.Perms.{Perms}
 use Rattle.pv_model.specs.declared.place.Place.{Place}
-use Rattle.pv_laws_states.specs.States.{is_call, SpellsPrograms, IsTree, IsWhole}
+use Rattle.pv_laws_states.specs.States.{is_call, EncodesPrograms, IsTree, IsValid}
 use Rattle.pv_laws_states.proofs.Attempts.{Leads}
 use Rattle.pv_laws_states.proofs.BySteps.{IsGoodNext, good-effect, good-next}
 use Rattle.pv_laws_states.proofs.Outcomes.{at_call, by_answer}
 use Rattle.pv_laws_states.proofs.Processes.{process_at-same, process_at-other, update-with}
 use Rattle.pv_laws_states.proofs.Replies.{IsEffect, whole-at_call}
 use Rattle.pv_laws_states.proofs.Whole.{sorted-put_number}
-use Rattle.pv_laws_access.proofs.HasEffect.{goes_on, HasEffect, Did, ends-stays}
+use Rattle.pv_laws_access.proofs.HasEffect.{continues, HasEffect, Did, ends-stays}
 use Rattle.pv_laws_access.proofs.EffectByCall.{does-effect}
 use Rattle.pv_laws_access.proofs.Ends.{IsSameNext, same-next, step-is, step-gone}
 use Rattle.pv_laws_access.proofs.Images.{executes}
 
--- ---- the tree that a call leaves is one
+-- ---- the tree after a call is well-formed
 
 pub leads-weaker : {A : Type 0} (P Q : A → Type 0) (a : Attempt A) → ((value : A) → P value → Q value) → Leads P a → Leads Q a
 leads-weaker P Q (done walks value) weaker is = weaker value is
 leads-weaker P Q (refused walks errno cause) weaker is = tt
 
 abbrev LeavesTree : Effect → Type 0
-LeavesTree (after, r) = goes_on r ≡ true → IsTree after.tree
+LeavesTree (after, r) = continues r ≡ true → IsTree after.tree
 
 ready-leaves : (s : State) (e : Effect) → IsEffect s e → LeavesTree e
 ready-leaves s (after, returns n) good goes = good.0.solid.tree
@@ -48,19 +48,19 @@ ready-leaves s (after, returns_bytes n bytes) good goes = good.0.solid.tree
 ready-leaves s (after, ends status) good goes = cc
 ready-leaves s (after, waits) good goes = cc
 
-nothing_spelled : SpellsPrograms (λ (bytes : Bytes). None)
-nothing_spelled = record { spells = λ bytes program is. cc }
+nothing_encoded : EncodesPrograms (λ (bytes : Bytes). None)
+nothing_encoded = record { encodes = λ bytes program is. cc }
 
-leaves-tree : (program_of : Bytes → Option Program) (s : State) (pid : ℕ) (me : Process) (call : Call) → IsWhole s → process_at s pid ≡ Some me → is_call call ≡ true → Leads LeavesTree (effect program_of s pid me call)
+leaves-tree : (program_of : Bytes → Option Program) (s : State) (pid : ℕ) (me : Process) (call : Call) → IsValid s → process_at s pid ≡ Some me → is_call call ≡ true → Leads LeavesTree (effect program_of s pid me call)
 unfolding effect
 leaves-tree program_of s pid me (Execve path) whole at is =
     leads-weaker _ LeavesTree (effect program_of s pid me (Execve path)) (λ (after, r) leaves goes. subst IsTree (sym (ap (λ (x : State). x.tree) leaves.1)) whole.tree) (executes program_of s pid me path)
 leaves-tree program_of s pid me call whole at is =
-    leads-weaker (IsEffect s) LeavesTree (effect (λ bytes. None) s pid me call) (ready-leaves s) (good-effect (λ bytes. None) nothing_spelled s pid me call whole at is)
+    leads-weaker (IsEffect s) LeavesTree (effect (λ bytes. None) s pid me call) (ready-leaves s) (good-effect (λ bytes. None) nothing_encoded s pid me call whole at is)
 
 -- ---- steps
 
--- a state with the touch that a call's effect leaves
+-- the state in which the effect of a call makes the touch
 pub record IsTouched (s : State) (pid : ℕ) (T : State → Type 0) : Type 0 where
   pub me : Process
   pub call : Call
@@ -70,17 +70,17 @@ pub record IsTouched (s : State) (pid : ℕ) (T : State → Type 0) : Type 0 whe
   pub is : is_call call ≡ true
   pub after : State
   pub reply : Reply
-  pub told : Process → Process
-  pub same : (p : Process) → (told p).descriptors ≡ p.descriptors
+  pub reported : Process → Process
+  pub same : (p : Process) → (reported p).descriptors ≡ p.descriptors
   pub does : HasEffect (at_call s pid me) pid (at_next_line me) call after reply
   pub tree : IsTree after.tree
-  pub touch : T (trim (update after pid told))
+  pub touch : T (collect (update after pid reported))
 
-module _ (program_of : Bytes → Option Program) (s : State) (pid : ℕ) (whole : IsWhole s) (T : State → Type 0)
+module _ (program_of : Bytes → Option Program) (s : State) (pid : ℕ) (whole : IsValid s) (T : State → Type 0)
     (none : T s → ⊥)
     (own : (p q : Process) → process_at s pid ≡ Some p → q.descriptors ≡ p.descriptors → T (with_process s pid q) → ⊥)
     (over : (y : State) (me : Process) (status : ℕ) → y.tree ≡ s.tree → is_sorted nat_cmp y.processes ≡ true
-    → ((j : ℕ) → j ≢ pid → process_at y j ≡ process_at s j) → T (trim (end_process y pid me status)) → ⊥) where
+    → ((j : ℕ) → j ≢ pid → process_at y j ≡ process_at s j) → T (collect (end_process y pid me status)) → ⊥) where
   module _ (me : Process) (at : process_at s pid ≡ Some me) (call : Call) (next_is : next me ≡ calls_for call) where
     abbrev x : State
     x = at_call s pid me
@@ -98,9 +98,9 @@ module _ (program_of : Bytes → Option Program) (s : State) (pid : ℕ) (whole 
     refusal errno touch =
         own me (with_result now (negsuc 0) (errno_number errno)) at refl (subst T (update-with s pid (λ p. with_result p (negsuc 0) (errno_number errno)) now) touch)
 
-    ending : (after : State) (status : ℕ) → HasEffect x pid now call after (ends status) → T (trim (end_process after pid now status)) → ⊥
+    ending : (after : State) (status : ℕ) → HasEffect x pid now call after (ends status) → T (collect (end_process after pid now status)) → ⊥
     ending after status does touch =
-        over x now status refl ascending (λ j other. process_at-other s pid now j other) (subst (λ (y : State). T (trim (end_process y pid now status))) (ends-stays x pid now call after (ends status) status does refl) touch)
+        over x now status refl ascending (λ j other. process_at-other s pid now j other) (subst (λ (y : State). T (collect (end_process y pid now status))) (ends-stays x pid now call after (ends status) status does refl) touch)
 
     by_attempt : missing_promise me.promises (needs call) ≡ None → (a : Attempt Effect) → Leads (Did x pid now call) a → Leads LeavesTree a → T (answer_by_attempt s x pid now a).after → IsTouched s pid T
     by_attempt held (done walks (after, returns n)) does tree touch = record {
@@ -112,7 +112,7 @@ module _ (program_of : Bytes → Option Program) (s : State) (pid : ℕ) (whole 
       is = good_call;
       after = after;
       reply = returns n;
-      told = λ p. with_result p (pos n) 0;
+      reported = λ p. with_result p (pos n) 0;
       same = λ p. refl;
       does = does;
       tree = tree refl;
@@ -127,7 +127,7 @@ module _ (program_of : Bytes → Option Program) (s : State) (pid : ℕ) (whole 
       is = good_call;
       after = after;
       reply = returns_bytes n bytes;
-      told = λ p. with_front bytes (with_result p (pos n) 0);
+      reported = λ p. with_front bytes (with_result p (pos n) 0);
       same = λ p. refl;
       does = does;
       tree = tree refl;
@@ -162,7 +162,7 @@ module _ (program_of : Bytes → Option Program) (s : State) (pid : ℕ) (whole 
       by None gone = absurd (none (subst (λ (w : Stepped). T w.after) (step-gone program_of s pid gone) touch))
       by (Some me) at = by_next me at (next me) refl (same-next me) (subst (λ (w : Stepped). T w.after) (step-is program_of s pid me at) touch)
 
--- ---- what justifies at the call justified before it
+-- ---- a justification at the call is one before it
 
 module _ (s : State) (pid : ℕ) (me : Process) (call : Call) where
   abbrev x' : State
@@ -180,6 +180,6 @@ module _ (s : State) (pid : ℕ) (me : Process) (call : Call) where
   back _ (change_by_descriptor f has) = change_by_descriptor f has
   back _ (change_by_open flags place f flagged cut allowed node) = change_by_open flags place f flagged cut (allowed-back _ place allowed) node
   back _ (entry_by_place place d name allowed named) = entry_by_place place d name (allowed-back _ place allowed) named
-  back _ (tell_by_descriptor n has) = tell_by_descriptor n has
-  back _ (tell_by_place place n allowed node) = tell_by_place place n (allowed-back _ place allowed) node
+  back _ (report_by_descriptor n has) = report_by_descriptor n has
+  back _ (report_by_place place n allowed node) = report_by_place place n (allowed-back _ place allowed) node
   back _ (gain_by_open flags place n mode flagged is allowed node) = gain_by_open flags place n mode flagged is (allowed-back _ place allowed) node

@@ -1,4 +1,4 @@
--- What an audit tests is what closed and frozen mean, and its reason is the first one.
+-- The tests of an audit agree with the conditions of closed and frozen, and the reported reason is the first.
 use Rattle.std.proofs.Common.{◌≡◌, ◌≢◌, ◌↔◌, ℕ, ◌≤◌, lit<, Bool, true, false, not, ◌&&◌, if◌then◌else◌, ◌==◌, List, [], ◌∷◌, ◌++◌, map, filter, fold, min, Option, None, Some, is_some, refl, ap, sym, subst, ◌∙◌, ◌⊎◌, inl, inr, ⊎_elim, arith}
 use Rattle.std.specs.List.{list_all}
 use Rattle.std.specs.Option.{option_or}
@@ -27,7 +27,7 @@ use Rattle.pv_model.proofs.Rights.{Governs-directory_rights, directory_rights-Go
 use Rattle.pv_laws_trees.proofs.Above.{ancestors-above}
 use Rattle.pv_laws_trees.proofs.Trees.{IsOrdered, ordered, sound}
 use Rattle.pv_laws_access.specs.Reasons.{IsFirstReason, IsFirstLeak, IsExact}
-use Rattle.pv_laws_trees.proofs.Members.{In, empty-from, none-in, in-map, map-in, in-filter, filter-in, in-kept, kept-in, in-flat, flat-in, any-in, in-any, least-in, least-low, numbered-at, at-numbered, entry-in, in-entry}
+use Rattle.pv_laws_trees.proofs.Members.{In, empty-from, none-in, in-map, map-in, in-filter, filter-in, in-preserved, preserved-in, in-flat, flat-in, any-in, in-any, least-in, least-low, numbered-at, at-numbered, entry-in, in-entry}
 
 -- ---- promises
 
@@ -103,7 +103,7 @@ unset : (b : Bool) → not b ≡ false → b ≡ true
 unset true is = refl
 unset false is = cc is
 
--- the first of a list that is joined of two
+-- the first element of a concatenation
 first-least : (why : ℕ → Why) (ks : List ℕ) (rest : List Why) (w : Why) (ws : List Why) → Sealed.least_first why ks ++ rest ≡ w ∷ ws
     → ((k : ℕ) × In ℕ k ks × ((j : ℕ) → In ℕ j ks → k ≤ j) × (why k ≡ w)) ⊎ ((ks ≡ []) × (rest ≡ w ∷ ws))
 first-least why [] rest w ws is = inr (refl, is)
@@ -128,9 +128,9 @@ module _ (s : State) (p : Process) (f : ℕ) (w : IsWellFormed s.tree) where
   in-on : (test : Mode → Bool) (d : ℕ) → In ℕ d (Sealed.descriptors_on s p f test) → Closed.HasOn s p f test d
   in-on test d is =
       let e = map-in (ℕ × Descriptor) ℕ (λ (x : ℕ × Descriptor). x.0) (filter (λ (x : ℕ × Descriptor). Sealed.opens s p f test (at_number s.files x.1.file)) (numbered p.descriptors)) d is in
-      let kept = filter-in (ℕ × Descriptor) (λ (x : ℕ × Descriptor). Sealed.opens s p f test (at_number s.files x.1.file)) (numbered p.descriptors) e.0 e.1 in
-      let there : at_number p.descriptors d ≡ Some e.0.1 = ap (at_number p.descriptors) (sym e.2) ∙ at-numbered Descriptor p.descriptors e.0 kept.0 in
-      by e.0.1 there (at_number s.files e.0.1.file) refl kept.1
+      let preserved = filter-in (ℕ × Descriptor) (λ (x : ℕ × Descriptor). Sealed.opens s p f test (at_number s.files x.1.file)) (numbered p.descriptors) e.0 e.1 in
+      let there : at_number p.descriptors d ≡ Some e.0.1 = ap (at_number p.descriptors) (sym e.2) ∙ at-numbered Descriptor p.descriptors e.0 preserved.0 in
+      by e.0.1 there (at_number s.files e.0.1.file) refl preserved.1
     where
       by : (x : Descriptor) → at_number p.descriptors d ≡ Some x → (o : Option OpenFile) → at_number s.files x.file ≡ o → Sealed.opens s p f test o ≡ true → Closed.HasOn s p f test d
       by x there None at passes = cc passes
@@ -152,7 +152,7 @@ module _ (s : State) (p : Process) (f : ℕ) (w : IsWellFormed s.tree) where
   given-in table test k gives =
       let governs = Sealed.governs_name s p f table in
       in-filter ℕ (λ k. test (permissions_at table k)) (Rattle.std.specs.Prelude.filter_map (λ (k : Option ℕ). k) (map governs (names_of s.tree f))) k
-      (in-kept ℕ (map governs (names_of s.tree f)) k
+      (in-preserved ℕ (map governs (names_of s.tree f)) k
       (subst (λ o. In (Option ℕ) o (map governs (names_of s.tree f))) (governs-found table gives.0 gives.1 k gives.3)
       (in-map (ℕ × Bytes) (Option ℕ) governs (names_of s.tree f) (gives.0, gives.1) (entry-in s.tree f gives.0 gives.1 gives.2))))
       gives.4
@@ -160,16 +160,16 @@ module _ (s : State) (p : Process) (f : ℕ) (w : IsWellFormed s.tree) where
   in-given : (table : Table) (test : Perms → Bool) (k : ℕ) → In ℕ k (Sealed.giving s p f test table) → Closed.GivesName s p f table test k
   in-given table test k is =
       let governs = Sealed.governs_name s p f table in
-      let kept = filter-in ℕ (λ k. test (permissions_at table k)) (Rattle.std.specs.Prelude.filter_map (λ (k : Option ℕ). k) (map governs (names_of s.tree f))) k is in
-      let name = map-in (ℕ × Bytes) (Option ℕ) governs (names_of s.tree f) (Some k) (kept-in ℕ (map governs (names_of s.tree f)) k kept.0) in
-      (name.0.0, name.0.1, in-entry s.tree rank f name.0 name.1, found-governs table name.0.0 name.0.1 k name.2, kept.1)
+      let preserved = filter-in ℕ (λ k. test (permissions_at table k)) (Rattle.std.specs.Prelude.filter_map (λ (k : Option ℕ). k) (map governs (names_of s.tree f))) k is in
+      let name = map-in (ℕ × Bytes) (Option ℕ) governs (names_of s.tree f) (Some k) (preserved-in ℕ (map governs (names_of s.tree f)) k preserved.0) in
+      (name.0.0, name.0.1, in-entry s.tree rank f name.0 name.1, found-governs table name.0.0 name.0.1 k name.2, preserved.1)
 
   above-in : (table : Table) (k : ℕ) → Closed.GivesAbove s p f table k → In ℕ k (Sealed.above s p f table)
   above-in table k gives =
       let rights = directory_rights s.tree table in
       let ds = Sealed.directories s p f in
       in-filter ℕ (λ k. (permissions_at table k).c) (Rattle.std.specs.Prelude.filter_map (λ (k : Option ℕ). k) (map rights ds)) k
-      (in-kept ℕ (map rights ds) k
+      (in-preserved ℕ (map rights ds) k
       (subst (λ o. In (Option ℕ) o (map rights ds)) (directory_rights-Governs s.tree table gives.2 k gives.5)
       (in-map ℕ (Option ℕ) rights ds gives.2
       (in-flat (ℕ × Bytes) ℕ (λ (name : ℕ × Bytes). ancestors s.tree name.0) (names_of s.tree f) (gives.0, gives.1) gives.2 (entry-in s.tree f gives.0 gives.1 gives.3)
@@ -180,10 +180,10 @@ module _ (s : State) (p : Process) (f : ℕ) (w : IsWellFormed s.tree) where
   in-above table k is =
       let rights = directory_rights s.tree table in
       let ds = Sealed.directories s p f in
-      let kept = filter-in ℕ (λ k. (permissions_at table k).c) (Rattle.std.specs.Prelude.filter_map (λ (k : Option ℕ). k) (map rights ds)) k is in
-      let up = map-in ℕ (Option ℕ) rights ds (Some k) (kept-in ℕ (map rights ds) k kept.0) in
+      let preserved = filter-in ℕ (λ k. (permissions_at table k).c) (Rattle.std.specs.Prelude.filter_map (λ (k : Option ℕ). k) (map rights ds)) k is in
+      let up = map-in ℕ (Option ℕ) rights ds (Some k) (preserved-in ℕ (map rights ds) k preserved.0) in
       let name = flat-in (ℕ × Bytes) ℕ (λ (name : ℕ × Bytes). ancestors s.tree name.0) (names_of s.tree f) up.0 up.1 in
-      (name.0.0, name.0.1, up.0, in-entry s.tree rank f name.0 name.1, (ancestors-above s.tree w name.0.0 up.0).0 (in-any up.0 (ancestors s.tree name.0.0) name.2), Governs-directory_rights s.tree table up.0 k up.2, kept.1)
+      (name.0.0, name.0.1, up.0, in-entry s.tree rank f name.0 name.1, (ancestors-above s.tree w name.0.0 up.0).0 (in-any up.0 (ancestors s.tree name.0.0) name.2), Governs-directory_rights s.tree table up.0 k up.2, preserved.1)
 
   -- ---- the parts of the tests
 
@@ -266,19 +266,19 @@ module _ (s : State) (p : Process) (f : ℕ) (w : IsWellFormed s.tree) where
       let parts = and_parts (is_empty (Sealed.descriptors_on s p f writes)) _ is in
       record {
         descriptors = λ d has. none-in ℕ d (Sealed.descriptors_on s p f writes) (nothing _ parts.0) (on-in writes d has);
-        restraints = ⊎_elim (λ l. let both = (two p Wpath ExecPromise).0 l in inl (record { no_wpath = both.0; no_exec = both.1 })) (λ kept. inr (by p.table refl kept))
-            (or_cases (Sealed.is_pledged_without (Wpath ∷ ExecPromise ∷ []) p) (Sealed.is_kept_by_table s p f p.table) parts.1);
+        restraints = ⊎_elim (λ l. let both = (two p Wpath ExecPromise).0 l in inl (record { no_wpath = both.0; no_exec = both.1 })) (λ preserved. inr (by p.table refl preserved))
+            (or_cases (Sealed.is_pledged_without (Wpath ∷ ExecPromise ∷ []) p) (Sealed.is_preserved_by_table s p f p.table) parts.1);
       }
     where
       nothing : (ks : List ℕ) → is_empty ks ≡ true → ks ≡ []
       nothing [] none = refl
       nothing (k ∷ ks) none = cc none
 
-      by : (o : Option Table) → p.table ≡ o → Sealed.is_kept_by_table s p f o ≡ true → (table : Table) × Closed.IsUnveiledFrom s p f table
-      by None at kept = cc kept
-      by (Some table) at kept =
+      by : (o : Option Table) → p.table ≡ o → Sealed.is_preserved_by_table s p f o ≡ true → (table : Table) × Closed.IsUnveiledFrom s p f table
+      by None at preserved = cc preserved
+      by (Some table) at preserved =
           let giving : List ℕ = Sealed.giving s p f (λ permissions. permissions.w) table in
-          let last = and_parts (p.locked && is_empty giving) (Sealed.is_held_over_exec s p f) kept in
+          let last = and_parts (p.locked && is_empty giving) (Sealed.is_held_over_exec s p f) preserved in
           let first = and_parts p.locked (is_empty giving) last.0 in (
             table,
             record {
@@ -293,12 +293,12 @@ module _ (s : State) (p : Process) (f : ℕ) (w : IsWellFormed s.tree) where
   unfolding Sealed.is_frozen_to
   frozen-is frozen =
       and_from _ _ (ap is_empty (empty-from ℕ (Sealed.descriptors_on s p f writes) (λ d is. frozen.descriptors d (in-on writes d is))))
-      (⊎_elim (λ l. or_left _ _ ((two p Wpath ExecPromise).1 (l.no_wpath, l.no_exec))) (λ u. or_right (Sealed.is_pledged_without (Wpath ∷ ExecPromise ∷ []) p) _ (kept u.0 u.1)) frozen.restraints)
+      (⊎_elim (λ l. or_left _ _ ((two p Wpath ExecPromise).1 (l.no_wpath, l.no_exec))) (λ u. or_right (Sealed.is_pledged_without (Wpath ∷ ExecPromise ∷ []) p) _ (preserved u.0 u.1)) frozen.restraints)
     where
-      kept : (table : Table) → Closed.IsUnveiledFrom s p f table → Sealed.is_kept_by_table s p f p.table ≡ true
-      kept table u =
+      preserved : (table : Table) → Closed.IsUnveiledFrom s p f table → Sealed.is_preserved_by_table s p f p.table ≡ true
+      preserved table u =
           let giving : List ℕ = Sealed.giving s p f (λ permissions. permissions.w) table in
-          ap (Sealed.is_kept_by_table s p f) u.in_force
+          ap (Sealed.is_preserved_by_table s p f) u.in_force
           ∙ and_from (p.locked && is_empty giving) (Sealed.is_held_over_exec s p f)
           (and_from p.locked (is_empty giving) u.locked (ap is_empty (empty-from ℕ giving (λ k is. u.names k (in-given table (λ permissions. permissions.w) k is))))) (held-tested u.over_exec)
 
@@ -509,16 +509,16 @@ module _ (s : State) (f : ℕ) where
             process = rest.process;
             before = (n, p) ∷ rest.before;
             following = rest.following;
-            stands = ap (λ (qs : Leaky). (n, p) ∷ qs) rest.stands;
+            appears = ap (λ (qs : Leaky). (n, p) ∷ qs) rest.appears;
             quiet = and_from _ _ (ap is_empty none) rest.quiet;
             whys = rest.whys;
             leaks = rest.leaks;
           }
-      by again (w ∷ ws) some told =
-          let one : ◌≡◌ {A = ℕ × Why} (n, w) (pid, why) = cc told in
+      by again (w ∷ ws) some reported =
+          let one : ◌≡◌ {A = ℕ × Why} (n, w) (pid, why) = cc reported in
           let number : n ≡ pid = ap (λ (x : ℕ × Why). x.0) one in
           let reason : w ≡ why = ap (λ (x : ℕ × Why). x.1) one in
-          record { process = p; before = []; following = ps; stands = ap (λ (k : ℕ). (k, p) ∷ ps) number; quiet = refl; whys = ws; leaks = some ∙ ap (λ (x : Why). x ∷ ws) reason }
+          record { process = p; before = []; following = ps; appears = ap (λ (k : ℕ). (k, p) ∷ ps) number; quiet = refl; whys = ws; leaks = some ∙ ap (λ (x : Why). x ∷ ws) reason }
 
   leaks-following : (before following : Leaky) (p : Process) (pid : ℕ) (why : Why) (whys : List Why) → Sealed.leaks s p f ≡ why ∷ whys
       → list_all (λ (e : ℕ × Process). is_empty (Sealed.leaks s e.1 f)) before ≡ true → Sealed.first_leak s f (before ++ (pid, p) ∷ following) ≡ Some (pid, why)
@@ -532,7 +532,7 @@ module _ (s : State) (f : ℕ) where
       by (w ∷ ws) some rest = cc some
 
   pub leaks-first : (ps : Leaky) (pid : ℕ) (why : Why) → IsFirstLeak s f ps pid why → Sealed.first_leak s f ps ≡ Some (pid, why)
-  leaks-first ps pid why is = ap (Sealed.first_leak s f) is.stands ∙ leaks-following is.before is.following is.process pid why is.whys is.leaks is.quiet
+  leaks-first ps pid why is = ap (Sealed.first_leak s f) is.appears ∙ leaks-following is.before is.following is.process pid why is.whys is.leaks is.quiet
 
   abbrev live : Leaky
   live = live_processes s.processes
@@ -564,7 +564,7 @@ module _ (s : State) (f : ℕ) where
   value-sealed is none frozen =
       ap (λ b. if b then None else Some (Sealed.verdict_unless s f leak)) is ∙ ap (λ o. Some (Sealed.verdict_unless s f o)) none ∙ ap (λ b. Some (if b then TheVerdict.Frozen else TheVerdict.Sealed)) frozen
 
-  -- what holds in each of the four cases
+  -- a property of each of the four cases
   by_case : (P : Verdicts → Type 0) → (nameless ≡ true → P None) → (nameless ≡ false → leak ≡ None → Sealed.is_frozen s f ≡ true → P (Some TheVerdict.Frozen))
       → (nameless ≡ false → leak ≡ None → Sealed.is_frozen s f ≡ false → P (Some TheVerdict.Sealed))
       → ((pid : ℕ) (why : Why) → nameless ≡ false → leak ≡ Some (pid, why) → P (Some (TheVerdict.Exposed (record { pid = pid; why = why })))) → P (Sealed.verdict s f)
@@ -617,8 +617,8 @@ verdicts-exact s f = record {
     by_case s f (λ v. v ≡ Some (TheVerdict.Exposed leak) → (names_of s.tree f ≢ []) × (Sealed.first_leak s f (live_processes s.processes) ≡ Some (leak.pid, leak.why)))
         (λ is same. cc same) (λ is l fr same. cc same) (λ is l fr same. cc same)
         (λ pid why is l same.
-        let told : ◌≡◌ {A = Leak} (record { pid = pid; why = why }) leak = cc same in
-        (has-names s f is, l ∙ ap (λ (x : Leak). Some (x.pid, x.why)) told)),
+        let reported : ◌≡◌ {A = Leak} (record { pid = pid; why = why }) leak = cc same in
+        (has-names s f is, l ∙ ap (λ (x : Leak). Some (x.pid, x.why)) reported)),
     λ both. value-exposed s f leak.pid leak.why (names-has s f both.0) both.1,
   );
 }

@@ -1,4 +1,4 @@
--- A run in which a child ends, and then its parent, so that the laws of ends speak of something.
+-- A run in which a child ends, and then its parent. It shows that the laws of ends are not vacuous.
 use Rattle.std.specs.Prelude.{◌≡◌, ℕ, List, [], ◌∷◌, pos, Option, None, Some}
 use Rattle.std.specs.FinMap.Entries.{find}
 use Rattle.std.specs.Ordering.{nat_cmp}
@@ -9,18 +9,18 @@ use Rattle.pv_model.specs.Manifest.{manifest_tree}
 use Rattle.pv_model.specs.State.{Program, ended_record, State, first_state}
 use Rattle.pv_model.specs.Step.{run}
 
--- a process that forks, and ends with code 3, as its child does
+-- a process that forks and exits with code 3, as its child does
 abbrev pub program : Program
 program = Fork ∷ Exit (Number (pos 3)) ∷ []
 
--- no execve is made
+-- no file parses as a program
 abbrev pub no_programs : Bytes → Option Program
 no_programs bytes = None
 
 abbrev pub state_after : List ℕ → State
 state_after pids = (run no_programs pids (first_state (manifest_tree 14 16 []) program)).final
 
--- the child waits to be waited for, until nobody can
+-- the child's record is kept until its parent ends
 pub record EndExamples : Type 0 where
   pub waiting : find nat_cmp 2 (state_after (1 ∷ 2 ∷ [])).processes ≡ Some (ended_record 1 768)
   pub forgotten : find nat_cmp 2 (state_after (1 ∷ 2 ∷ 1 ∷ [])).processes ≡ None

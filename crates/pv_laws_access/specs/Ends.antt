@@ -1,4 +1,4 @@
--- Laws of the end of a process, by exit(3) or by a kill: what is left of it, and of others.
+-- Laws of the end of a process by exit(3) or by a kill: the records and files that remain.
 use Rattle.std.specs.Prelude.{◌≡◌, ◌≢◌, ℕ, zero, suc, ℤ, if◌then◌else◌, ◌==◌, Option, None, Some, is_some}
 use Rattle.std.specs.FinMap.Entries.{find}
 use Rattle.std.specs.Ordering.{nat_cmp}
@@ -12,39 +12,39 @@ use Rattle.pv_model.specs.Program.{calls_for, next}
 use Rattle.pv_model.specs.State.{OpenFile, Program, Process, ProcessRecord, ended_record, State, process_at}
 use Rattle.pv_model.specs.Step.{step}
 use Rattle.pv_model.specs.Tree.{find_entry}
-use Rattle.pv_laws_states.specs.States.{IsWhole}
+use Rattle.pv_laws_states.specs.States.{IsValid}
 
--- who adopts the children of a process that ends: process 1, or nobody where that ends or has ended
+-- the process that adopts the children of a process that ends: process 1, or nobody (0) if that ends or has ended
 abbrev pub heir : State → ℕ → ℕ
 heir s pid = if pid == 1 then 0 else if is_some (process_at s 1) then 1 else 0
 
--- the parent of a process after the end of another
+-- the parent of a process after the end of process `pid`
 abbrev pub new_parent : State → ℕ → ℕ → ℕ
 new_parent s pid parent = if parent == pid then heir s pid else parent
 
--- what is kept of a process that has ended: nothing, where nobody will wait for it
-abbrev pub kept_for : ℕ → ℕ → Option ProcessRecord
-kept_for zero status = None
-kept_for (suc parent) status = Some (ended_record (suc parent) status)
+-- the record of an ended process, or None if no process will wait for it
+abbrev pub preserved_for : ℕ → ℕ → Option ProcessRecord
+preserved_for zero status = None
+preserved_for (suc parent) status = Some (ended_record (suc parent) status)
 
--- what the end of a process leaves
+-- the state after the end of a process
 pub record IsEnded (s after : State) (pid : ℕ) (p : Process) (status : ℕ) : Type 0 where
-  pub itself : find nat_cmp pid after.processes ≡ kept_for (new_parent s pid p.parent) status
+  pub itself : find nat_cmp pid after.processes ≡ preserved_for (new_parent s pid p.parent) status
   pub live : (k : ℕ) (q : Process) → k ≢ pid → process_at s k ≡ Some q → process_at after k ≡ Some (record q { parent = new_parent s pid q.parent })
-  pub ended : (k parent left : ℕ) → k ≢ pid → find nat_cmp k s.processes ≡ Some (ended_record parent left) → find nat_cmp k after.processes ≡ kept_for (new_parent s pid parent) left
+  pub ended : (k parent left : ℕ) → k ≢ pid → find nat_cmp k s.processes ≡ Some (ended_record parent left) → find nat_cmp k after.processes ≡ preserved_for (new_parent s pid parent) left
   pub none_else : (k : ℕ) → k ≢ pid → find nat_cmp k s.processes ≡ None → find nat_cmp k after.processes ≡ None
   pub entries : (d : ℕ) (name : Bytes) → find_entry after.tree d name ≡ find_entry s.tree d name
   pub files : (k : ℕ) (file : OpenFile) → at_number after.files k ≡ Some file → at_number s.files k ≡ Some file
   pub last_process : after.last_process ≡ s.last_process
 
--- an exit leaves just that, with the status of its code
+-- an exit leaves this state, with the status of its code
 abbrev pub ExitsLeave : Type 0
 ExitsLeave =
-    (program_of : Bytes → Option Program) (s : State) (pid : ℕ) (p : Process) (code : ℤ) → IsWhole s → process_at s pid ≡ Some p
+    (program_of : Bytes → Option Program) (s : State) (pid : ℕ) (p : Process) (code : ℤ) → IsValid s → process_at s pid ≡ Some p
     → next p ≡ calls_for (Exit code) → IsEnded s (step program_of s pid).after pid p (exit_status code)
 
--- and a kill, with that of SIGABRT
+-- a kill leaves this state, with the status of SIGABRT
 abbrev pub KillsLeave : Type 0
 KillsLeave =
-    (program_of : Bytes → Option Program) (s : State) (pid : ℕ) (p : Process) (a : Promise) → IsWhole s → process_at s pid ≡ Some p
+    (program_of : Bytes → Option Program) (s : State) (pid : ℕ) (p : Process) (a : Promise) → IsValid s → process_at s pid ≡ Some p
     → (step program_of s pid).outcome ≡ Killed a → IsEnded s (step program_of s pid).after pid p 6

@@ -1,4 +1,4 @@
--- What a step leaves of open files: which stay, which come, and which go.
+-- The open files after a step: those that stay, those that are added, and those that are removed.
 use Rattle.std.specs.Prelude.{◌≡◌, ◌≢◌, ℕ, Bool, true, false, IsFalse, Option, None, Some}
 use Rattle.pv_model.specs.declared.call.Call.{Call}
 use Rattle.pv_model.specs.declared.open_flags.OpenFlags.{OpenFlags}
@@ -12,31 +12,32 @@ use Rattle.pv_model.specs.Step.{step}
 use Rattle.pv_model.specs.Touch.{flags_of}
 use Rattle.pv_laws_access.specs.Growth.{IsInOrder, IsSameFile, IsNamedBy}
 
--- an open file after a step: it is as it was; or the call is by the process's own descriptor of it, and it stands elsewhere; or an open made it, under the least number that was free
+-- the origin of an open file after a step: it is unchanged; or the call names it by a descriptor of its process, and
+-- only its position changed; or an open created it under the least free number
 pub data CameOf (s : State) (pid k : ℕ) : OpenFile → Type 0 where
   as_it_was : (file : OpenFile) → at_number s.files k ≡ Some file → CameOf s pid k file
   moved : (old left : OpenFile) → at_number s.files k ≡ Some old → IsSameFile old left → IsNamedBy s pid k → CameOf s pid k left
   opened : (p : Process) (call : Call) (flags : OpenFlags) (left : OpenFile) → process_at s pid ≡ Some p → next p ≡ calls_for call → flags_of call ≡ Some flags → left.mode ≡ flags.mode
       → k ≡ least_free s.files → CameOf s pid k left
 
--- there are no other open files after a step
+-- every open file after a step has such an origin
 abbrev pub OpenFilesComeOf : Type 0
 OpenFilesComeOf =
     (program_of : Bytes → Option Program) (s : State) (pid k : ℕ) (left : OpenFile) → at_number (step program_of s pid).after.files k ≡ Some left → CameOf s pid k left
 
--- and those that are gone were no other process's
+-- no other process has a descriptor for an open file that a step removes
 abbrev pub OnlyOwnFilesGo : Type 0
 OnlyOwnFilesGo =
     (program_of : Bytes → Option Program) (s : State) (pid k : ℕ) (file : OpenFile) → IsInOrder s → at_number s.files k ≡ Some file → at_number (step program_of s pid).after.files k ≡ None
     → (other : ℕ) (p : Process) (d : ℕ) (x : Descriptor) → other ≢ pid → process_at s other ≡ Some p → at_number p.descriptors d ≡ Some x → x.file ≢ k
 
--- a step that ends its process
+-- whether a step ended its process
 abbrev pub is_end : Outcome → Bool
 is_end Exited = true
 is_end (Killed promise) = true
 is_end outcome = false
 
--- a step that does not end its process leaves each other live process wholly as it was, its parent too
+-- a step that does not end its process leaves each other live process unchanged, including its parent
 abbrev pub OthersKeepAll : Type 0
 OthersKeepAll =
     (program_of : Bytes → Option Program) (s : State) (pid other : ℕ) (p : Process) → IsInOrder s → other ≢ pid → process_at s other ≡ Some p

@@ -7,3 +7,16 @@ pub mod Means
 pub mod Ends
 pub mod EndExamples
 pub mod Frame
+pub mod Origins
+pub mod Sealing
+pub mod Lacking
+pub mod Tables
+pub mod Descent
+pub mod SandboxExamples
+pub mod TableRefusals
+pub mod Promises
+pub mod RefusalExamples
+pub mod Moves
+pub mod Order
+pub mod NameExamples
+pub mod OrderExamples

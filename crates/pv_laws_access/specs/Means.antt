@@ -1,4 +1,4 @@
--- What promises mean for what a process's own steps may change and gain: pledge(2).
+-- What the steps of a pledged process can change and gain: pledge(2).
 use Rattle.std.specs.Prelude.{◌≡◌, ℕ, IsTrue, [], ◌∷◌, Option, Some}
 use Rattle.pv_model.specs.declared.open_flags.Mode.{Mode}
 use Rattle.pv_model.specs.declared.promise.Promise.TheVariants.{Rpath, Wpath, Cpath}
@@ -8,22 +8,22 @@ use Rattle.pv_model.specs.State.{Program, Process, State, reads, writes, process
 use Rattle.pv_model.specs.Step.{step}
 use Rattle.pv_model.specs.Touch.{gain_descriptor, Touches}
 use Rattle.pv_model.specs.Tree.{find_entry}
-use Rattle.pv_laws_states.specs.States.{IsWhole}
+use Rattle.pv_laws_states.specs.States.{IsValid}
 
--- without cpath no entry changes
+-- without cpath, no entry changes
 abbrev pub WithoutCpath : Type 0
 WithoutCpath =
-    (program_of : Bytes → Option Program) (s : State) (pid : ℕ) (p : Process) (d : ℕ) (name : Bytes) → IsWhole s → process_at s pid ≡ Some p
+    (program_of : Bytes → Option Program) (s : State) (pid : ℕ) (p : Process) (d : ℕ) (name : Bytes) → IsValid s → process_at s pid ≡ Some p
     → IsTrue (is_pledged_without (Cpath ∷ []) p) → find_entry (step program_of s pid).after.tree d name ≡ find_entry s.tree d name
 
--- without wpath no descriptor for writing is gained
+-- without wpath, no descriptor for writing is gained
 abbrev pub WithoutWpath : Type 0
 WithoutWpath =
-    (program_of : Bytes → Option Program) (s : State) (pid : ℕ) (p : Process) (n : ℕ) (mode : Mode) → IsWhole s → process_at s pid ≡ Some p
+    (program_of : Bytes → Option Program) (s : State) (pid : ℕ) (p : Process) (n : ℕ) (mode : Mode) → IsValid s → process_at s pid ≡ Some p
     → IsTrue (is_pledged_without (Wpath ∷ []) p) → IsTrue (writes mode) → ¬ Touches program_of s pid (gain_descriptor n mode)
 
--- and without rpath none for reading
+-- without rpath, no descriptor for reading is gained
 abbrev pub WithoutRpath : Type 0
 WithoutRpath =
-    (program_of : Bytes → Option Program) (s : State) (pid : ℕ) (p : Process) (n : ℕ) (mode : Mode) → IsWhole s → process_at s pid ≡ Some p
+    (program_of : Bytes → Option Program) (s : State) (pid : ℕ) (p : Process) (n : ℕ) (mode : Mode) → IsValid s → process_at s pid ≡ Some p
     → IsTrue (is_pledged_without (Rpath ∷ []) p) → IsTrue (reads mode) → ¬ Touches program_of s pid (gain_descriptor n mode)

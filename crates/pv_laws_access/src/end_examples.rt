@@ -1,8 +1,8 @@
-//! A worked run with ends.
+//! A worked run in which processes end.
 
 ghost use Rattle.pv_laws_access.specs.EndExamples.{EndExamples};
 
-/// After the end of a child its status is kept for its parent, and after the end of the parent nothing is.
+/// After a child ends, its status is kept for its parent; after the parent ends too, neither record remains.
 pub fn ends_happen()
     ensures { EndExamples }
 {}

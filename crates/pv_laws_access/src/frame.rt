@@ -1,20 +1,20 @@
-//! Laws of the open files that a step leaves.
+//! Laws of the open files after a step.
 
 ghost use Rattle.pv_laws_access.specs.Frame.{OpenFilesComeOf, OnlyOwnFilesGo, OthersKeepAll};
 
-/// Each open file after a step is as it was before it; or is one that the call names by the process's own descriptor, on the
-/// same node in the same mode; or is new, by an open, under the least number that was free.
+/// Each open file after a step is unchanged, or the call names it by a descriptor of the process and it has the same
+/// node and mode, or an open created it under the least free number.
 pub fn open_files_come_of()
     ensures { OpenFilesComeOf }
 {}
 
-/// An open file that a step takes away is one of which no other live process has a descriptor.
+/// If a step removes an open file, no other live process has a descriptor for it.
 pub fn only_own_files_go()
     ensures { OnlyOwnFilesGo }
 {}
 
-/// Noninterference, of what steps leave: a step that does not end its process leaves each other live process wholly as it was,
-/// its parent too.
+/// Noninterference in the state: a step that does not end its process leaves each other live process unchanged,
+/// including its parent.
 pub fn others_keep_all()
     ensures { OthersKeepAll }
 {}

@@ -1,42 +1,46 @@
-//! Laws of restraints that do not loosen: privilege is monotone in one program image.
+//! Laws of privilege: within one program image it never grows.
 
 ghost use Rattle.pv_laws_access.specs.Growth.{WholeIsInOrder, GrowsNever, OthersKeepTheirs, OthersKeepTheirFiles, ChildHasTheSame, ExecveLeaves, RunsWithoutGrowth};
 
-/// Every state of a run has its process table in order, with the next process's number free in it.
+/// In each valid state, the process table is in ascending order and does not contain the next process number.
 pub fn whole_is_in_order()
     ensures { WholeIsInOrder }
 {}
 
-/// Monotonicity of privilege: in a step that begins no new program image and after which its process is live, the process loses
-/// no restraint: its promises and execpromises stay set and gain no keyword, its table stays in force, no entry goes or gains a
-/// permission, the lock stays, and under the lock the table stays as it is.
+/// Monotonicity of privilege: if a step starts no new program image and its process stays live, the process loses no
+/// restraint.
+///
+/// Its promises and execpromises stay set and gain no keyword. Its table stays in force, and no entry is removed or
+/// gains a permission. A lock stays, and a locked table does not change.
 pub fn grows_never()
     ensures { GrowsNever }
 {}
 
-/// Noninterference, of what steps leave: a step of another process leaves a live process live, and all of it as it was but its
-/// parent: its restraints and descriptors, its directory, its program, line, registers and buffer.
+/// Noninterference in the state: a step of another process leaves a live process live, and changes nothing of it but
+/// its parent.
 pub fn others_keep_theirs()
     ensures { OthersKeepTheirs }
 {}
 
-/// A step of another process leaves each descriptor of a live process on an open file on the same node, in the same mode; and
-/// all of that open file as it was, where it stands too, unless the call is by a descriptor of the same open file.
+/// A step of another process leaves each descriptor of a live process on an open file with the same node and mode.
+///
+/// The whole open file, including its offset, is unchanged unless the call uses a descriptor for the same open file.
 pub fn others_keep_their_files()
     ensures { OthersKeepTheirFiles }
 {}
 
-/// A child begins with the restraints and the descriptors that its parent has.
+/// A child starts with the restraints and the descriptors of its parent.
 pub fn child_has_the_same()
     ensures { ChildHasTheSame }
 {}
 
-/// After an execve the promises are the execpromises, which stay; with them the table and the lock stay, and without them both go.
+/// After an execve, the promises are the old execpromises, and the execpromises stay. The table and the lock stay if
+/// there are execpromises, and are removed otherwise.
 pub fn execve_leaves()
     ensures { ExecveLeaves }
 {}
 
-/// Along a run, whoever's steps are between its own, a process that stays live in one program image loses no restraint.
+/// Along a run with steps of any processes, a process that stays live in one program image loses no restraint.
 pub fn runs_without_growth()
     ensures { RunsWithoutGrowth }
 {}

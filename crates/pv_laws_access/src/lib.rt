@@ -1,26 +1,32 @@
-//! Laws of what sandboxed processes can reach, and of what a step leaves of other processes.
+//! Laws of access control: what a sandboxed process can reach, which files stay secret, and what each refusal means.
 //!
-//! Each function has an empty body: its contract is the law, which the check proves. The statements stand in `specs/`, one
-//! file for a subject:
+//! Each law is a function with an empty body whose contract is the statement, defined in `specs/`.
 //!
-//! - `growth`: in one program image restraints never loosen; what other processes, fork and execve do to them.
-//! - `justice`: what a step touches is justified by the promises held, and by a place that the table allows or a descriptor.
-//! - `means`: what lacking `cpath`, `wpath` or `rpath` means for what a step changes and gains.
-//! - `secrets`: no step reads a sealed file (confidentiality), and none changes a frozen one (integrity).
-//! - `reasons`: what closed and frozen mean, and why a process is not closed.
-//! - `frame`: other processes, and open files: which stay, which come, and which go.
-//! - `leaving`: the end of a process.
-//! - `examples`, `end_examples`: runs whose steps make a touch of each kind, and a run with ends.
-//!
-//! The lemmas stand in `proofs/`. `HasEffect` says once what each call may leave, call by call; the laws are read off it.
+//! - Rights: `growth`, `descent` (inheritance), `means` and `lacking` (missing promises), `moves` (rename and link).
+//! - Mediation: `justice` (each touch is justified), `tables` (decisions), `promises` and `table_refusals` (refusals).
+//! - Secrecy: `secrets` (one step), `sealing` (runs), `reasons` (audits).
+//! - Other effects: `origins`, `frame` (open files), `leaving` (exit and kill), `order` (getdents and listings).
+//! - `*examples`: worked runs in which the subjects of these laws occur.
 #![tactic(auto)]
 
+pub mod descent;
 pub mod end_examples;
 pub mod examples;
 pub mod frame;
 pub mod growth;
 pub mod justice;
+pub mod lacking;
 pub mod leaving;
 pub mod means;
+pub mod moves;
+pub mod name_examples;
+pub mod order;
+pub mod origins;
+pub mod promises;
 pub mod reasons;
+pub mod refusal_examples;
+pub mod sandbox_examples;
+pub mod sealing;
 pub mod secrets;
+pub mod table_refusals;
+pub mod tables;

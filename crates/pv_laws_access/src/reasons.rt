@@ -1,31 +1,33 @@
-//! Laws of what an audit finds: what it means, and why.
+//! Laws of the results of an audit.
 
 ghost use Rattle.pv_laws_access.specs.Reasons.{LeaksNothingWhereClosed, FrozenToIsTested, FirstLeakIsFirstReason, FirstLeakIsOfFirstProcess, VerdictsAreExact};
 
-/// A process leaks nothing of a file exactly where it is closed to it: condition by condition, as `IsClosed` says.
+/// The list of leaks of a process and a file is empty if and only if the process is closed to the file by the
+/// conditions of `IsClosed`.
 pub fn leaks_nothing_where_closed()
     ensures { LeaksNothingWhereClosed }
 {}
 
-/// A process is found unable to change a file exactly where `IsFrozenTo` says so.
+/// The test for a frozen file succeeds for a process if and only if `IsFrozenTo` holds.
 pub fn frozen_to_is_tested()
     ensures { FrozenToIsTested }
 {}
 
-/// The first leak that is found is a reason why the process is not closed, and no other reason comes before it, in the
-/// order: a descriptor, no table, no lock, an entry for a name, one above, exec; of descriptors and entries the least.
+/// The first leak is a reason why the process is not closed, and no reason comes before it in the order: a descriptor,
+/// no table, no lock, an entry for a name, an entry for a directory above, exec. Among descriptors and among entries,
+/// the least comes first.
 pub fn first_leak_is_first_reason()
     ensures { FirstLeakIsFirstReason }
 {}
 
-/// The leak that is found of a file is that of the first live process that is not closed to it, in the order of their numbers,
-/// and its first reason: each process before it leaks nothing.
+/// The leak that an audit reports for a file is the first reason of the live process with the least number that is not
+/// closed to the file.
 pub fn first_leak_is_of_first_process()
     ensures { FirstLeakIsOfFirstProcess }
 {}
 
-/// An audit tells sealed and frozen exactly where the file is so and has a name, and else the first process that is not
-/// closed, with its first reason.
+/// An audit reports `Sealed` or `Frozen` if and only if the file has that property and a name; otherwise it reports the
+/// first process that is not closed, with its first reason.
 pub fn verdicts_are_exact()
     ensures { VerdictsAreExact }
 {}

@@ -1,4 +1,4 @@
--- An entry that a table gets, and its setting.
+-- A new entry of a table, and its setting.
 use Rattle.std.proofs.Common.{◌≡◌, ◌≢◌, ℕ, zero, suc, ◌+◌, ◌<◌, ◌≤◌, Bool, true, false, cond, if◌then◌else◌, not, ◌==◌, nat_le, nat_lt, bytes_eq, List, [], ◌∷◌, ◌++◌, length, slice_get, slice_set, position, Option, None, Some, refl, ap, sym, ◌∙◌, arith, ⊎_elim}
 use Rattle.std.specs.List.{position_or_len}
 use Rattle.std.proofs.lemmas.Bool.{and_from, eq-eqb, lt-ltb, ltb-true, ltb-false, cases_lt}
@@ -16,7 +16,7 @@ use Rattle.pv_model.specs.Perms.{covers}
 use Rattle.pv_model.specs.Unveil.{Table, same_target, entry_for, permissions_at, with_permissions}
 use Rattle.pv_laws_states.proofs.Attempts.{Leads}
 
--- ---- the first that passes
+-- ---- the first element that passes a test
 
 module _ {X : Type 0} (test : X → Bool) where
   first-most : (xs : List X) → position_or_len test xs ≤ length xs
@@ -96,12 +96,12 @@ module _ {X : Type 0} where
   length-pushed [] y = refl
   length-pushed (x ∷ xs) y = ap suc (length-pushed xs y)
 
-  -- a list with another one at a number, which may be the next
+  -- a list with an element replaced, or appended
   pub record IsWith (xs : List X) (k : ℕ) (y : X) (ys : List X) : Type 0 where
     pub within : k ≤ length xs
     pub has : slice_get ys k ≡ Some y
     pub others : (j : ℕ) → j ≢ k → slice_get ys j ≡ slice_get xs j
-    pub kept : k < length xs → length ys ≡ length xs
+    pub preserved : k < length xs → length ys ≡ length xs
     pub longer : k ≡ length xs → length ys ≡ suc (length xs)
 
   set-with : (xs : List X) (k : ℕ) (y : X) → k < length xs → IsWith xs k y (slice_set xs k y)
@@ -109,7 +109,7 @@ module _ {X : Type 0} where
     within = omega (arith, few);
     has = get-set_same xs k y few;
     others = get-set_other xs k y;
-    kept = λ _. length-slice_set xs k y;
+    preserved = λ _. length-slice_set xs k y;
     longer = λ last. absurd (omega (arith, few, last));
   }
 
@@ -118,7 +118,7 @@ module _ {X : Type 0} where
     within = omega arith;
     has = get-pushed_last xs y;
     others = get-pushed_other xs y;
-    kept = λ few. absurd (omega (arith, few));
+    preserved = λ few. absurd (omega (arith, few));
     longer = λ _. length-pushed xs y;
   }
 
@@ -128,7 +128,7 @@ pub same-target : (target : Target) → same_target target target ≡ true
 same-target (Directory d) = eq-eqb d d refl
 same-target (Name d name) = and_from (d == d) (bytes_eq name name) (eq-eqb d d refl) ((bytes_eq-Decides name name).1 refl)
 
--- a table that has got an entry
+-- a table with an entry replaced or appended
 pub record IsAdded (old : Table) (target : Target) (permissions : Perms) (new : Table) : Type 0 where
   pub number : ℕ
   pub found : entry_for new target ≡ Some number
@@ -170,7 +170,7 @@ set_at-with mine k setting within = record {
   within = within;
   has = has mine k within;
   others = λ j other. others mine k j within other;
-  kept = λ few. kept mine k few;
+  preserved = λ few. preserved mine k few;
   longer = λ last. longer mine k last;
 }
   where
@@ -189,10 +189,10 @@ set_at-with mine k setting within = record {
     others (now ∷ rest) (suc k) zero within other = refl
     others (now ∷ rest) (suc k) (suc j) within other = others rest k j (omega arith) (λ same. other (ap suc same))
 
-    kept : (mine : List Setting) (k : ℕ) → k < length mine → length (set_at mine k setting) ≡ length mine
-    kept [] k few = absurd (omega arith)
-    kept (now ∷ rest) zero few = refl
-    kept (now ∷ rest) (suc k) few = ap suc (kept rest k (omega arith))
+    preserved : (mine : List Setting) (k : ℕ) → k < length mine → length (set_at mine k setting) ≡ length mine
+    preserved [] k few = absurd (omega arith)
+    preserved (now ∷ rest) zero few = refl
+    preserved (now ∷ rest) (suc k) few = ap suc (preserved rest k (omega arith))
 
     longer : (mine : List Setting) (k : ℕ) → k ≡ length mine → length (set_at mine k setting) ≡ suc (length mine)
     longer [] zero last = refl
@@ -200,11 +200,11 @@ set_at-with mine k setting within = record {
     longer (now ∷ rest) zero last = absurd (omega arith)
     longer (now ∷ rest) (suc k) last = ap suc (longer rest k (omega arith))
 
--- two lists as long as each other stay so
+-- two lists of equal length stay so
 pub with-length : {X Y : Type 0} (xs : List X) (k : ℕ) (x : X) (ys : List X) (us : List Y) (u : Y) (vs : List Y) → IsWith xs k x ys → IsWith us k u vs → length xs ≡ length us → length ys ≡ length vs
 with-length xs k x ys us u vs a b same =
     ⊎_elim
-    (λ few. a.kept few ∙ same ∙ sym (b.kept (omega (arith, few, same))))
+    (λ few. a.preserved few ∙ same ∙ sym (b.preserved (omega (arith, few, same))))
     (λ many.
     let last : k ≡ length xs = (let most = a.within in omega (arith, most, many)) in
     a.longer last ∙ ap suc same ∙ sym (b.longer (last ∙ same)))

@@ -1,4 +1,4 @@
--- Calls that ask for letters at the ends of their walks.
+-- Calls that need permissions at the ends of their walks.
 use Rattle.std.proofs.Common.{◌≡◌, ◌↔◌, ◌⊎◌, inl, inr, ℕ, Bool, true, false, if◌then◌else◌, ◌||◌, nat_le, List, [], ◌∷◌, Option, None, Some, Ok, refl, ap, sym, subst, ◌∙◌, arith, ⊎_elim}
 use Rattle.std.specs.Prelude.{option_and_then}
 use Rattle.pv_model.specs.declared.call.Call.{Call}
@@ -37,18 +37,18 @@ use Rattle.pv_laws_states.specs.Courses.{is_of_table, is_unveil, along, IsAfter,
 use Rattle.pv_laws_states.proofs.Going.{begins-found, calls-along}
 use Rattle.pv_laws_states.proofs.Outcomes.{at_call}
 use Rattle.pv_laws_states.proofs.Rests
-use Rattle.pv_laws_sandbox.specs.Promises.{IsFirstMissing, IsRefusedByPromise, missing, increase}
-use Rattle.pv_laws_sandbox.proofs.Decided.{NotByTable, Ends, walks_in, answer-decides}
-use Rattle.pv_laws_sandbox.proofs.Firsts.{first-missing-named}
-use Rattle.pv_laws_sandbox.proofs.Pledged.{promise-refuses, promise-kills}
-use Rattle.pv_laws_sandbox.proofs.Spared.{is_pledge}
+use Rattle.pv_laws_access.specs.Promises.{IsFirstMissing, IsRefusedByPromise, missing, increase}
+use Rattle.pv_laws_access.proofs.Decided.{NotByTable, Ends, walks_in, answer-decides}
+use Rattle.pv_laws_access.proofs.Firsts.{first-missing-named}
+use Rattle.pv_laws_access.proofs.Pledged.{promise-refuses, promise-kills}
+use Rattle.pv_laws_access.proofs.Spared.{is_pledge}
 use Rattle.pv_laws_answers.specs.Reach.{is_by_sandbox, needs_with, is_some_letter, AsksAt, HasRoomToOpen, LeadsThere, opening}
 use Rattle.pv_laws_answers.proofs.Letters.{covers-r, covers-w, covers-x, covers-c, holds-needs, needs-holds, allows-all, all-allows, reached-parts, parts-reached}
 use Rattle.pv_laws_answers.proofs.LastLinks.{keeps-last}
 
 -- ---- outcomes
 
--- an outcome that neither a promise nor a table decided
+-- neither a promise nor a table decided the outcome
 spared-outcome : (o : Outcome) → ((a : Promise) → ¬ (o ≡ Killed a)) → ((errno : Errno) (a : Promise) → ¬ (o ≡ Failed errno (ByPromise a))) → NotByTable o → is_by_sandbox o ≡ false
 spared-outcome (Killed a) kill promise table = absurd (kill a refl)
 spared-outcome (Failed errno (ByPromise a)) kill promise table = absurd (promise errno a refl)
@@ -61,12 +61,12 @@ spared-outcome Exited kill promise table = refl
 spared-outcome Blocked kill promise table = refl
 spared-outcome Gone kill promise table = refl
 
--- a pledge walks nowhere
+-- a pledge makes no walk
 pledges-nowhere : (call : Call) (w : Walk) (ws : List Walk) → is_pledge call ≡ true → walks_of call ≡ w ∷ ws → ⊥
 pledges-nowhere (TheCall.Pledge promises execpromises) w ws is only = cc only
 pledges-nowhere call w ws is only = cc is
 
--- and an unveil needs a promise that goes with no letter
+-- an unveil needs a promise that corresponds to no permission
 unveils-need : (call : Call) (asked : Perms) → needs call ≡ needs_with asked → is_unveil call ≡ false
 unfolding needs
 unveils-need (TheCall.Unveil path permissions) asked same = absurd (by asked.r asked.w asked.x asked.c same)
@@ -82,7 +82,7 @@ unveils-need call asked same = refl
 -- ---- answers
 
 module _ (program_of : Bytes → Option Program) (s : State) (pid : ℕ) (p : Process) (call : Call) (at : process_at s pid ≡ Some p) where
-  -- with its promises held a call is its effect
+  -- the answer of a call whose promises are held is that of its effect
   pub met-answer : missing_promise p.promises (needs call) ≡ None
       → answer program_of s pid call ≡ answer_by_attempt s (at_call s pid p) pid (at_next_line p) (effect program_of (at_call s pid p) pid (at_next_line p) call)
   unfolding answer
@@ -97,7 +97,7 @@ module _ (program_of : Bytes → Option Program) (s : State) (pid : ℕ) (p : Pr
           ap is_by_sandbox ((promise-refuses program_of s pid p call at ENOSYS a).1 (missing lenient ((first-missing-named p.promises call a).0 lacks)))
       by false strict = ap is_by_sandbox ((promise-kills program_of s pid p call at a).1 (strict, (first-missing-named p.promises call a).0 lacks))
 
-  -- and else, of what is no pledge, none
+  -- otherwise no promise decides, unless the call is a pledge
   pub met-spares : missing_promise p.promises (needs call) ≡ None → is_pledge call ≡ false → NotByTable (answer program_of s pid call).outcome → is_by_sandbox (answer program_of s pid call).outcome ≡ false
   met-spares met plain table =
       spared-outcome (answer program_of s pid call).outcome
@@ -161,9 +161,9 @@ module _ (program_of : Bytes → Option Program) (s : State) (pid : ℕ) (p : Pr
           let how = (answer-decides program_of s pid p call at asks.walk place asks.end last).0 (unveils-need call asked asks.goes_with) in
           judged met (judgement s.tree p.table place asked) refl (subst (λ needed. Ends (judgement s.tree p.table place needed) a.outcome) asks.asks how)
 
--- ---- how a call goes along its walks
+-- ---- calls and their walks
 
--- a walk that ends at a place is begun, and is judged
+-- a walk that ends at a place is begun and is judged
 pub along-one : (s : State) (me : Process) (w : Walk) (ws : List Walk) (place : Place) → end_of s me w ≡ Ok place
     → along s me (w ∷ ws) ≡ after_walks 1 (judgement_or_refusal (judgement s.tree me.table place w.needed) >> along s me ws)
 along-one s me w ws place end =
@@ -185,12 +185,12 @@ one-begun Allowed (refused walks errno cause) goes = goes.0
 one-begun Hidden a goes = ap walks_in goes
 one-begun (Denied k) a goes = ap walks_in goes
 
-pub walks-told : (before s : State) (pid : ℕ) (me : Process) (a : Attempt Effect) → (answer_by_attempt before s pid me a).walks ≡ walks_in a
-walks-told before s pid me (done walks (after, returns n)) = refl
-walks-told before s pid me (done walks (after, returns_bytes n bytes)) = refl
-walks-told before s pid me (done walks (after, ends status)) = refl
-walks-told before s pid me (done walks (after, waits)) = refl
-walks-told before s pid me (refused walks errno cause) = refl
+pub walks-reported : (before s : State) (pid : ℕ) (me : Process) (a : Attempt Effect) → (answer_by_attempt before s pid me a).walks ≡ walks_in a
+walks-reported before s pid me (done walks (after, returns n)) = refl
+walks-reported before s pid me (done walks (after, returns_bytes n bytes)) = refl
+walks-reported before s pid me (done walks (after, ends status)) = refl
+walks-reported before s pid me (done walks (after, waits)) = refl
+walks-reported before s pid me (refused walks errno cause) = refl
 
 module _ (program_of : Bytes → Option Program) (s : State) (pid : ℕ) (p : Process) (at : process_at s pid ≡ Some p) where
   abbrev x : State
@@ -199,11 +199,11 @@ module _ (program_of : Bytes → Option Program) (s : State) (pid : ℕ) (p : Pr
   abbrev now : Process
   now = at_next_line p
 
-  -- a call with one walk makes it, where it is not stopped before it
+  -- a call with one walk makes it, unless it is stopped before
   makes-one : (call : Call) (w : Walk) (place : Place) → is_unveil call ≡ false → walks_of call ≡ w ∷ [] → end_of s p w ≡ Ok place → (IsStopped (effect program_of x pid now call) → ⊥)
       → missing_promise p.promises (needs call) ≡ None → (answer program_of s pid call).walks ≡ 1
   makes-one call w place plain only end goes met =
-      ap (λ (r : Answered). r.walks) (met-answer program_of s pid p call at met) ∙ walks-told s x pid now (effect program_of x pid now call)
+      ap (λ (r : Answered). r.walks) (met-answer program_of s pid p call at met) ∙ walks-reported s x pid now (effect program_of x pid now call)
       ∙ ⊎_elim (λ stopped. absurd (goes stopped))
       (λ along'. one-begun (judgement s.tree p.table place w.needed) (effect program_of x pid now call)
       (subst (λ c. GoesAlong c (effect program_of x pid now call)) (ap (along x now) only ∙ along-one x now w [] place end) along'))
@@ -246,9 +246,9 @@ module _ (program_of : Bytes → Option Program) (s : State) (pid : ℕ) (p : Pr
 
   -- ---- what single calls show
 
-  shown : (call : Call) (place : Place) (letter : Perms) (stands : Bool) → AsksAt program_of s pid p call place letter → is_some_letter letter ≡ true
-      → covers (reached_permissions s p place) letter ≡ stands → (is_by_sandbox (answer program_of s pid call).outcome ≡ false) ↔ (stands ≡ true)
-  shown call place letter stands asks some same =
+  shown : (call : Call) (place : Place) (letter : Perms) (appears : Bool) → AsksAt program_of s pid p call place letter → is_some_letter letter ≡ true
+      → covers (reached_permissions s p place) letter ≡ appears → (is_by_sandbox (answer program_of s pid call).outcome ≡ false) ↔ (appears ≡ true)
+  shown call place letter appears asks some same =
       let exact = reach-exact program_of s pid p call place letter at asks some in (λ spared. sym same ∙ exact.0 spared, λ is. exact.1 (same ∙ is))
 
   pub open-r : (path : Bytes) (place : Place) → HasRoomToOpen s p → LeadsThere s p path place
@@ -305,7 +305,7 @@ module _ (program_of : Bytes → Option Program) (s : State) (pid : ℕ) (p : Pr
   abbrev two_judged : Judgement → Judgement → Attempt (Unit {0})
   two_judged i j = after_walks 1 (judgement_or_refusal i >> after_walks 1 (judgement_or_refusal j >> give (tt {0})))
 
-  -- both are allowed, or the table refuses
+  -- both places are allowed, or the table refuses
   both-allow : (i j : Judgement) (e : Attempt Effect) → GoesAlong (two_judged i j) e
       → ((is_allowed i ≡ true) × (is_allowed j ≡ true) × NotByTable (answer_by_attempt s x pid now e).outcome)
       ⊎ (((is_allowed i ≡ false) ⊎ (is_allowed j ≡ false)) × (is_by_sandbox (answer_by_attempt s x pid now e).outcome ≡ true))
@@ -322,11 +322,11 @@ module _ (program_of : Bytes → Option Program) (s : State) (pid : ℕ) (p : Pr
     abbrev c_at : Place → Bool
     c_at place = is_allowed (judgement s.tree p.table place permission_c)
 
-    -- c at a place, by its parts
+    -- c at a place: the promise and the table
     c-parts : (place : Place) → (reached_permissions s p place).c ≡ true → (missing_promise p.promises (needs renaming) ≡ None) × (c_at place ≡ true)
     unfolding needs
-    c-parts place stands =
-        let parts = reached-parts s p place permission_c (covers-c (reached_permissions s p place) ∙ stands) in (holds-needs p.promises permission_c parts.0, parts.1.c refl)
+    c-parts place appears =
+        let parts = reached-parts s p place permission_c (covers-c (reached_permissions s p place) ∙ appears) in (holds-needs p.promises permission_c parts.0, parts.1.c refl)
 
     parts-c : (place : Place) → missing_promise p.promises (needs renaming) ≡ None → c_at place ≡ true → (reached_permissions s p place).c ≡ true
     unfolding needs
@@ -355,14 +355,14 @@ module _ (program_of : Bytes → Option Program) (s : State) (pid : ℕ) (p : Pr
           λ both. let bad : Some b ≡ None = sym lacks ∙ (c-parts from both.0).0 in cc bad,
         )
         by None met =
-            let told = met-answer program_of s pid p renaming at met in
+            let reported = met-answer program_of s pid p renaming at met in
             ⊎_elim
             (λ allow. (
               λ spared. (parts-c from met allow.0, parts-c into met allow.1),
-              λ both. met-spares program_of s pid p renaming at met refl (subst (λ (r : Answered). NotByTable r.outcome) (sym told) allow.2),
+              λ both. met-spares program_of s pid p renaming at met refl (subst (λ (r : Answered). NotByTable r.outcome) (sym reported) allow.2),
             ))
             (λ refuse. (
-              λ spared. let bad : false ≡ true = sym spared ∙ ap (λ (r : Answered). is_by_sandbox r.outcome) told ∙ refuse.1 in cc bad,
+              λ spared. let bad : false ≡ true = sym spared ∙ ap (λ (r : Answered). is_by_sandbox r.outcome) reported ∙ refuse.1 in cc bad,
               λ both. absurd (⊎_elim
                   (λ no. let bad : true ≡ false = sym (c-parts from both.0).1 ∙ no in cc bad)
                   (λ no. let bad : true ≡ false = sym (c-parts into both.1).1 ∙ no in cc bad) refuse.0),

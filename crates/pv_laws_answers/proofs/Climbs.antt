@@ -17,15 +17,15 @@ use Rattle.pv_laws_trees.proofs.Above.{entry-reached, IsBelow, at_root, one_belo
 use Rattle.pv_laws_trees.proofs.Changes.{has_entry-directory}
 use Rattle.pv_laws_trees.proofs.Trees.{ordered, sound, parent-entry}
 use Rattle.pv_laws_trees.specs.Tree.{IsSound}
-use Rattle.pv_laws_sandbox.specs.Tables.{GovernsPlace, unnamed, absent, directory, named}
-use Rattle.pv_laws_answers.specs.Levels.{LeadTo, directory_steps, name_steps, place_steps, above_target, GoUp, found, at_top, goes_on}
+use Rattle.pv_laws_access.specs.Tables.{GovernsPlace, unnamed, absent, directory, named}
+use Rattle.pv_laws_answers.specs.Levels.{LeadTo, directory_steps, name_steps, place_steps, above_target, GoUp, found, at_top, continues}
 
 -- one level more
 lead-on : (answer : Option ℕ) (l : Level) (ls : List Level) → l.entry ≡ None → LeadTo answer ls → LeadTo answer (l ∷ ls)
 lead-on answer l [] none lead = absurd lead
 lead-on answer l (next ∷ ls) none lead = (none, lead)
 
--- what is above a directory, one by one
+-- the ancestors of a directory, one by one
 above-root : (t : Tree) (d : ℕ) → (d == root) ≡ true → above_or_none t d ≡ []
 above-root t d top = ap (λ b. if b then [] else option_to_list (parent t d)) top
 
@@ -106,7 +106,7 @@ module _ (t : Tree) (table : Table) where
           (subst (LeadTo (directory_rights t table d)) (sym (higher-levels (Name d name) (directory_levels t table d) none))
           (lead-on (directory_rights t table d) (level t table (Name d name)) (directory_levels t table d) none (directory-lead d)))
 
-  -- ---- they are the steps of a derivation
+  -- ---- the levels are the steps of a derivation
 
   directory-derived : (steps d k : ℕ) (governs : Governs t table d k) → climb t table steps d ≡ Some k → levels_within t table steps d ≡ directory_steps t table d k governs
   directory-derived zero d k governs is = cc is
@@ -125,7 +125,7 @@ module _ (t : Tree) (table : Table) where
   name-derived d name _ (by_directory k none governs) =
       higher-levels (Name d name) (directory_levels t table d) none ∙ ap (λ ls. level t table (Name d name) ∷ ls) (rights-derived d k governs)
 
-  -- ---- they go up
+  -- ---- the levels go up
 
   module _ (s : IsSound t) where
     up-target : (d : ℕ) (o : Option ℕ) → (d == root) ≡ false → parent t d ≡ o → above_target t table (Directory d) ≡ o
@@ -148,7 +148,7 @@ module _ (t : Tree) (table : Table) where
         by None none higher =
             subst (GoUp t table (Directory d))
             (sym (levels-step steps d (Some above) none (ne_eqb d root other) up ∙ ap (λ ls. level t table (Directory d) ∷ ls) (append-nil (levels_within t table steps above))))
-            (goes_on (Directory d) above (levels_within t table steps above) none (up-target d (Some above) (ne_eqb d root other) up) higher)
+            (continues (Directory d) above (levels_within t table steps above) none (up-target d (Some above) (ne_eqb d root other) up) higher)
 
     directory-up : (d : ℕ) → GoUp t table (Directory d) (directory_levels t table d)
     directory-up d = by_own (entry_for table (Directory d)) refl
@@ -178,9 +178,9 @@ module _ (t : Tree) (table : Table) where
         by (Some j) is = subst (GoUp t table (Name d name)) (sym (own-level (Name d name) j (directory_levels t table d) is)) (found (Name d name) j is)
         by None none =
             subst (GoUp t table (Name d name)) (sym (higher-levels (Name d name) (directory_levels t table d) none))
-            (goes_on (Name d name) d (directory_levels t table d) none refl (directory-up d))
+            (continues (Name d name) d (directory_levels t table d) none refl (directory-up d))
 
--- ---- of places
+-- ---- the levels of places
 
 pub levels-lead : (t : Tree) (table : Table) (place : Place) → LeadTo (governing_entry t table place) (levels t table place)
 unfolding governing_entry levels

@@ -1,4 +1,5 @@
--- What governs a place before and after a step: the same, or an entry changed there or above.
+-- The entry that governs a place before and after a step: the same, unless an entry of a directory changed there or
+-- above.
 use Rattle.std.proofs.Common.{◌≡◌, ◌≢◌, ◌⊎◌, inl, inr, ⊎_elim, ℕ, suc, ◌<◌, Bool, true, false, if◌then◌else◌, ◌&&◌, ◌==◌, List, [], ◌++◌, length, slice_get, Option, None, Some, is_some, refl, ap, sym, subst, ◌∙◌}
 use Rattle.std.specs.Prelude.{option_and_then}
 use Rattle.std.specs.Option.{option_or}
@@ -17,7 +18,7 @@ use Rattle.pv_model.specs.Bytes.{Bytes}
 use Rattle.pv_model.specs.Calls.Descriptors.{with_content_of, with_content}
 use Rattle.pv_model.specs.Calls.Processes.{end_process}
 use Rattle.pv_model.specs.Effect.{Reply, name_of}
-use Rattle.pv_model.specs.Held.{trim}
+use Rattle.pv_model.specs.Held.{collect}
 use Rattle.pv_model.specs.Needs.{needs, needs_cpath}
 use Rattle.pv_model.specs.Perms.{covers, permission_r, permission_w, permission_x, permission_c}
 use Rattle.pv_model.specs.Program.{next}
@@ -34,7 +35,7 @@ use Rattle.pv_laws_trees.proofs.Changes.{directory-below, node_at-same, node_at-
 use Rattle.pv_laws_trees.proofs.Edits.{new_number-free}
 use Rattle.pv_laws_trees.proofs.Numbered.{at_number-below}
 use Rattle.pv_laws_trees.proofs.Trees.{ordered, sound, parent-entry, parent-none_named, entry-parent}
-use Rattle.pv_laws_states.specs.States.{is_call, SpellsPrograms, IsTree, IsFinePlace, IsWhole}
+use Rattle.pv_laws_states.specs.States.{is_call, EncodesPrograms, IsTree, IsFinePlace, IsValid}
 use Rattle.pv_laws_states.proofs.BySteps.{step-keeps_whole}
 use Rattle.pv_laws_states.proofs.ByTree.{named-place}
 use Rattle.pv_laws_states.proofs.Ending.{tree-end}
@@ -50,7 +51,7 @@ use Rattle.pv_laws_access.proofs.Images.{grows-never}
 use Rattle.pv_laws_access.proofs.JustFiles.{entries-edited}
 use Rattle.pv_laws_access.proofs.Promised.{equal-or_not}
 use Rattle.pv_laws_access.proofs.Touched.{touched}
-use Rattle.pv_laws_secrecy.proofs.Invariant.{trim-there}
+use Rattle.pv_laws_access.proofs.Invariant.{collect-there}
 use Rattle.pv_laws_answers.specs.OverTime.{place_in, letters_at, IsOwnStep, LettersOnlyGo, IsThereOrAbove, there as at_name, above_before, above_after, GivesNoC}
 use Rattle.pv_laws_answers.proofs.Letters.{gives-covers, covers-c, missing-first, need-has}
 use Rattle.pv_laws_answers.proofs.Wants.{permitted}
@@ -101,7 +102,7 @@ module _ (t : Tree) (table : Table) where
 
 -- ---- two trees
 
--- an entry differs that is for a directory at or above another one, in one of two trees
+-- an entry for a directory at or above another one differs between two trees
 record DiffersAbove (t u : Tree) (d : ℕ) : Type 0 where
   directory : ℕ
   entry : ℕ
@@ -120,22 +121,22 @@ module _ (t u : Tree) (s : IsSound t) (w : IsSound u) (table : Table) where
   differs-up : (d above : ℕ) → d ≢ root → parent t d ≡ Some above → DiffersAbove t u above → DiffersAbove t u d
   differs-up d above other up is = record { directory = is.directory; entry = is.entry; word = is.word; over = is_above d above other up is.over; differs = is.differs; names = is.names }
 
-  -- a directory whose entry in one tree is not in the other
+  -- an entry for a directory exists in one tree but not in the other
   gone-from : (d entry : ℕ) (word : Bytes) → find_entry t entry word ≡ Some d → find_entry u entry word ≢ Some d → DiffersAbove t u d
   gone-from d entry word found lost = differs-at d entry word (λ same. lost (same ∙ found)) (inl found)
 
   come-to : (d entry : ℕ) (word : Bytes) → find_entry u entry word ≡ Some d → find_entry t entry word ≢ Some d → DiffersAbove t u d
   come-to d entry word found new = differs-at d entry word (λ same. new (sym same ∙ found)) (inr found)
 
-  -- a directory that stands has the same one above it, or an entry for it differs
+  -- a directory that is not removed has the same parent, or an entry for it differs
   parents : (d above : ℕ) → is_directory_at t d ≡ true → d ≢ root → parent t d ≡ Some above → (parent u d ≡ Some above) ⊎ DiffersAbove t u d
   parents d above dir other up =
       let entry = parent-entry t (ordered t s.each_node) d above other up in
-      ⊎_elim (λ kept. by entry.0 entry.1 kept (parent u d) refl) (λ lost. inr (gone-from d above entry.0 entry.1 lost)) (equal-or_not (find_entry u above entry.0) (Some d))
+      ⊎_elim (λ preserved. by entry.0 entry.1 preserved (parent u d) refl) (λ lost. inr (gone-from d above entry.0 entry.1 lost)) (equal-or_not (find_entry u above entry.0) (Some d))
     where
       by : (word : Bytes) → find_entry t above word ≡ Some d → find_entry u above word ≡ Some d → (o : Option ℕ) → parent u d ≡ o → (parent u d ≡ Some above) ⊎ DiffersAbove t u d
-      by word found kept None none = absurd ((parent-none_named u d none).1 above word kept)
-      by word found kept (Some e) is =
+      by word found preserved None none = absurd ((parent-none_named u d none).1 above word preserved)
+      by word found preserved (Some e) is =
           let new = parent-entry u (ordered u w.each_node) d e other is in
           ⊎_elim
           (λ was. let one = s.directories_once d dir above word e new.0 found was in inl (is ∙ ap Some (sym one.0)))
@@ -146,8 +147,8 @@ module _ (t u : Tree) (s : IsSound t) (w : IsSound u) (table : Table) where
   same-below _ _ at_root dir = inl (rights-step u table root ∙ sym (rights-step t table root))
   same-below _ _ (one_below d above k other up below) dir =
       ⊎_elim
-      (λ kept. ⊎_elim
-      (λ same. inl (rights-up u table d above other kept ∙ ap (option_or (entry_for table (Directory d))) same ∙ sym (rights-up t table d above other up)))
+      (λ preserved. ⊎_elim
+      (λ same. inl (rights-up u table d above other preserved ∙ ap (option_or (entry_for table (Directory d))) same ∙ sym (rights-up t table d above other up)))
       (λ differs. inr (differs-up d above other up differs))
       (same-below above k below (let entry = parent-entry t (ordered t s.each_node) d above other up in has_entry-directory t above entry.0 d entry.1)))
       (λ differs. inr differs)
@@ -193,21 +194,21 @@ module _ (t u : Tree) (s : IsSound t) (w : IsSound u) (table : Table) where
       named : Same d → option_or (entry_for table (Name d name)) (directory_rights u table d) ≡ option_or (entry_for table (Name d name)) (directory_rights t table d)
       named rights = ap (option_or (entry_for table (Name d name))) rights
 
-      -- a directory's own
+      -- the entry of the directory itself
       own-same : (n : ℕ) → find_entry t d name ≡ Some n → find_entry u d name ≡ Some n → is_directory_at t n ≡ true → Same d → directory_rights u table n ≡ directory_rights t table n
-      own-same n found kept is rights =
+      own-same n found preserved is rights =
           let other : n ≢ root = s.root_is_unnamed d name n found in
-          rights-up u table n d other (entry-parent u w n d name (kinds n found kept ∙ is) kept) ∙ ap (option_or (entry_for table (Directory n))) rights
+          rights-up u table n d other (entry-parent u w n d name (kinds n found preserved ∙ is) preserved) ∙ ap (option_or (entry_for table (Directory n))) rights
           ∙ sym (rights-up t table n d other (entry-parent t s n d name is found))
 
       by_kind : (n : ℕ) → find_entry t d name ≡ Some n → find_entry u d name ≡ Some n → Same d → (b : Bool) → is_directory_at t n ≡ b
           → governing_entry u table (At d name (Some n)) ≡ governing_entry t table (At d name (Some n))
-      by_kind n found kept rights true is =
-          ap (λ b. if b then directory_rights u table n else option_or (entry_for table (Name d name)) (directory_rights u table d)) (kinds n found kept ∙ is)
-          ∙ own-same n found kept is rights
+      by_kind n found preserved rights true is =
+          ap (λ b. if b then directory_rights u table n else option_or (entry_for table (Name d name)) (directory_rights u table d)) (kinds n found preserved ∙ is)
+          ∙ own-same n found preserved is rights
           ∙ sym (ap (λ b. if b then directory_rights t table n else option_or (entry_for table (Name d name)) (directory_rights t table d)) is)
-      by_kind n found kept rights false is =
-          ap (λ b. if b then directory_rights u table n else option_or (entry_for table (Name d name)) (directory_rights u table d)) (kinds n found kept ∙ is)
+      by_kind n found preserved rights false is =
+          ap (λ b. if b then directory_rights u table n else option_or (entry_for table (Name d name)) (directory_rights u table d)) (kinds n found preserved ∙ is)
           ∙ named rights
           ∙ sym (ap (λ b. if b then directory_rights t table n else option_or (entry_for table (Name d name)) (directory_rights t table d)) is)
 
@@ -218,7 +219,7 @@ module _ (t u : Tree) (s : IsSound t) (w : IsSound u) (table : Table) where
       of (Some n) found same rights =
           ap (λ o. governing_entry u table (At d name o)) (same ∙ found) ∙ by_kind n found (same ∙ found) rights (is_directory_at t n) refl ∙ sym (ap (λ o. governing_entry t table (At d name o)) found)
 
--- ---- nodes stay what they are
+-- ---- nodes keep their kinds
 
 kind-content : (t : Tree) (f : ℕ) (bytes : Bytes) (n : ℕ) → is_directory_at (with_content t f bytes) n ≡ is_directory_at t n
 kind-content t f bytes n = by (node_at t f) refl
@@ -243,14 +244,14 @@ module _ (t : Tree) (n : ℕ) (old : is_some (node_at t n) ≡ true) where
   kind-new p node dir below =
       let apart : n ≢ new_number t = λ same. let bad : true ≡ false = sym old ∙ ap (λ k. is_some (node_at t k)) same ∙ ap is_some (new_number-free t) in cc bad in
       let beside : p.0 ≢ new_number t = λ same. let bad : true ≡ false = sym dir ∙ ap (is_directory_at t) same ∙ ap is_directory (new_number-free t) in cc bad in
-      let kept : node_at (with_node t (new_number t) node) n ≡ node_at t n = node_at-other t (new_number t) node n below apart in
+      let preserved : node_at (with_node t (new_number t) node) n ≡ node_at t n = node_at-other t (new_number t) node n below apart in
       let holds_it : is_directory_at (with_node t (new_number t) node) p.0 ≡ true = ap is_directory (node_at-other t (new_number t) node p.0 below beside) ∙ dir in
-      (carries-entries (with_node t (new_number t) node) p.0 _ holds_it).directory n (ap is_some kept ∙ old) ∙ ap is_directory kept
+      (carries-entries (with_node t (new_number t) node) p.0 _ holds_it).directory n (ap is_some preserved ∙ old) ∙ ap is_directory preserved
 
   kind-entries : (p : ℕ × Bytes) (es : List (Bytes × ℕ)) → is_directory_at t p.0 ≡ true → is_directory_at (with_node t p.0 (directory_node es)) n ≡ is_directory_at t n
   kind-entries p es dir = (carries-entries t p.0 es dir).directory n old
 
-module _ (s : State) (pid : ℕ) (me : Process) (call : Call) (whole : IsWhole s) (at : process_at s pid ≡ Some me) (is_good : is_call call ≡ true) (n : ℕ) (old : is_some (node_at s.tree n) ≡ true) where
+module _ (s : State) (pid : ℕ) (me : Process) (call : Call) (whole : IsValid s) (at : process_at s pid ≡ Some me) (is_good : is_call call ≡ true) (n : ℕ) (old : is_some (node_at s.tree n) ≡ true) where
   directory-of : (place : Place) (p : ℕ × Bytes) → HasEffect.MayChange s pid me call place p → is_directory_at s.tree p.0 ≡ true
   directory-of place p change = (named-place s.tree place p (change.fine whole at is_good) change.name).directory
 
@@ -293,9 +294,9 @@ same-or_not false false = inl refl
 same-or_not true false = inr (λ is. cc is)
 same-or_not false true = inr (λ is. cc is)
 
-kept-kind : (program_of : Bytes → Option Program) (s : State) (pid : ℕ) → IsWhole s → (n : ℕ) → is_some (node_at s.tree n) ≡ true → is_some (node_at (step program_of s pid).after.tree n) ≡ true
+preserved-kind : (program_of : Bytes → Option Program) (s : State) (pid : ℕ) → IsValid s → (n : ℕ) → is_some (node_at s.tree n) ≡ true → is_some (node_at (step program_of s pid).after.tree n) ≡ true
     → is_directory_at (step program_of s pid).after.tree n ≡ is_directory_at s.tree n
-kept-kind program_of s pid whole n old left =
+preserved-kind program_of s pid whole n old left =
     ⊎_elim (λ same. same) (λ differs. absurd (by differs)) (same-or_not (is_directory_at (step program_of s pid).after.tree n) (is_directory_at s.tree n))
   where
     by : is_directory_at (step program_of s pid).after.tree n ≢ is_directory_at s.tree n → ⊥
@@ -304,20 +305,20 @@ kept-kind program_of s pid whole n old left =
         (λ both. both.1 refl)
         (λ p q at same both. both.1 refl)
         (λ y me status tree ascending others both.
-        both.1 (ap is_directory (trim-there (end_process y pid me status) n both.0) ∙ ap (λ (u : Tree). is_directory_at u n) (tree-end y pid me status ∙ tree)))
+        both.1 (ap is_directory (collect-there (end_process y pid me status) n both.0) ∙ ap (λ (u : Tree). is_directory_at u n) (tree-end y pid me status ∙ tree)))
         (left, differs) in
-        let same : node_at (trim (update t.after pid t.told)).tree n ≡ node_at t.after.tree n =
-        trim-there (update t.after pid t.told) n t.touch.0 ∙ ap (λ (u : Tree). node_at u n) (tree-update t.after pid t.told) in
+        let same : node_at (collect (update t.after pid t.reported)).tree n ≡ node_at t.after.tree n =
+        collect-there (update t.after pid t.reported) n t.touch.0 ∙ ap (λ (u : Tree). node_at u n) (tree-update t.after pid t.reported) in
         t.touch.1 (ap is_directory same
         ∙ kinds-by (at_call s pid t.me) pid (at_next_line t.me) t.call (whole-at_call s pid t.me whole t.at) (process_at-same s pid (at_next_line t.me)) t.is n old t.after t.reply t.does t.tree)
 
 -- ---- the laws
 
--- promises that narrow hold no more
+-- promises that are narrowed include no additional promise
 holds-before : (before after : Option Promises) (a : Promise) → GainsNone before after → holds after a ≡ true → holds before a ≡ true
 holds-before None after a gains is = refl
 holds-before (Some set) None a gains is = absurd gains
-holds-before (Some set) (Some kept) a gains is = gains a is
+holds-before (Some set) (Some preserved) a gains is = gains a is
 
 place-is : (t : Tree) (place : Place) (e : ℕ) (word : Bytes) → IsFinePlace t place → name_of place ≡ Some (e, word) → place ≡ place_in t e word
 place-is t (Unnamed n) e word fine named = cc named
@@ -328,8 +329,8 @@ place-is t (At d name o) e word fine named =
     let same : name ≡ word = ap (λ (x : ℕ × Bytes). x.1) pair in
     (λ i. At (number i) (same i) o) ∙ ap (At e word) (sym found)
 
--- c stood at each entry that changed
-pub changes-show : (program_of : Bytes → Option Program) (s : State) (pid : ℕ) (p : Process) (e : ℕ) (word : Bytes) → IsWhole s → process_at s pid ≡ Some p → Touches program_of s pid (change_entry e word)
+-- the process had c at each entry that changed
+pub changes-show : (program_of : Bytes → Option Program) (s : State) (pid : ℕ) (p : Process) (e : ℕ) (word : Bytes) → IsValid s → process_at s pid ≡ Some p → Touches program_of s pid (change_entry e word)
     → (letters_at s p e word).c ≡ true
 unfolding reached_permissions
 changes-show program_of s pid p e word whole at touches =
@@ -344,7 +345,7 @@ changes-show program_of s pid p e word whole at touches =
     and_from (is_allowed (judgement s.tree p.table (place_in s.tree e word) permission_c)) (holds p.promises Cpath) allowed
     (need-has p.promises true Cpath (missing-first p.promises by.edited.asks.0 needs_cpath met).1 refl)
 
-module _ (program_of : Bytes → Option Program) (spells : SpellsPrograms program_of) (s : State) (pid : ℕ) (p q : Process) (table : Table) (d : ℕ) (name : Bytes) (whole : IsWhole s)
+module _ (program_of : Bytes → Option Program) (encodes : EncodesPrograms program_of) (s : State) (pid : ℕ) (p q : Process) (table : Table) (d : ℕ) (name : Bytes) (whole : IsValid s)
     (own_step : IsOwnStep program_of s pid p q table) (dir : is_directory_at s.tree d ≡ true) where
   abbrev t : Tree
   t = s.tree
@@ -352,16 +353,16 @@ module _ (program_of : Bytes → Option Program) (spells : SpellsPrograms progra
   abbrev u : Tree
   u = (step program_of s pid).after.tree
 
-  whole_after : IsWhole (step program_of s pid).after
-  whole_after = step-keeps_whole program_of spells s pid whole
+  whole_after : IsValid (step program_of s pid).after
+  whole_after = step-keeps_whole program_of encodes s pid whole
 
   no_more : MayDoNoMore p q
   no_more = grows-never program_of s pid p q (whole-in_order s whole) own_step.at own_step.left own_step.in_image
 
   kinds : (n : ℕ) → find_entry t d name ≡ Some n → find_entry u d name ≡ Some n → is_directory_at u n ≡ is_directory_at t n
-  kinds n found kept = kept-kind program_of s pid whole n (whole.tree.well_formed.entries_are_nodes d name n found) (whole_after.tree.well_formed.entries_are_nodes d name n kept)
+  kinds n found preserved = preserved-kind program_of s pid whole n (whole.tree.well_formed.entries_are_nodes d name n found) (whole_after.tree.well_formed.entries_are_nodes d name n preserved)
 
-  -- where the same entry governs, letters only go
+  -- if the same entry governs, no permission is added
   same-go : governing_entry u table (place_in u d name) ≡ governing_entry t table (place_in t d name) → LettersOnlyGo program_of s pid p q d name
   unfolding reached_permissions judgement
   same-go same =
@@ -384,7 +385,7 @@ module _ (program_of : Bytes → Option Program) (spells : SpellsPrograms progra
           let parts = and_parts (is_allowed (judgement u q.table (place_in u d name) needed)) (holds q.promises a) is in
           and_from (is_allowed (judgement t p.table (place_in t d name) needed)) (holds p.promises a) (ap is_allowed (sym (judged needed)) ∙ parts.0) (holds-before p.promises q.promises a no_more.promises parts.1)
 
-  -- an entry that changed there or above
+  -- an entry changed there or above
   abbrev IsChanged : Type 0
   IsChanged = (e : ℕ) × (word : Bytes) × Touches program_of s pid (change_entry e word) × IsThereOrAbove program_of s pid d name e word
 
@@ -406,12 +407,12 @@ module _ (program_of : Bytes → Option Program) (spells : SpellsPrograms progra
   pub come-by_changes : covers (letters_at s p d name) (letters_at (step program_of s pid).after q d name) ≡ false → IsChanged
   come-by_changes comes = ⊎_elim (λ go. let bad : true ≡ false = sym go ∙ comes in cc bad) (λ changed. changed) go-or_changed
 
-  -- what no entry gives, or the promises lack, changes nothing
+  -- if no entry grants c, or the promises lack cpath, no entry changes
   no-c : GivesNoC table ⊎ (holds p.promises Cpath ≡ false) → (e : ℕ) (word : Bytes) → ¬ Touches program_of s pid (change_entry e word)
   unfolding reached_permissions
   no-c lacks e word touches =
-      let stood = changes-show program_of s pid p e word whole own_step.at touches in
-      let parts = and_parts (is_allowed (judgement t p.table (place_in t e word) permission_c)) (holds p.promises Cpath) stood in
+      let appeared = changes-show program_of s pid p e word whole own_step.at touches in
+      let parts = and_parts (is_allowed (judgement t p.table (place_in t e word) permission_c)) (holds p.promises Cpath) appeared in
       ⊎_elim (λ none. given none ((permitted t p.table (place_in t e word) permission_c).1 parts.0)) (λ without. let bad : true ≡ false = sym parts.1 ∙ without in cc bad) lacks
     where
       entry : GivesNoC table → (k : ℕ) (o : Option (Target × Perms)) → slice_get table k ≡ o → (permissions_of o).c ≡ true → ⊥

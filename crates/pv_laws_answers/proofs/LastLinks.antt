@@ -1,4 +1,4 @@
--- A walk that keeps a final link, where what it ends at is none, follows nothing more.
+-- A walk that does not follow a final link has the same result if it does, provided that it does not end at a link.
 use Rattle.std.proofs.Common.{◌≡◌, ℕ, Bool, true, false, if◌then◌else◌, not, ◌&&◌, ◌||◌, List, ◌∷◌, ◌++◌, Ok, Err, refl, ap, sym, ◌∙◌}
 use Rattle.std.specs.Prelude.{option_and_then}
 use Rattle.pv_model.specs.declared.follow.Follow.TheVariants.{Last, Keep}
@@ -11,7 +11,7 @@ use Rattle.pv_model.specs.Walk.{components, is_absolute, ends_in_slash, Walked, 
 use Rattle.pv_laws_trees.specs.Walk
 use Rattle.pv_laws_trees.proofs.Walks.{resolves-as_walked}
 
--- a final link is always followed where links are
+-- a final link is followed
 follows : (rest : List Bytes) (mark : Bool) → Walk.is_followed rest mark true ≡ true
 follows rest mark = by (is_empty rest && not mark)
   where
@@ -19,7 +19,7 @@ follows rest mark = by (is_empty rest && not mark)
     by true = refl
     by false = refl
 
--- a place, and what is there is no link
+-- a place whose node is not a link
 abbrev IsPlain : Tree → Walked → Type 0
 IsPlain t (Ok place) = is_link (option_and_then (node_at t) (node_of place)) ≡ false
 IsPlain t (Err e) = ⊥
@@ -33,8 +33,8 @@ module _ (t : Tree) where
   keeps _ _ _ _ _ (Walk.Walks.no_parent links component rest mark at is up) plain = absurd plain
   keeps _ _ _ _ _ (Walk.Walks.name_too_long links component rest mark at dot dots long) plain = absurd plain
   keeps _ _ _ _ _ (Walk.Walks.in_removed links component rest mark at name is) plain = absurd plain
-  keeps _ _ _ _ _ (Walk.Walks.absent links component rest mark at name stands none more) plain = absurd plain
-  keeps _ _ _ _ _ (Walk.Walks.vacant links component at name stands none) plain = Walk.Walks.vacant links component at name stands none
+  keeps _ _ _ _ _ (Walk.Walks.absent links component rest mark at name appears none more) plain = absurd plain
+  keeps _ _ _ _ _ (Walk.Walks.vacant links component at name appears none) plain = Walk.Walks.vacant links component at name appears none
   keeps _ _ _ _ _ (Walk.Walks.out_of_links component rest mark at n text leads followed) plain = absurd plain
   keeps _ _ _ _ _ (Walk.Walks.too_heavy links component rest mark at n text leads followed heavy) plain = absurd plain
   keeps _ _ _ _ _ (Walk.Walks.through links component rest mark at n text r leads followed light more) plain =
@@ -48,7 +48,7 @@ module _ (t : Tree) where
   keeps _ _ _ _ _ (Walk.Walks.finds_link links component rest mark at n text leads followed) plain =
       let bad : true ≡ false = ap is_link (sym leads.is) ∙ plain in cc bad
   keeps _ _ _ _ _ (Walk.Walks.wants_directory links component at n executable bytes leads) plain = absurd plain
-  keeps _ _ _ _ _ (Walk.Walks.lost links component rest mark at n name stands found none) plain = absurd plain
+  keeps _ _ _ _ _ (Walk.Walks.lost links component rest mark at n name appears found none) plain = absurd plain
 
   resolved : (start : ℕ) (path : Bytes) (r : Walked) → Walk.Resolves t Keep start path r → IsPlain t r → Walk.Resolves t Last start path r
   resolved start path _ (Walk.Resolves.empty is) plain = absurd plain

@@ -1,4 +1,4 @@
--- Letters, one by one.
+-- Permissions, one by one.
 use Rattle.std.proofs.Common.{◌≡◌, ℕ, Bool, true, false, if◌then◌else◌, not, ◌&&◌, ◌||◌, List, [], ◌∷◌, ◌++◌, Option, None, Some, refl, ap, sym, ◌∙◌, ⊎_elim}
 use Rattle.std.proofs.lemmas.Bool.{and_parts, and_from, or_cases}
 use Rattle.pv_model.specs.declared.judgement.Judgement.TheVariants.{Allowed, Denied}
@@ -26,7 +26,7 @@ and-true : (b : Bool) → (b && true) ≡ b
 and-true true = refl
 and-true false = refl
 
--- each letter of the second is one of the first
+-- each permission of the second set is in the first
 pub record Gives (a b : Perms) : Type 0 where
   pub r : b.r ≡ true → a.r ≡ true
   pub w : b.w ≡ true → a.w ≡ true
@@ -54,7 +54,7 @@ pub gives-covers : (a b : Perms) → Gives a b → covers a b ≡ true
 gives-covers a b g =
     and_from _ _ (and_from _ _ (and_from _ _ (unless-given a.r b.r g.r) (unless-given a.w b.w g.w)) (unless-given a.x b.x g.x)) (unless-given a.c b.c g.c)
 
--- one letter
+-- a single permission
 pub covers-r : (a : Perms) → covers a permission_r ≡ a.r
 covers-r a = by a.r a.w a.x a.c
   where
@@ -113,7 +113,7 @@ need-has held true a none is = by (holds held a) none
     by false none = cc none
 need-has held false a none is = cc is
 
--- each promise that goes with a letter is held
+-- each promise that corresponds to a permission is held
 pub record Holds (held : Option Promises) (asked : Perms) : Type 0 where
   pub r : asked.r ≡ true → holds held Rpath ≡ true
   pub w : asked.w ≡ true → holds held Wpath ≡ true
@@ -146,14 +146,14 @@ allowed-if true k = refl
 allowed-if false k = refl
 
 module _ (t : Tree) (place : Place) where
-  -- the table allows each letter by itself
+  -- the table allows each permission separately
   pub record Allows (o : Option Table) (asked : Perms) : Type 0 where
     pub r : asked.r ≡ true → is_allowed (judgement t o place permission_r) ≡ true
     pub w : asked.w ≡ true → is_allowed (judgement t o place permission_w) ≡ true
     pub x : asked.x ≡ true → is_allowed (judgement t o place permission_x) ≡ true
     pub c : asked.c ≡ true → is_allowed (judgement t o place permission_c) ≡ true
 
-  -- by the entry that governs
+  -- the entry that governs the place allows each permission separately
   record AllowsBy (table : Table) (entry : Option ℕ) (asked : Perms) : Type 0 where
     r : asked.r ≡ true → is_allowed (judge_entry table permission_r entry) ≡ true
     w : asked.w ≡ true → is_allowed (judge_entry table permission_w entry) ≡ true
@@ -193,7 +193,7 @@ module _ (t : Tree) (place : Place) where
         c = λ asks. allowed-if (covers has permission_c) k ∙ covers-c has ∙ g.c asks;
       }
 
-  -- all letters at once are allowed exactly where each is
+  -- all permissions together are allowed if and only if each is
   pub allows-all : (o : Option Table) (asked : Perms) → Allows o asked → is_some_letter asked ≡ true → is_allowed (judgement t o place asked) ≡ true
   unfolding judgement
   allows-all None asked allows some = refl
@@ -206,9 +206,9 @@ module _ (t : Tree) (place : Place) where
   all-allows (Some table) asked is =
       let a = allowed-entry table (governing_entry t table place) asked is in record { r = a.r; w = a.w; x = a.x; c = a.c }
 
--- ---- both
+-- ---- promises and table
 
--- the letters that stand are those that the promises hold and the table allows
+-- a process has the permissions that the promises include and the table allows
 pub reached-parts : (s : State) (p : Process) (place : Place) (asked : Perms) → covers (reached_permissions s p place) asked ≡ true → Holds p.promises asked × Allows s.tree place p.table asked
 unfolding reached_permissions
 reached-parts s p place asked is =

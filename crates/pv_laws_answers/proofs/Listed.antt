@@ -1,4 +1,4 @@
--- Calls in stints, and what is listed for a stint.
+-- The calls of program images, and the promises and permissions listed for them.
 use Rattle.std.proofs.Common.{◌≡◌, ◌≢◌, ℕ, zero, suc, ◌<◌, ◌≤◌, Bool, true, false, cond, if◌then◌else◌, not, ◌==◌, bytes_eq, List, [], ◌∷◌, ◌++◌, map, filter, slice_get, Option, None, Some, Ok, Err, refl, ap, sym, subst, ◌∙◌, arith}
 use Rattle.std.specs.Prelude.{flat_map, filter_map, take, Contains}
 use Rattle.std.specs.List.{list_any, AllByRecursion, cons_option}
@@ -11,7 +11,7 @@ use Rattle.pv_model.specs.declared.place.Place.{Place}
 use Rattle.pv_model.specs.declared.promise.Promise.{Promise}
 use Rattle.pv_model.specs.declared.target.Target.{Target}
 use Rattle.pv_model.specs.declared.target.Target.TheVariants.{Directory, Name}
-use Rattle.pv_model.specs.Answers.Needs.{Judged, Asked, asked, asked_in, and_asked, asked_by_one, stints, onto_stint, same_promise, needing, same_judged, walks_judged, targets_in, walks_to, permissions_asked, judged, judged_at, judged_walks}
+use Rattle.pv_model.specs.Answers.Needs.{Judged, Asked, asked, asked_in, and_asked, asked_by_one, process_images, onto_process_image, same_promise, needing, same_judged, walks_judged, targets_in, walks_to, permissions_asked, judged, judged_at, judged_walks}
 use Rattle.pv_model.specs.Answers.Nodes.{target_words}
 use Rattle.pv_model.specs.Bytes.{Bytes}
 use Rattle.pv_model.specs.Effect.{end_of}
@@ -23,11 +23,11 @@ use Rattle.pv_model.specs.Unveil.{same_target, target_of}
 use Rattle.pv_model.specs.Walk.{Walked}
 use Rattle.pv_model.specs.Walks.{Walk, walks_of, walk_number}
 use Rattle.pv_laws_states.specs.Courses.{is_unveil}
-use Rattle.pv_laws_answers.specs.Stints.{Moment, and_moment, moments, onto_moments, stints_of, what_is_asked, IsCallOf, IsMadeIn, IsListed, targets_listed, letters_listed}
+use Rattle.pv_laws_answers.specs.ProcessImages.{Moment, and_moment, moments, onto_moments, process_images_of, what_is_asked, IsCallOf, IsMadeIn, IsListed, targets_listed, letters_listed}
 use Rattle.pv_laws_answers.proofs.Added.{same-target}
 use Rattle.pv_laws_answers.proofs.Letters.{Gives}
 
--- ---- members
+-- ---- membership
 
 module _ {X : Type 0} where
   pub first-in : (x : X) (xs : List X) → Contains (x ∷ xs) x
@@ -36,7 +36,7 @@ module _ {X : Type 0} where
   pub later-in : (y x : X) (xs : List X) → Contains xs x → Contains (y ∷ xs) x
   later-in y x xs has = (suc has.0, omega (arith, has.1), has.2)
 
-  -- what is in a list is first, or later
+  -- an element is the first, or a later one
   pub in-cases : (P : Type 0) (y x : X) (ys : List X) → Contains (y ∷ ys) x → (y ≡ x → P) → (Contains ys x → P) → P
   in-cases P y x ys (zero, few, is) here there = here is
   in-cases P y x ys (suc k, few, is) here there = there (k, omega arith, is)
@@ -80,21 +80,21 @@ not-empty : {X : Type 0} (xs : List X) (x : X) → Contains xs x → xs ≢ []
 not-empty [] x has none = not-in x has
 not-empty (y ∷ ys) x has none = cc none
 
--- ---- stints of calls
+-- ---- calls by program image
 
-onto-asked : (m : Moment) (groups : List (List Moment)) → map what_is_asked (onto_moments m groups) ≡ onto_stint m.asked (map what_is_asked groups)
+onto-asked : (m : Moment) (groups : List (List Moment)) → map what_is_asked (onto_moments m groups) ≡ onto_process_image m.asked (map what_is_asked groups)
 onto-asked m [] = refl
-onto-asked m (stint ∷ rest) = by m.asked.ends_stint
+onto-asked m (process_image ∷ rest) = by m.asked.ends_process_image
   where
-    by : (b : Bool) → map what_is_asked (if b then (m ∷ []) ∷ stint ∷ rest else (m ∷ stint) ∷ rest)
-        ≡ (if b then (m.asked ∷ []) ∷ what_is_asked stint ∷ map what_is_asked rest else (m.asked ∷ what_is_asked stint) ∷ map what_is_asked rest)
+    by : (b : Bool) → map what_is_asked (if b then (m ∷ []) ∷ process_image ∷ rest else (m ∷ process_image) ∷ rest)
+        ≡ (if b then (m.asked ∷ []) ∷ what_is_asked process_image ∷ map what_is_asked rest else (m.asked ∷ what_is_asked process_image) ∷ map what_is_asked rest)
     by true = refl
     by false = refl
 
-stints-asked : (ms : List Moment) → map what_is_asked (stints_of ms) ≡ stints (what_is_asked ms)
-unfolding stints
-stints-asked [] = refl
-stints-asked (m ∷ ms) = onto-asked m (stints_of ms) ∙ ap (onto_stint m.asked) (stints-asked ms)
+process_images-asked : (ms : List Moment) → map what_is_asked (process_images_of ms) ≡ process_images (what_is_asked ms)
+unfolding process_images
+process_images-asked [] = refl
+process_images-asked (m ∷ ms) = onto-asked m (process_images_of ms) ∙ ap (onto_process_image m.asked) (process_images-asked ms)
 
 moments-asked : (program_of : Bytes → Option Program) (pids : List ℕ) (s : State) (pid : ℕ) → what_is_asked (moments program_of pid pids s) ≡ asked_by_one (asked_in program_of pids s) pid
 moments-asked program_of [] s pid = refl
@@ -116,24 +116,24 @@ moments-asked program_of (k ∷ ks) s pid = by (asked program_of s k) (moments-a
         of true = ap (λ rest. now ∷ rest) same
         of false = same
 
-pub stints-are : (program_of : Bytes → Option Program) (pids : List ℕ) (s : State) (pid : ℕ) → map what_is_asked (stints_of (moments program_of pid pids s)) ≡ stints (asked_by_one (asked_in program_of pids s) pid)
-stints-are program_of pids s pid = stints-asked (moments program_of pid pids s) ∙ ap stints (moments-asked program_of pids s pid)
+pub process_images-are : (program_of : Bytes → Option Program) (pids : List ℕ) (s : State) (pid : ℕ) → map what_is_asked (process_images_of (moments program_of pid pids s)) ≡ process_images (asked_by_one (asked_in program_of pids s) pid)
+process_images-are program_of pids s pid = process_images-asked (moments program_of pid pids s) ∙ ap process_images (moments-asked program_of pids s pid)
 
--- what holds of each call holds of each in each stint
+-- a property of each call holds for each call of each program image
 onto-all : (P : Moment → Type 0) (m : Moment) (groups : List (List Moment)) → P m → AllByRecursion (AllByRecursion P) groups → AllByRecursion (AllByRecursion P) (onto_moments m groups)
 onto-all P m [] is all = ((is, tt), tt)
-onto-all P m (stint ∷ rest) is all = by m.asked.ends_stint
+onto-all P m (process_image ∷ rest) is all = by m.asked.ends_process_image
   where
-    by : (b : Bool) → AllByRecursion (AllByRecursion P) (if b then (m ∷ []) ∷ stint ∷ rest else (m ∷ stint) ∷ rest)
+    by : (b : Bool) → AllByRecursion (AllByRecursion P) (if b then (m ∷ []) ∷ process_image ∷ rest else (m ∷ process_image) ∷ rest)
     by true = ((is, tt), all)
     by false = ((is, all.0), all.1)
 
-stints-all : (P : Moment → Type 0) (ms : List Moment) → AllByRecursion P ms → AllByRecursion (AllByRecursion P) (stints_of ms)
-stints-all P [] all = tt
-stints-all P (m ∷ ms) all = onto-all P m (stints_of ms) all.0 (stints-all P ms all.1)
+process_images-all : (P : Moment → Type 0) (ms : List Moment) → AllByRecursion P ms → AllByRecursion (AllByRecursion P) (process_images_of ms)
+process_images-all P [] all = tt
+process_images-all P (m ∷ ms) all = onto-all P m (process_images_of ms) all.0 (process_images-all P ms all.1)
 
 module _ (program_of : Bytes → Option Program) (pid : ℕ) where
-  -- along the steps of a run, those made first put in front
+  -- calls made earlier are put in front, along the steps of a run
   made-all : (pids : List ℕ) (s : State) → AllByRecursion (IsMadeIn program_of pids s pid) (moments program_of pid pids s)
   made-all [] s = tt
   made-all (k ∷ ks) s = by (k == pid) refl (asked program_of s k) refl (earlier (moments program_of pid ks (step program_of s k).after) (made-all ks (step program_of s k).after))
@@ -153,20 +153,20 @@ module _ (program_of : Bytes → Option Program) (pid : ℕ) where
           let same : k ≡ pid = eqb-true k pid mine in
           (record { before = []; after = ks; parts = ap (λ n. n ∷ ks) same; state = refl; asks = ap (asked program_of s) (sym same) ∙ is }, all)
 
-  pub made-in : (pids : List ℕ) (s : State) (stint : List Moment) (m : Moment) → IsCallOf program_of pids s pid stint m → IsMadeIn program_of pids s pid m
-  made-in pids s stint m is =
-      all-in (IsMadeIn program_of pids s pid) stint m
-      (all-in (AllByRecursion (IsMadeIn program_of pids s pid)) (stints_of (moments program_of pid pids s)) stint
-      (stints-all (IsMadeIn program_of pids s pid) (moments program_of pid pids s) (made-all pids s)) is.of_run) is.of_stint
+  pub made-in : (pids : List ℕ) (s : State) (process_image : List Moment) (m : Moment) → IsCallOf program_of pids s pid process_image m → IsMadeIn program_of pids s pid m
+  made-in pids s process_image m is =
+      all-in (IsMadeIn program_of pids s pid) process_image m
+      (all-in (AllByRecursion (IsMadeIn program_of pids s pid)) (process_images_of (moments program_of pid pids s)) process_image
+      (process_images-all (IsMadeIn program_of pids s pid) (moments program_of pid pids s) (made-all pids s)) is.of_run) is.of_process_image
 
--- ---- promises that are listed
+-- ---- listed promises
 
-pub promise-listed : (stint : List Moment) (m : Moment) (a : Promise) → Contains stint m → list_any (same_promise a) m.asked.promises ≡ true → IsListed a stint
-promise-listed stint m a has needs =
-    not-empty (needing a (what_is_asked stint)) m.asked
-    (passed-in (λ now. list_any (same_promise a) now.promises) (what_is_asked stint) m.asked (map-in (λ n. n.asked) stint m has) needs)
+pub promise-listed : (process_image : List Moment) (m : Moment) (a : Promise) → Contains process_image m → list_any (same_promise a) m.asked.promises ≡ true → IsListed a process_image
+promise-listed process_image m a has needs =
+    not-empty (needing a (what_is_asked process_image)) m.asked
+    (passed-in (λ now. list_any (same_promise a) now.promises) (what_is_asked process_image) m.asked (map-in (λ n. n.asked) process_image m has) needs)
 
--- ---- targets that are listed
+-- ---- listed targets
 
 pub target-same : (a b : Target) → same_target a b ≡ true → a ≡ b
 target-same (Directory d) (Directory e) is = ap Directory (eqb-true d e is)
@@ -178,7 +178,7 @@ target-same (Name d name) (Name e other) is =
 judged-same : (a b : Judged) → same_judged a b ≡ true → (a.target ≡ b.target) × (a.words ≡ b.words)
 judged-same a b is = let parts = and_parts (same_target a.target b.target) (bytes_eq a.words b.words) is in (target-same a.target b.target parts.0, (bytes_eq-Decides a.words b.words).0 parts.1)
 
-same-judged : (a b : Judged) → a.target ≡ b.target → a.words ≡ b.words → same_judged a b ≡ true
+pub same-judged : (a b : Judged) → a.target ≡ b.target → a.words ≡ b.words → same_judged a b ≡ true
 same-judged a b target words =
     and_from (same_target a.target b.target) (bytes_eq a.words b.words) (ap (same_target a.target) (sym target) ∙ same-target a.target) ((bytes_eq-Decides a.words b.words).1 words)
 
@@ -234,7 +234,7 @@ joined-right a b c g = record {
   c = λ is. or_right a.c b.c (g.c is);
 }
 
--- the letters asked together have those of each walk
+-- the listed permissions include those of each walk
 asked-gives : (ws : List (ℕ × Judged)) (w : ℕ × Judged) → Contains ws w → Gives (permissions_asked ws) w.1.permissions
 asked-gives [] w has = absurd (not-in w has)
 asked-gives (x ∷ xs) w has =
@@ -243,25 +243,25 @@ asked-gives (x ∷ xs) w has =
     (subst (λ (y : ℕ × Judged). Gives x.1.permissions y.1.permissions) here (record { r = λ is. is; w = λ is. is; x = λ is. is; c = λ is. is })))
     (λ there. joined-right x.1.permissions (permissions_asked xs) w.1.permissions (asked-gives xs w there))
 
--- a judged walk of a call of a stint: its target is listed, in its words, with its letters
-pub record IsJudgedListed (stint : List Moment) (j : Judged) : Type 0 where
+-- for a judged walk of a call of a program image, the target is listed, with its words and its permissions
+pub record IsJudgedListed (process_image : List Moment) (j : Judged) : Type 0 where
   pub target : Judged
-  pub listed : Contains (targets_listed stint) target
+  pub listed : Contains (targets_listed process_image) target
   pub same : target.target ≡ j.target
-  pub gives : Gives (letters_listed stint target) j.permissions
+  pub gives : Gives (letters_listed process_image target) j.permissions
 
-pub judged-listed : (stint : List Moment) (m : Moment) (j : Judged) → Contains stint m → Contains m.asked.walks j → IsJudgedListed stint j
-judged-listed stint m j has walks =
-    let ws = walks_judged (what_is_asked stint) in
-    let here : Contains (walks_judged (what_is_asked stint)) (m.asked.line, j) =
-    flat-in (λ (now : Asked). map (λ w. (now.line, w)) now.walks) (what_is_asked stint) m.asked (m.asked.line, j) (map-in (λ n. n.asked) stint m has) (map-in (λ w. (m.asked.line, w)) m.asked.walks j walks) in
-    let t = target-of (walks_judged (what_is_asked stint)) (m.asked.line, j) here in
+pub judged-listed : (process_image : List Moment) (m : Moment) (j : Judged) → Contains process_image m → Contains m.asked.walks j → IsJudgedListed process_image j
+judged-listed process_image m j has walks =
+    let ws = walks_judged (what_is_asked process_image) in
+    let here : Contains (walks_judged (what_is_asked process_image)) (m.asked.line, j) =
+    flat-in (λ (now : Asked). map (λ w. (now.line, w)) now.walks) (what_is_asked process_image) m.asked (m.asked.line, j) (map-in (λ n. n.asked) process_image m has) (map-in (λ w. (m.asked.line, w)) m.asked.walks j walks) in
+    let t = target-of (walks_judged (what_is_asked process_image)) (m.asked.line, j) here in
     record {
       target = t.target;
       listed = t.listed;
       same = (judged-same t.target j t.same).0;
-      gives = asked-gives (walks_to t.target (walks_judged (what_is_asked stint))) (m.asked.line, j)
-          (passed-in (λ w. same_judged t.target w.1) (walks_judged (what_is_asked stint)) (m.asked.line, j) here t.same);
+      gives = asked-gives (walks_to t.target (walks_judged (what_is_asked process_image))) (m.asked.line, j)
+          (passed-in (λ w. same_judged t.target w.1) (walks_judged (what_is_asked process_image)) (m.asked.line, j) here t.same);
     }
 
 -- ---- the judged walks of a call
@@ -288,7 +288,7 @@ module _ {X Y : Type 0} (f : X → Option Y) where
   mapped-in (z ∷ zs) (suc n) zero x y at few is = let same : z ≡ x = cc at in cons-first (f z) (filter_map f (take n zs)) y (ap f same ∙ is)
   mapped-in (z ∷ zs) (suc n) (suc i) x y at few is = cons-later (f z) (filter_map f (take n zs)) y (mapped-in zs n i x y at (omega arith) is)
 
-  -- and where it comes from
+  -- an element of a mapped list, and its source
   record IsMapped (xs : List X) (n : ℕ) (y : Y) : Type 0 where
     index : ℕ
     element : X
@@ -315,7 +315,7 @@ module _ {X Y : Type 0} (f : X → Option Y) where
           (λ same. record { index = 0; element = z; at = refl; few = omega arith; is = is ∙ ap Some same })
           (λ there. later (more there))
 
--- a walk that was begun, and ends at a place, is judged
+-- a walk that was begun and ends at a place is judged
 pub walk-judged : (s : State) (p : Process) (call : Call) (n number : ℕ) (w : Walk) (place : Place) → is_unveil call ≡ false → number ≤ n → walk_number (walks_of call) number ≡ Some w
     → end_of s p w ≡ Ok place → Contains (judged_walks s p call n) (judged-of s w place)
 walk-judged s p call n zero w place plain few found end = cc found
@@ -324,7 +324,7 @@ walk-judged s p call n (suc i) w place plain few found end =
     (mapped-in (judged s p) (walks_of call) n i w (record { target = target_of s.tree place; words = target_words s.tree (target_of s.tree place); permissions = w.needed }) found (omega arith)
     (ap (λ r. judged_at s w.needed (place_found r)) end))
 
--- and a judged walk is one
+-- a judged walk is such a walk
 pub record IsWalkJudged (s : State) (p : Process) (call : Call) (n : ℕ) (j : Judged) : Type 0 where
   pub plain : is_unveil call ≡ false
   pub number : ℕ

@@ -1,4 +1,4 @@
--- Calls under other promises, or with another table.
+-- Calls with other promises, or with another table.
 use Rattle.std.proofs.Common.{◌≡◌, ◌≢◌, ◌↔◌, ◌⊎◌, inl, inr, ℕ, zero, suc, ◌-◌, ◌<◌, ◌≤◌, Bool, true, false, if◌then◌else◌, ◌||◌, nat_le, nat_lt, List, [], ◌∷◌, length, slice_get, Option, None, Some, Ok, Err, refl, ap, sym, subst, ◌∙◌, arith, ⊎_elim}
 use Rattle.std.specs.Prelude.{filter_map, Contains}
 use Rattle.std.specs.List.{list_any}
@@ -48,15 +48,15 @@ use Rattle.pv_laws_states.proofs.Outcomes.{at_call, by_answer}
 use Rattle.pv_laws_states.proofs.Processes.{process_at-same, update-is}
 use Rattle.pv_laws_states.proofs.Rests
 use Rattle.pv_laws_access.proofs.Ends.{update-live}
-use Rattle.pv_laws_sandbox.proofs.Decided.{Ends, walks_in, table-refuses, lock-refuses-exactly}
-use Rattle.pv_laws_answers.specs.Stints.{Moment, IsCallOf, is_counted_for, IsUnmet, with_promises, IsListed, governing_target, GivesAt, with_own_table, letters_listed, GivesListed, GivesListedBut}
-use Rattle.pv_laws_answers.specs.Wanted.{HasAllNeeds, tells_want, tells_of_table}
-use Rattle.pv_laws_answers.proofs.Asking.{met-answer, along-one, walks-told}
+use Rattle.pv_laws_access.proofs.Decided.{Ends, walks_in, table-refuses, lock-refuses-exactly}
+use Rattle.pv_laws_answers.specs.ProcessImages.{Moment, IsCallOf, is_counted_for, IsUnmet, with_promises, IsListed, governing_target, GivesAt, with_own_table, letters_listed, GivesListed, GivesListedBut}
+use Rattle.pv_laws_answers.specs.Wanted.{HasAllNeeds, reports_need, reports_of_table}
+use Rattle.pv_laws_answers.proofs.Asking.{met-answer, along-one, walks-reported}
 use Rattle.pv_laws_answers.proofs.Letters.{Gives, covers-gives, gives-covers}
 use Rattle.pv_laws_answers.proofs.Listed.{in-cases, not-in, first-in, later-in, made-in, promise-listed, target-same, IsJudgedListed, judged-listed, judged-of, walk-judged, IsWalkJudged, judged-walk}
-use Rattle.pv_laws_answers.proofs.Wants.{has-all, want-told, lines-of, is_by_table, table-lines, beyond-allowed, last-decides, allowed-silent, refused-told, along-walks, at-most-one}
+use Rattle.pv_laws_answers.proofs.Wants.{has-all, want-reported, lines-of, is_by_table, table-lines, beyond-allowed, last-decides, allowed-silent, refused-reported, along-walks, at-most-one}
 
--- ---- what comes next is the same
+-- ---- the next step is the same
 
 module _ (p : Process) (held : Option Promises) (table : Option Table) (call : Call) where
   same-call : (i : Instruction) → perform p i ≡ calls_for call → perform (record p { promises = held; table = table }) i ≡ calls_for call
@@ -78,7 +78,7 @@ module _ (p : Process) (held : Option Promises) (table : Option Table) (call : C
       by None is = is
       by (Some i) is = same-call i is
 
--- what a call asked
+-- the needs of a call
 pub record IsAsked (program_of : Bytes → Option Program) (s : State) (pid : ℕ) (now : Asked) : Type 0 where
   pub p : Process
   pub call : Call
@@ -101,7 +101,7 @@ asked-back program_of s pid now is = of (process_at s pid) refl is
 
 -- ---- other promises
 
--- a need that a call has, by its first promise
+-- a need of a call, by its first promise
 pub record HasNeed (ns : List Need) (a : Promise) : Type 0 where
   pub need : Need
   pub needed : Contains ns need
@@ -138,43 +138,43 @@ module _ (program_of : Bytes → Option Program) (s : State) (pid : ℕ) (p : Pr
   abbrev promised : Process
   promised = record p { promises = Some set }
 
-  promised-told : (tells_want (step program_of (with_promises s pid set) pid).lines ≡ false) ↔ HasAllNeeds (Some set) call
-  promised-told =
-      want-told program_of (with_promises s pid set) pid (record p { promises = Some set }) call (update-live s pid (λ q. record q { promises = Some set }) p at)
+  promised-reported : (reports_need (step program_of (with_promises s pid set) pid).lines ≡ false) ↔ HasAllNeeds (Some set) call
+  promised-reported =
+      want-reported program_of (with_promises s pid set) pid (record p { promises = Some set }) call (update-live s pid (λ q. record q { promises = Some set }) p at)
       (next-call p (Some set) p.table call is)
 
-pub enough-promises : (program_of : Bytes → Option Program) (pids : List ℕ) (s : State) (pid : ℕ) (stint : List Moment) (m : Moment) (set : Promises) → IsCallOf program_of pids s pid stint m
-    → ((a : Promise) → IsListed a stint → contains set a ≡ true) → tells_want (step program_of (with_promises m.state pid set) pid).lines ≡ false
-enough-promises program_of pids s pid stint m set call_of has =
-    let a = asked-back program_of m.state pid m.asked (made-in program_of pid pids s stint m call_of).asks in
-    (promised-told program_of m.state pid a.p a.call a.at a.next_is set).1
+pub enough-promises : (program_of : Bytes → Option Program) (pids : List ℕ) (s : State) (pid : ℕ) (process_image : List Moment) (m : Moment) (set : Promises) → IsCallOf program_of pids s pid process_image m
+    → ((a : Promise) → IsListed a process_image → contains set a ≡ true) → reports_need (step program_of (with_promises m.state pid set) pid).lines ≡ false
+enough-promises program_of pids s pid process_image m set call_of has =
+    let a = asked-back program_of m.state pid m.asked (made-in program_of pid pids s process_image m call_of).asks in
+    (promised-reported program_of m.state pid a.p a.call a.at a.next_is set).1
     ((has-all (Some set) a.call).0 (firsts-held set (needs a.call) (λ b needs'. has b
-    (promise-listed stint m b call_of.of_stint (ap (λ (x : Asked). list_any (same_promise b) x.promises) a.is ∙ needs')))))
+    (promise-listed process_image m b call_of.of_process_image (ap (λ (x : Asked). list_any (same_promise b) x.promises) a.is ∙ needs')))))
 
-pub needed-promises : (program_of : Bytes → Option Program) (pids : List ℕ) (s : State) (pid : ℕ) (stint : List Moment) (m : Moment) (set : Promises) (b : Promise) (p : Process) (call : Call)
-    → IsCallOf program_of pids s pid stint m → process_at m.state pid ≡ Some p → next p ≡ calls_for call → list_any (same_promise b) m.asked.promises ≡ true → IsUnmet set call b
-    → tells_want (step program_of (with_promises m.state pid set) pid).lines ≡ true
-needed-promises program_of pids s pid stint m set b p call call_of at is needs' unmet =
-    by (tells_want (step program_of (with_promises m.state pid set) pid).lines) refl
+pub needed-promises : (program_of : Bytes → Option Program) (pids : List ℕ) (s : State) (pid : ℕ) (process_image : List Moment) (m : Moment) (set : Promises) (b : Promise) (p : Process) (call : Call)
+    → IsCallOf program_of pids s pid process_image m → process_at m.state pid ≡ Some p → next p ≡ calls_for call → list_any (same_promise b) m.asked.promises ≡ true → IsUnmet set call b
+    → reports_need (step program_of (with_promises m.state pid set) pid).lines ≡ true
+needed-promises program_of pids s pid process_image m set b p call call_of at is needs' unmet =
+    by (reports_need (step program_of (with_promises m.state pid set) pid).lines) refl
   where
     counted : (need : Need) → is_counted_for b need ≡ true → Contains (needs call) need → missing_promise (Some set) (needs call) ≡ None → is_met (Some set) need ≡ true
     counted [] is has none = cc is
     counted (c ∷ others) is has none = met-in (Some set) (needs call) b c others none has
 
-    by : (x : Bool) → tells_want (step program_of (with_promises m.state pid set) pid).lines ≡ x → tells_want (step program_of (with_promises m.state pid set) pid).lines ≡ true
-    by true told = told
+    by : (x : Bool) → reports_need (step program_of (with_promises m.state pid set) pid).lines ≡ x → reports_need (step program_of (with_promises m.state pid set) pid).lines ≡ true
+    by true reported = reported
     by false quiet =
-        let a = asked-back program_of m.state pid m.asked (made-in program_of pid pids s stint m call_of).asks in
+        let a = asked-back program_of m.state pid m.asked (made-in program_of pid pids s process_image m call_of).asks in
         let both : Some a.p ≡ Some p = sym a.at ∙ at in
         let one : a.p ≡ p = cc both in
         let calls : calls_for a.call ≡ calls_for call = sym a.next_is ∙ ap next one ∙ is in
         let same : a.call ≡ call = cc calls in
         let h = needed-by (needs call) b (ap (λ c. list_any (same_promise b) (promises_needed c)) (sym same) ∙ ap (λ (x : Asked). list_any (same_promise b) x.promises) (sym a.is) ∙ needs') in
-        let none = (has-all (Some set) call).1 ((promised-told program_of m.state pid p call at is set).0 quiet) in
+        let none = (has-all (Some set) call).1 ((promised-reported program_of m.state pid p call at is set).0 quiet) in
         let bad : true ≡ false = sym (counted h.need h.counted h.needed none) ∙ unmet h.need h.needed h.counted in
         cc bad
 
--- ---- how far a call walks
+-- ---- the number of walks
 
 -- two attempts begin a walk, or neither does
 record Starts (a b : Attempt Effect) : Type 0 where
@@ -239,7 +239,7 @@ module _ (program_of : Bytes → Option Program) (s : State) (pid : ℕ) (p : Pr
   abbrev now_tabled : Process
   now_tabled = at_next_line tabled
 
-  -- what comes after a walk's place
+  -- the attempt after a walk's place
   abbrev rest_x : Walk → (Place → Attempt Effect) → Place → Attempt Effect
   rest_x w f place = judge x now w place >> f place
 
@@ -255,19 +255,19 @@ module _ (program_of : Bytes → Option Program) (s : State) (pid : ℕ) (p : Pr
   open-starts : (start : Start) (path : Bytes) (f : OpenFlags) → Starts (open_at x pid now start path f) (open_at y pid now_tabled start path f)
   open-starts start path f =
       let w = open_walk start path f in
-      let way_x : Attempt Effect = walk x now w >>= rest_x w (Rests.open_1 x pid now f) in
-      let way_y : Attempt Effect = walk y now_tabled w >>= rest_y w (Rests.open_1 y pid now_tabled f) in
-      let files_x : Attempt Effect = refuse_if ENFILE (nat_le 128 (least_free s.files)) >> way_x in
-      let files_y : Attempt Effect = refuse_if ENFILE (nat_le 128 (least_free s.files)) >> way_y in
+      let witness_x : Attempt Effect = walk x now w >>= rest_x w (Rests.open_1 x pid now f) in
+      let witness_y : Attempt Effect = walk y now_tabled w >>= rest_y w (Rests.open_1 y pid now_tabled f) in
+      let files_x : Attempt Effect = refuse_if ENFILE (nat_le 128 (least_free s.files)) >> witness_x in
+      let files_y : Attempt Effect = refuse_if ENFILE (nat_le 128 (least_free s.files)) >> witness_y in
       let few_x : Attempt Effect = refuse_if EMFILE (nat_le 16 (least_free p.descriptors)) >> files_x in
       let few_y : Attempt Effect = refuse_if EMFILE (nat_le 16 (least_free p.descriptors)) >> files_y in
       starts-then (refuse_if EINVAL (contradicts f)) (check_start x pid now start path >> few_x) (check_start y pid now_tabled start path >> few_y)
       (starts-then (check_start x pid now start path) few_x few_y
       (starts-then (refuse_if EMFILE (nat_le 16 (least_free p.descriptors))) files_x files_y
-      (starts-then (refuse_if ENFILE (nat_le 128 (least_free s.files))) way_x way_y
+      (starts-then (refuse_if ENFILE (nat_le 128 (least_free s.files))) witness_x witness_y
       (walk-starts w (Rests.open_1 x pid now f) (Rests.open_1 y pid now_tabled f)))))
 
-  -- a walking call starts alike with another table
+  -- a call that walks begins its walk with another table too
   calls-start : (call : Call) (w : Walk) (ws : List Walk) → walks_of call ≡ w ∷ ws → is_unveil call ≡ false → Starts (effect program_of x pid now call) (effect program_of y pid now_tabled call)
   unfolding effect
   calls-start (TheCall.Unveil path permissions) w ws walks plain = cc plain
@@ -303,7 +303,7 @@ few-walks (TheCall.Unveil (Some path) None) = refl
 few-walks (TheCall.Unveil (Some path) (Some text)) = refl
 few-walks call = refl
 
--- where there is a walk of a number there is a first one
+-- if there is a walk with a number, there is a first one
 record HasWalks (ws : List Walk) (number : ℕ) (w : Walk) : Type 0 where
   first : Walk
   rest : List Walk
@@ -325,7 +325,7 @@ has-walks (v ∷ u ∷ z ∷ ws) (suc (suc i)) w few found = absurd (omega arith
 walks-of-call : (call : Call) (number : ℕ) (w : Walk) → walk_number (walks_of call) number ≡ Some w → HasWalks (walks_of call) number w
 walks-of-call call number w found = has-walks (walks_of call) number w (leb-true (length (walks_of call)) 2 (few-walks call)) found
 
--- ---- how many walks an answer tells
+-- ---- the number of walks of an answer
 
 module _ (program_of : Bytes → Option Program) (s : State) (pid : ℕ) (p : Process) (call : Call) (at : process_at s pid ≡ Some p) where
   abbrev r : Answered
@@ -334,11 +334,11 @@ module _ (program_of : Bytes → Option Program) (s : State) (pid : ℕ) (p : Pr
   abbrev e : Attempt Effect
   e = effect program_of (at_call s pid p) pid (at_next_line p) call
 
-  -- those of its effect, where its promises are held
+  -- the walks of the effect, if the promises are held
   walks-met : missing_promise p.promises (needs call) ≡ None → r.walks ≡ walks_in e
-  walks-met met = ap (λ (a : Answered). a.walks) (met-answer program_of s pid p call at met) ∙ walks-told s (at_call s pid p) pid (at_next_line p) e
+  walks-met met = ap (λ (a : Answered). a.walks) (met-answer program_of s pid p call at met) ∙ walks-reported s (at_call s pid p) pid (at_next_line p) e
 
-  -- and else none
+  -- no walks otherwise
   walks-lack : (b : Promise) → missing_promise p.promises (needs call) ≡ Some b → r.walks ≡ 0
   walks-lack b lacks =
       by_answer (λ a. a.walks ≡ 0) program_of s pid call
@@ -357,7 +357,7 @@ module _ (program_of : Bytes → Option Program) (s : State) (pid : ℕ) (p : Pr
       by None met = met
       by (Some b) lacks = absurd (let none = walks-lack b lacks in omega (arith, some, none))
 
-  -- a call that walks goes along its walks
+  -- a call that walks makes its walks
   module _ (plain : is_unveil call ≡ false) where
     abbrev c : Attempt (Unit {0})
     c = along (at_call s pid p) (at_next_line p) (walks_of call)
@@ -376,7 +376,7 @@ module _ (program_of : Bytes → Option Program) (s : State) (pid : ℕ) (p : Pr
 
 -- ---- two walks
 
--- where the second walk is begun, the first ended at a place
+-- if the second walk is begun, the first ended at a place
 first-ended : (s : State) (me : Process) (w : Walk) (ws : List Walk) → 2 ≤ walks_in (along s me (w ∷ ws)) → (place : Place) × (end_of s me w ≡ Ok place)
 first-ended s me w ws more = by (end_of s me w) refl
   where
@@ -385,7 +385,7 @@ first-ended s me w ws more = by (end_of s me w) refl
     by (Err e) is =
         absurd (at-most-one (begins_walk w.path) e (subst (λ r. 2 ≤ walks_in (place_or_refusal (if begins_walk w.path then 1 else 0) r >>= (λ p. judge s me w p >> along s me ws))) is more))
 
--- where both end at places, and the first is allowed, both are begun
+-- if both walks end at places, and the first is allowed, both are begun
 both-begun : (s : State) (me : Process) (w u : Walk) (place other : Place) → end_of s me w ≡ Ok place → end_of s me u ≡ Ok other
     → is_allowed (judgement s.tree me.table place w.needed) ≡ true → 2 ≤ walks_in (along s me (w ∷ u ∷ []))
 both-begun s me w u place other end last allowed =
@@ -401,7 +401,7 @@ both-begun s me w u place other end last allowed =
 
 -- ---- another table
 
--- what governs a place governs its target
+-- the entry that governs a place governs its target
 governs-target : (t : Tree) (table : Table) (place : Place) → governing_entry t table place ≡ governing_target t table (target_of t place)
 unfolding governing_entry
 governs-target t table (Unnamed n) = refl
@@ -471,42 +471,42 @@ module _ (program_of : Bytes → Option Program) (s : State) (pid : ℕ) (p : Pr
       by zero none same here' there = absurd (let no_walk = same none in omega (arith, some, here', no_walk))
       by (suc n) more same here' there = omega (arith, more, there)
 
-  -- ---- enough
+  -- ---- sufficiency
 
-  module _ (stint : List Moment) (m : Moment) (of_stint : Contains stint m) (asks : m.asked ≡ asked_by s p call r_s) where
+  module _ (process_image : List Moment) (m : Moment) (of_process_image : Contains process_image m) (asks : m.asked ≡ asked_by s p call r_s) where
     judged-in : (j : Judged) → Contains (judged_walks s p call r_s.walks) j → Contains m.asked.walks j
     judged-in j has = subst (λ (a : Asked). Contains a.walks j) (sym asks) has
 
-    -- a walk that was begun in the run, and ended at a place, is listed
-    listed : (number : ℕ) (w : Walk) (place : Place) → number ≤ r_s.walks → walk_number (walks_of call) number ≡ Some w → end_of s p w ≡ Ok place → IsJudgedListed stint (judged-of s w place)
-    listed number w place few found end = judged-listed stint m (judged-of s w place) of_stint (judged-in (judged-of s w place) (walk-judged s p call r_s.walks number w place plain few found end))
+    -- a walk that was begun in the run and ended at a place is listed
+    listed : (number : ℕ) (w : Walk) (place : Place) → number ≤ r_s.walks → walk_number (walks_of call) number ≡ Some w → end_of s p w ≡ Ok place → IsJudgedListed process_image (judged-of s w place)
+    listed number w place few found end = judged-listed process_image m (judged-of s w place) of_process_image (judged-in (judged-of s w place) (walk-judged s p call r_s.walks number w place plain few found end))
 
-    module _ (gives : GivesListed stint table s) where
+    module _ (gives : GivesListed process_image table s) where
       allowed-there : (number : ℕ) (w : Walk) (place : Place) → number ≤ r_s.walks → walk_number (walks_of call) number ≡ Some w → end_of s p w ≡ Ok place
           → is_allowed (judgement s.tree (Some table) place w.needed) ≡ true
       allowed-there number w place few found end =
           let l = listed number w place few found end in
-          given-allowed s.tree table place (letters_listed stint l.target) w.needed
-          (subst (λ target. GivesAt s.tree table target (letters_listed stint l.target)) l.same (gives l.target l.listed)) l.gives
+          given-allowed s.tree table place (letters_listed process_image l.target) w.needed
+          (subst (λ target. GivesAt s.tree table target (letters_listed process_image l.target)) l.same (gives l.target l.listed)) l.gives
 
-      -- the table refused the last walk that was begun with it
+      -- the other table refused the last walk that was begun with it
       refused-last : is_by_table r_u.outcome ≡ true → (w : Walk) × (place : Place) × (walk_number (walks_of call) r_u.walks ≡ Some w) × (end_of s p w ≡ Ok place)
-      refused-last told = by r_u.outcome refl told
+      refused-last reported = by r_u.outcome refl reported
         where
           by : (o : Outcome) → r_u.outcome ≡ o → is_by_table o ≡ true → (w : Walk) × (place : Place) × (walk_number (walks_of call) r_u.walks ≡ Some w) × (end_of s p w ≡ Ok place)
-          by (Failed errno (ByUnveil entry)) how told =
+          by (Failed errno (ByUnveil entry)) how reported =
               let why = (table-refuses program_of u pid q call errno entry at_u).0 how in (why.stopped.walk, why.place, why.stopped.last, why.stopped.end)
-          by (Failed errno Locked) how told =
+          by (Failed errno Locked) how reported =
               let lock = (lock-refuses-exactly program_of u pid q call errno at_u).0 how in
               let bad : true ≡ false = ap is_unveil (sym lock.unveils) ∙ plain in cc bad
-          by o how told = cc told
+          by o how reported = cc reported
 
-      -- where one walk was made of two that end at places, the table refused it
+      -- if one of two walks that end at places was begun, the table refused it
       first-refused : (v w : Walk) (place other : Place) → walks_of call ≡ v ∷ w ∷ [] → end_of s p v ≡ Ok place → end_of s p w ≡ Ok other → r_s.walks ≡ 1 → is_by_table r_s.outcome ≡ true
       first-refused v w place other walks end last one = by (is_allowed (judgement s.tree p.table place v.needed)) refl
         where
           by : (b : Bool) → is_allowed (judgement s.tree p.table place v.needed) ≡ b → is_by_table r_s.outcome ≡ true
-          by false stops = refused-told program_of s pid p call at plain 1 v place (ap (λ ws. walk_number ws 1) walks) end (sym one) stops
+          by false stops = refused-reported program_of s pid p call at plain 1 v place (ap (λ ws. walk_number ws 1) walks) end (sym one) stops
           by true allowed =
               let counts = walks-along program_of s pid p call at plain (omega (arith, one)) in
               let both = both-begun (at_call s pid p) (at_next_line p) v w place other end last allowed in
@@ -527,23 +527,23 @@ module _ (program_of : Bytes → Option Program) (s : State) (pid : ℕ) (p : Pr
           (double, one, first-refused shape.first w first.0 place walks first.1 end one)
 
       enough-here : is_by_table r_u.outcome ≡ true → (r_u.walks ≡ 2) × (r_s.walks ≡ 1) × (is_by_table r_s.outcome ≡ true)
-      enough-here told =
-          let last = refused-last told in
+      enough-here reported =
+          let last = refused-last reported in
           ⊎_elim
           (λ beyond. beyond-first last.0 last.1 last.3 (walks-of-call call r_u.walks last.0 last.2) beyond)
           (λ within.
-          let bad : true ≡ false = sym told ∙ allowed-silent program_of u pid q call at_u plain r_u.walks last.0 last.1 last.2 last.3 refl (allowed-there r_u.walks last.0 last.1 within last.2 last.3) in
+          let bad : true ≡ false = sym reported ∙ allowed-silent program_of u pid q call at_u plain r_u.walks last.0 last.1 last.2 last.3 refl (allowed-there r_u.walks last.0 last.1 within last.2 last.3) in
           cc bad)
           (cases_lt r_s.walks r_u.walks)
 
-      pub enough-told : tells_of_table (step program_of u pid).lines ≡ true → (r_u.walks ≡ 2) × (r_s.walks ≡ 1) × (tells_of_table (step program_of s pid).lines ≡ true)
-      enough-told told =
-          let here = enough-here (sym (table-lines program_of u pid q call at_u) ∙ ap tells_of_table (sym (lines-of program_of u pid q call at_u is_u)) ∙ told) in
-          (here.0, here.1, ap tells_of_table (lines-of program_of s pid p call at is) ∙ table-lines program_of s pid p call at ∙ here.2)
+      pub enough-reported : reports_of_table (step program_of u pid).lines ≡ true → (r_u.walks ≡ 2) × (r_s.walks ≡ 1) × (reports_of_table (step program_of s pid).lines ≡ true)
+      enough-reported reported =
+          let here = enough-here (sym (table-lines program_of u pid q call at_u) ∙ ap reports_of_table (sym (lines-of program_of u pid q call at_u is_u)) ∙ reported) in
+          (here.0, here.1, ap reports_of_table (lines-of program_of s pid p call at is) ∙ table-lines program_of s pid p call at ∙ here.2)
 
-    -- ---- needed
+    -- ---- necessity
 
-    module _ (judged : Judged) (letter : Perms) (k : ℕ) (gives : GivesListedBut stint table s judged.target letter k) (j : IsWalkJudged s p call r_s.walks judged) (asks_letter : covers judged.permissions letter ≡ true) where
+    module _ (judged : Judged) (letter : Perms) (k : ℕ) (gives : GivesListedBut process_image table s judged.target letter k) (j : IsWalkJudged s p call r_s.walks judged) (asks_letter : covers judged.permissions letter ≡ true) where
       abbrev by_entry : Judgement → Type 0
       by_entry found = (is_allowed found ≡ true) ⊎ (found ≡ Denied k)
 
@@ -563,11 +563,11 @@ module _ (program_of : Bytes → Option Program) (s : State) (pid : ℕ) (p : Pr
               (covers (permissions_at table k) w.needed) refl
           by false elsewhere =
               let l = listed number w place few found end in
-              inl (given-allowed s.tree table place (letters_listed stint l.target) w.needed
-              (subst (λ target. GivesAt s.tree table target (letters_listed stint l.target)) l.same
+              inl (given-allowed s.tree table place (letters_listed process_image l.target) w.needed
+              (subst (λ target. GivesAt s.tree table target (letters_listed process_image l.target)) l.same
               (gives.others l.target l.listed (ap (λ target. same_target target judged.target) l.same ∙ elsewhere))) l.gives)
 
-      -- the walk that asked for the letter is denied
+      -- the walk that needed the permission is denied
       denied : judgement s.tree (Some table) j.place j.walk.needed ≡ Denied k
       denied =
           judged-by s.tree table j.place j.walk.needed k (ap (governing_target s.tree table) (sym j.target) ∙ gives.governs)
@@ -580,7 +580,7 @@ module _ (program_of : Bytes → Option Program) (s : State) (pid : ℕ) (p : Pr
               (covers-gives j.walk.needed letter (ap (λ asked. covers asked letter) (sym j.asked) ∙ asks_letter)) in
               let bad : true ≡ false = sym (gives-covers (permissions_at table k) letter through) ∙ gives.lacks in cc bad
 
-      -- a walk that is denied, and is begun, is the last
+      -- a walk that is begun and denied is the last
       stops-there : (number : ℕ) (w : Walk) (place : Place) → number ≤ r_u.walks → walk_number (walks_of call) number ≡ Some w → end_of s p w ≡ Ok place
           → judgement s.tree (Some table) place w.needed ≡ Denied k → r_u.outcome ≡ Failed EACCES (ByUnveil (Some k))
       stops-there number w place few found end says =
@@ -628,9 +628,9 @@ module _ (program_of : Bytes → Option Program) (s : State) (pid : ℕ) (p : Pr
               (λ other. let two = shape.second other in second shape two.0 two.1 some)
               (cases_eq j.number 1)
 
--- ---- of stints
+-- ---- calls of program images
 
--- the process and the call of which a moment tells are those that are there
+-- the process and the call of a recorded moment are those of its state
 asked-there : (program_of : Bytes → Option Program) (s : State) (pid : ℕ) (p : Process) (call : Call) (now : Asked) → process_at s pid ≡ Some p → next p ≡ calls_for call → asked program_of s pid ≡ Some now
     → now ≡ asked_by s p call (answer program_of s pid call)
 asked-there program_of s pid p call now at is asks =
@@ -641,23 +641,23 @@ asked-there program_of s pid p call now at is asks =
     let same : a.call ≡ call = cc calls in
     a.is ∙ (λ i. asked_by s (one i) (same i) (answer program_of s pid (same i)))
 
-pub enough-letters : (program_of : Bytes → Option Program) (pids : List ℕ) (s : State) (pid : ℕ) (stint : List Moment) (m : Moment) (table : Table) (p : Process) (call : Call)
-    → IsCallOf program_of pids s pid stint m → process_at m.state pid ≡ Some p → next p ≡ calls_for call → is_unveil call ≡ false → GivesListed stint table m.state
-    → tells_of_table (step program_of (with_own_table m.state pid table) pid).lines ≡ true
-    → ((answer program_of (with_own_table m.state pid table) pid call).walks ≡ 2) × ((answer program_of m.state pid call).walks ≡ 1) × (tells_of_table (step program_of m.state pid).lines ≡ true)
-enough-letters program_of pids s pid stint m table p call call_of at is plain gives =
-    subst (λ y. tells_of_table (step program_of y pid).lines ≡ true
-    → ((answer program_of y pid call).walks ≡ 2) × ((answer program_of m.state pid call).walks ≡ 1) × (tells_of_table (step program_of m.state pid).lines ≡ true))
+pub enough-letters : (program_of : Bytes → Option Program) (pids : List ℕ) (s : State) (pid : ℕ) (process_image : List Moment) (m : Moment) (table : Table) (p : Process) (call : Call)
+    → IsCallOf program_of pids s pid process_image m → process_at m.state pid ≡ Some p → next p ≡ calls_for call → is_unveil call ≡ false → GivesListed process_image table m.state
+    → reports_of_table (step program_of (with_own_table m.state pid table) pid).lines ≡ true
+    → ((answer program_of (with_own_table m.state pid table) pid call).walks ≡ 2) × ((answer program_of m.state pid call).walks ≡ 1) × (reports_of_table (step program_of m.state pid).lines ≡ true)
+enough-letters program_of pids s pid process_image m table p call call_of at is plain gives =
+    subst (λ y. reports_of_table (step program_of y pid).lines ≡ true
+    → ((answer program_of y pid call).walks ≡ 2) × ((answer program_of m.state pid call).walks ≡ 1) × (reports_of_table (step program_of m.state pid).lines ≡ true))
     (sym (update-is m.state pid (λ z. record z { table = Some table }) p at))
-    (enough-told program_of m.state pid p call table at is plain stint m call_of.of_stint
-    (asked-there program_of m.state pid p call m.asked at is (made-in program_of pid pids s stint m call_of).asks) gives)
+    (enough-reported program_of m.state pid p call table at is plain process_image m call_of.of_process_image
+    (asked-there program_of m.state pid p call m.asked at is (made-in program_of pid pids s process_image m call_of).asks) gives)
 
-pub needed-letters : (program_of : Bytes → Option Program) (pids : List ℕ) (s : State) (pid : ℕ) (stint : List Moment) (m : Moment) (table : Table) (p : Process) (call : Call) (judged : Judged) (letter : Perms) (k : ℕ)
-    → IsCallOf program_of pids s pid stint m → process_at m.state pid ≡ Some p → next p ≡ calls_for call → GivesListedBut stint table m.state judged.target letter k
+pub needed-letters : (program_of : Bytes → Option Program) (pids : List ℕ) (s : State) (pid : ℕ) (process_image : List Moment) (m : Moment) (table : Table) (p : Process) (call : Call) (judged : Judged) (letter : Perms) (k : ℕ)
+    → IsCallOf program_of pids s pid process_image m → process_at m.state pid ≡ Some p → next p ≡ calls_for call → GivesListedBut process_image table m.state judged.target letter k
     → Contains m.asked.walks judged → covers judged.permissions letter ≡ true
     → (answer program_of (with_own_table m.state pid table) pid call).outcome ≡ Failed EACCES (ByUnveil (Some k))
-needed-letters program_of pids s pid stint m table p call judged letter k call_of at is gives has asks_letter =
-    let asks = asked-there program_of m.state pid p call m.asked at is (made-in program_of pid pids s stint m call_of).asks in
+needed-letters program_of pids s pid process_image m table p call judged letter k call_of at is gives has asks_letter =
+    let asks = asked-there program_of m.state pid p call m.asked at is (made-in program_of pid pids s process_image m call_of).asks in
     let j = judged-walk m.state p call (answer program_of m.state pid call).walks judged (subst (λ (a : Asked). Contains a.walks judged) asks has) in
     subst (λ y. (answer program_of y pid call).outcome ≡ Failed EACCES (ByUnveil (Some k))) (sym (update-is m.state pid (λ z. record z { table = Some table }) p at))
-    (needed-here program_of m.state pid p call table at is j.plain stint m call_of.of_stint asks judged letter k gives j asks_letter)
+    (needed-here program_of m.state pid p call table at is j.plain process_image m call_of.of_process_image asks judged letter k gives j asks_letter)

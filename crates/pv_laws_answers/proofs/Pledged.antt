@@ -1,4 +1,4 @@
--- Steps of processes that have other promises.
+-- Steps of processes with other promises.
 use Rattle.std.proofs.Common.{◌≡◌, ◌≢◌, ◌⊎◌, inl, inr, ⊎_elim, ℕ, zero, suc, ◌-◌, ◌^◌, ℤ, pos, negsuc, Bool, true, false, cond, if◌then◌else◌, not, ◌||◌, ◌==◌, nat_le, nat_lt, bit_and, List, [], ◌∷◌, ◌++◌, map, filter, length, slice_get, Option, None, Some, option_map, is_some, refl, ap, ap₂, sym, subst, ◌∙◌}
 use Rattle.std.specs.Prelude.{flat_map, take, Contains}
 use Rattle.std.specs.List.{list_any, AllByRecursion}
@@ -37,7 +37,7 @@ use Rattle.pv_model.specs.Calls.Processes.{with_result, parent_of, with_parent, 
 use Rattle.pv_model.specs.Calls.Restraints.{unveil}
 use Rattle.pv_model.specs.Effect.{Effect, Reply, returns, returns_bytes, ends, waits, answers, with_room}
 use Rattle.pv_model.specs.Errno.{errno_number}
-use Rattle.pv_model.specs.Held.{among, live_processes, used_files, held_by_process, trim}
+use Rattle.pv_model.specs.Held.{among, live_processes, used_files, held_by_process, collect}
 use Rattle.pv_model.specs.Needs.{needs, needs_of_mode, needs_cpath}
 use Rattle.pv_model.specs.Numbered.{Numbered, with_number, least_free, present, keep}
 use Rattle.pv_model.specs.Program.{Next, inside, calls_for, operand, start_of_origin, jump_if, perform, next_by, next}
@@ -49,17 +49,17 @@ use Rattle.pv_model.specs.Step.{Stepped, step, step_of, step_by, run}
 use Rattle.pv_model.specs.Trace.{Line, call_lines, moved_words, buffer_of, line, call_word, nami_word, gio_word, gave, Word, walked_paths, promise_words, unveil_words, end_words}
 use Rattle.pv_model.specs.Tree.{Node, file_node, Tree, new_number, with_new_node}
 use Rattle.pv_model.specs.Walks.{Walk}
-use Rattle.pv_laws_trees.specs.Kept.{kept}
+use Rattle.pv_laws_trees.specs.Preserved.{preserved}
 use Rattle.pv_laws_states.proofs.Outcomes.{at_call}
 use Rattle.pv_laws_states.proofs.Rests
 use Rattle.pv_laws_access.proofs.Ends.{step-is, step-gone}
 use Rattle.pv_laws_answers.specs.Begun.{record_begun, begun_with, is_plain_call, RunsPlainly, is_listed_in}
-use Rattle.pv_laws_answers.specs.Stints.{is_counted_for}
-use Rattle.pv_laws_answers.specs.Wanted.{is_want, tells_want}
+use Rattle.pv_laws_answers.specs.ProcessImages.{is_counted_for}
+use Rattle.pv_laws_answers.specs.Wanted.{is_want, reports_need}
 use Rattle.pv_laws_answers.proofs.Asking.{met-answer}
 use Rattle.pv_laws_answers.proofs.Listed.{all-in}
 use Rattle.pv_laws_answers.proofs.Otherwise.{next-call, needed-by, firsts-held, met-in}
-use Rattle.pv_laws_answers.proofs.Wants.{unpledged, has-all, any-append, want-told}
+use Rattle.pv_laws_answers.proofs.Wants.{unpledged, has-all, any-append, want-reported}
 
 module _ (held : Option Promises) where
   abbrev pub f : Process → Process
@@ -172,7 +172,7 @@ module _ (held : Option Promises) where
   empty-changed [] = refl
   empty-changed (e ∷ es) = refl
 
-  -- what is held is the same
+  -- the references are the same
   all-changed : (h : Process → List ℕ) → ((p : Process) → h (f p) ≡ h p) → (es : List (ℕ × ProcessRecord)) → flat_map (λ p. h p.1) (live_processes (changed es)) ≡ flat_map (λ p. h p.1) (live_processes es)
   all-changed h same [] = refl
   all-changed h same ((j, live p) ∷ es) = ap₂ (λ (a b : List ℕ). a ++ b) (same p) (all-changed h same es)
@@ -180,10 +180,10 @@ module _ (held : Option Promises) where
 
   -- ---- states
 
-  pub trim-changed : (s : State) → trim (change s) ≡ change (trim s)
-  unfolding trim
-  trim-changed s =
-      ap₂ (λ (hs us : List ℕ). record s { tree = kept s.tree (hs ++ map (λ x. x.node) (present (keep (among us) s.files))); files = keep (among us) s.files; processes = changed s.processes })
+  pub collect-changed : (s : State) → collect (change s) ≡ change (collect s)
+  unfolding collect
+  collect-changed s =
+      ap₂ (λ (hs us : List ℕ). record s { tree = preserved s.tree (hs ++ map (λ x. x.node) (present (keep (among us) s.files))); files = keep (among us) s.files; processes = changed s.processes })
       (all-changed held_by_process (λ p. refl) s.processes) (all-changed used_files (λ p. refl) s.processes)
 
   pub process-changed : (s : State) (k : ℕ) → process_at (change s) k ≡ option_map f (process_at s k)
@@ -217,7 +217,7 @@ module _ (held : Option Promises) where
       lives : is_some (live_process (find nat_cmp 1 (changed away))) ≡ is_some (live_process (find nat_cmp 1 away))
       lives = ap (λ o. is_some (live_process o)) (find-changed 1 away) ∙ lives-same (find nat_cmp 1 away)
 
-  -- ---- attempts side by side
+  -- ---- attempts in both states
 
   record IsBeside (x y : State) : Type 0 where
     same : y ≡ change x
@@ -262,7 +262,7 @@ module _ (held : Option Promises) where
   room-beside x y n is =
       subst (λ z. Beside (with_room x >>= (λ roomy. answers roomy n)) (with_room z >>= (λ roomy. answers roomy n))) (sym is.same)
       (subst (λ t. Beside (with_room x >>= (λ roomy. answers roomy n)) ((refuse_if EFBIG (is_too_long t) >> (refuse_if ENOSPC (not (fits t)) >> give (change x))) >>= (λ roomy. answers roomy n)))
-      (sym (ap (λ (z : State). z.tree) (trim-changed x))) (by (is_too_long (trim x).tree) (fits (trim x).tree)))
+      (sym (ap (λ (z : State). z.tree) (collect-changed x))) (by (is_too_long (collect x).tree) (fits (collect x).tree)))
     where
       by : (long fit : Bool) → Beside ((refuse_if EFBIG long >> (refuse_if ENOSPC (not fit) >> give x)) >>= (λ roomy. answers roomy n))
           ((refuse_if EFBIG long >> (refuse_if ENOSPC (not fit) >> give (change x))) >>= (λ roomy. answers roomy n))
@@ -395,14 +395,14 @@ module _ (held : Option Promises) where
     outcome : b.outcome ≡ a.outcome
     walks : b.walks ≡ a.walks
 
-  trimmed-update : (x : State) (pid : ℕ) (h : Process → Process) → ((p : Process) → h (f p) ≡ f (h p)) → trim (update (change x) pid h) ≡ change (trim (update x pid h))
-  trimmed-update x pid h apart = ap trim (update-changed x pid h apart) ∙ trim-changed (update x pid h)
+  collected-update : (x : State) (pid : ℕ) (h : Process → Process) → ((p : Process) → h (f p) ≡ f (h p)) → collect (update (change x) pid h) ≡ change (collect (update x pid h))
+  collected-update x pid h apart = ap collect (update-changed x pid h apart) ∙ collect-changed (update x pid h)
 
   reply-both : (before s : State) (pid : ℕ) (me : Process) (walks : ℕ) (r : Reply) (x : State)
       → BothAnswer (answer_by_reply before s pid me walks r x) (answer_by_reply (change before) (change s) pid (f me) walks r (change x))
-  reply-both before s pid me walks (returns n) x = record { after = trimmed-update x pid (λ p. with_result p (pos n) 0) (λ p. refl); outcome = refl; walks = refl }
-  reply-both before s pid me walks (returns_bytes n bytes) x = record { after = trimmed-update x pid (λ p. with_front bytes (with_result p (pos n) 0)) (λ p. refl); outcome = refl; walks = refl }
-  reply-both before s pid me walks (ends status) x = record { after = ap trim (end-changed x pid me status) ∙ trim-changed (end_process x pid me status); outcome = refl; walks = refl }
+  reply-both before s pid me walks (returns n) x = record { after = collected-update x pid (λ p. with_result p (pos n) 0) (λ p. refl); outcome = refl; walks = refl }
+  reply-both before s pid me walks (returns_bytes n bytes) x = record { after = collected-update x pid (λ p. with_front bytes (with_result p (pos n) 0)) (λ p. refl); outcome = refl; walks = refl }
+  reply-both before s pid me walks (ends status) x = record { after = ap collect (end-changed x pid me status) ∙ collect-changed (end_process x pid me status); outcome = refl; walks = refl }
   reply-both before s pid me walks waits x = record { after = refl; outcome = refl; walks = refl }
 
   attempt-both : (before s : State) (pid : ℕ) (me : Process) (a : Attempt Effect) → BothAnswer (answer_by_attempt before s pid me a) (answer_by_attempt (change before) (change s) pid (f me) (moved a))
@@ -434,7 +434,7 @@ module _ (held : Option Promises) where
           (answer_by_attempt (change s) (change (at_call s pid p)) pid (f (at_next_line p)) e)) (sym row.same)
           (attempt-both s (at_call s pid p) pid (at_next_line p) (effect program_of (at_call s pid p) pid (at_next_line p) call)))))
 
-      -- the bytes that are told are the same
+      -- the reported bytes are the same
       buffers : buffer_of (process_at b.after pid) ≡ buffer_of (process_at a.after pid)
       buffers = ap (λ (y : State). buffer_of (process_at y pid)) answers-both.after ∙ ap buffer_of (process-changed a.after pid) ∙ by (process_at a.after pid)
         where
@@ -579,37 +579,37 @@ module _ (program_of : Bytes → Option Program) where
   bare-met : (v : State) → IsBare v → (pid : ℕ) (p : Process) (ns : List Need) → process_at v pid ≡ Some p → missing_promise p.promises ns ≡ None
   bare-met v bare pid p ns at = ap (λ o. missing_promise o ns) (bare-promises v bare pid p at) ∙ unpledged ns
 
-  -- a step without promises leaves none
+  -- a step without promises leaves no promises
   bare-step : (v : State) (pid : ℕ) → IsBare v → IsPlainStep v pid → IsBare (step program_of v pid).after
   bare-step v pid bare plain =
       let both = step-both None program_of v pid (λ p call at is. (plain p call at is, bare-met v bare pid p (needs call) at, unpledged (needs call))) in
       sym (sym (ap (λ y. (step program_of y pid).after) bare) ∙ both.after)
 
-  -- and tells of none that is missing
-  bare-quiet : (v : State) (pid : ℕ) → IsBare v → tells_want (step program_of v pid).lines ≡ false
+  -- a step without promises reports no missing promise
+  bare-quiet : (v : State) (pid : ℕ) → IsBare v → reports_need (step program_of v pid).lines ≡ false
   bare-quiet v pid bare = by (process_at v pid) refl
     where
-      of : (p : Process) → process_at v pid ≡ Some p → (n : Next) → next p ≡ n → tells_want (step program_of v pid).lines ≡ false
-      of p at (inside q) is = ap (λ (y : Stepped). tells_want y.lines) (step-is program_of v pid p at ∙ ap (step_by program_of v pid p) is)
-      of p at (calls_for call) is = (want-told program_of v pid p call at is).1 (inl (bare-promises v bare pid p at))
+      of : (p : Process) → process_at v pid ≡ Some p → (n : Next) → next p ≡ n → reports_need (step program_of v pid).lines ≡ false
+      of p at (inside q) is = ap (λ (y : Stepped). reports_need y.lines) (step-is program_of v pid p at ∙ ap (step_by program_of v pid p) is)
+      of p at (calls_for call) is = (want-reported program_of v pid p call at is).1 (inl (bare-promises v bare pid p at))
 
-      by : (o : Option Process) → process_at v pid ≡ o → tells_want (step program_of v pid).lines ≡ false
-      by None gone = ap (λ (y : Stepped). tells_want y.lines) (step-gone program_of v pid gone)
+      by : (o : Option Process) → process_at v pid ≡ o → reports_need (step program_of v pid).lines ≡ false
+      by None gone = ap (λ (y : Stepped). reports_need y.lines) (step-gone program_of v pid gone)
       by (Some p) at = of p at (next p) refl
 
-  want-append : (ls ms : List Line) → tells_want (ls ++ ms) ≡ (tells_want ls || tells_want ms)
+  want-append : (ls ms : List Line) → reports_need (ls ++ ms) ≡ (reports_need ls || reports_need ms)
   want-append ls ms = any-append (λ l. is_want l.word) ls ms
 
-  bare-run : (pids : List ℕ) (v : State) → IsBare v → RunsPlainly program_of pids v → tells_want (run program_of pids v).lines ≡ false
+  bare-run : (pids : List ℕ) (v : State) → IsBare v → RunsPlainly program_of pids v → reports_need (run program_of pids v).lines ≡ false
   bare-run [] v bare plain = refl
   bare-run (pid ∷ pids) v bare plain =
       want-append (step program_of v pid).lines (run program_of pids (step program_of v pid).after).lines
-      ∙ ap (λ b. b || tells_want (run program_of pids (step program_of v pid).after).lines) (bare-quiet v pid bare)
+      ∙ ap (λ b. b || reports_need (run program_of pids (step program_of v pid).after).lines) (bare-quiet v pid bare)
       ∙ bare-run pids (step program_of v pid).after (bare-step v pid bare plain.0) plain.1
 
   -- ---- with promises
 
-  -- what is listed for the rest of a run is listed for the run
+  -- a promise listed for the rest of a run is listed for the run
   listed-later : (a : Promise) (pid : ℕ) (o : Option Asked) (rest : List (ℕ × Asked)) → is_listed_in a rest ≡ true → is_listed_in a (and_asked program_of pid o rest) ≡ true
   listed-later a pid None rest is = is
   listed-later a pid (Some now) rest is = or_right (list_any (same_promise a) now.promises) (is_listed_in a rest) is
@@ -640,7 +640,7 @@ module _ (program_of : Bytes → Option Program) where
         (λ a is. listed a (listed-later a pid (asked program_of v pid) (asked_in program_of pids (step program_of v pid).after) is)))
 
     module _ (a : Promise) (lacks : contains set a ≡ false) (wpath : a ≡ Rpath → contains set Wpath ≡ false) where
-      -- what is asked for it is not met
+      -- a need for which the promise is listed is not met
       unmet : (call : Call) → list_any (same_promise a) (promises_needed call) ≡ true → missing_promise (Some set) (needs call) ≡ None → ⊥
       unmet call needs' none =
           let h = needed-by (needs call) a needs' in
@@ -662,44 +662,44 @@ module _ (program_of : Bytes → Option Program) where
               let bad : true ≡ false = sym met ∙ ap (λ os. is_met (Some set) (b ∷ os)) two.1 ∙ ap (λ x. x || (contains set Wpath || false)) (same b counted) ∙ ap (λ x. x || false) (wpath rpath) in cc bad)
               shape
 
-      told-run : (pids : List ℕ) (v : State) → IsBare v → RunsPlainly program_of pids v → is_listed_in a (asked_in program_of pids v) ≡ true → tells_want (run program_of pids (with_set v)).lines ≡ true
+      reported-run : (pids : List ℕ) (v : State) → IsBare v → RunsPlainly program_of pids v → is_listed_in a (asked_in program_of pids v) ≡ true → reports_need (run program_of pids (with_set v)).lines ≡ true
       unfolding asked
-      told-run [] v bare plain listed = cc listed
-      told-run (pid ∷ pids) v bare plain listed = by (process_at v pid) refl (told-run pids (step program_of v pid).after (bare-step v pid bare plain.0) plain.1)
+      reported-run [] v bare plain listed = cc listed
+      reported-run (pid ∷ pids) v bare plain listed = by (process_at v pid) refl (reported-run pids (step program_of v pid).after (bare-step v pid bare plain.0) plain.1)
         where
-          told-now : tells_want (step program_of (with_set v) pid).lines ≡ true → tells_want (run program_of (pid ∷ pids) (with_set v)).lines ≡ true
-          told-now is =
+          reported-now : reports_need (step program_of (with_set v) pid).lines ≡ true → reports_need (run program_of (pid ∷ pids) (with_set v)).lines ≡ true
+          reported-now is =
               want-append (step program_of (with_set v) pid).lines (run program_of pids (step program_of (with_set v) pid).after).lines
-              ∙ or_left (tells_want (step program_of (with_set v) pid).lines) (tells_want (run program_of pids (step program_of (with_set v) pid).after).lines) is
+              ∙ or_left (reports_need (step program_of (with_set v) pid).lines) (reports_need (run program_of pids (step program_of (with_set v) pid).after).lines) is
 
-          told-later : ((p : Process) (call : Call) → process_at v pid ≡ Some p → next p ≡ calls_for call
+          reported-later : ((p : Process) (call : Call) → process_at v pid ≡ Some p → next p ≡ calls_for call
               → (is_plain_call call ≡ true) × (missing_promise p.promises (needs call) ≡ None) × (missing_promise (Some set) (needs call) ≡ None))
-              → tells_want (run program_of pids (with_set (step program_of v pid).after)).lines ≡ true → tells_want (run program_of (pid ∷ pids) (with_set v)).lines ≡ true
-          told-later held_all is =
+              → reports_need (run program_of pids (with_set (step program_of v pid).after)).lines ≡ true → reports_need (run program_of (pid ∷ pids) (with_set v)).lines ≡ true
+          reported-later held_all is =
               want-append (step program_of (with_set v) pid).lines (run program_of pids (step program_of (with_set v) pid).after).lines
-              ∙ or_right (tells_want (step program_of (with_set v) pid).lines) (tells_want (run program_of pids (step program_of (with_set v) pid).after).lines)
-              (ap (λ y. tells_want (run program_of pids y).lines) (step-both (Some set) program_of v pid held_all).after ∙ is)
+              ∙ or_right (reports_need (step program_of (with_set v) pid).lines) (reports_need (run program_of pids (step program_of (with_set v) pid).after).lines)
+              (ap (λ y. reports_need (run program_of pids y).lines) (step-both (Some set) program_of v pid held_all).after ∙ is)
 
           -- a step that makes no call
           no-call : asked program_of v pid ≡ None → ((p : Process) (call : Call) → process_at v pid ≡ Some p → next p ≡ calls_for call → ⊥)
-              → (is_listed_in a (asked_in program_of pids (step program_of v pid).after) ≡ true → tells_want (run program_of pids (with_set (step program_of v pid).after)).lines ≡ true)
-              → tells_want (run program_of (pid ∷ pids) (with_set v)).lines ≡ true
+              → (is_listed_in a (asked_in program_of pids (step program_of v pid).after) ≡ true → reports_need (run program_of pids (with_set (step program_of v pid).after)).lines ≡ true)
+              → reports_need (run program_of (pid ∷ pids) (with_set v)).lines ≡ true
           no-call none never more =
-              told-later (λ p call at is. absurd (never p call at is))
+              reported-later (λ p call at is. absurd (never p call at is))
               (more (sym (ap (λ o. is_listed_in a (and_asked program_of pid o (asked_in program_of pids (step program_of v pid).after))) none) ∙ listed))
 
           of-call : (p : Process) (call : Call) → process_at v pid ≡ Some p → next p ≡ calls_for call → (o : Option Promise) → missing_promise (Some set) (needs call) ≡ o
-              → (is_listed_in a (asked_in program_of pids (step program_of v pid).after) ≡ true → tells_want (run program_of pids (with_set (step program_of v pid).after)).lines ≡ true)
-              → tells_want (run program_of (pid ∷ pids) (with_set v)).lines ≡ true
-          of-call p call at is (Some b) lack more = told-now (told (tells_want (step program_of (with_set v) pid).lines) refl)
+              → (is_listed_in a (asked_in program_of pids (step program_of v pid).after) ≡ true → reports_need (run program_of pids (with_set (step program_of v pid).after)).lines ≡ true)
+              → reports_need (run program_of (pid ∷ pids) (with_set v)).lines ≡ true
+          of-call p call at is (Some b) lack more = reported-now (reported (reports_need (step program_of (with_set v) pid).lines) refl)
             where
-              told : (x : Bool) → tells_want (step program_of (with_set v) pid).lines ≡ x → tells_want (step program_of (with_set v) pid).lines ≡ true
-              told true yes' = yes'
-              told false quiet =
-                  let has = (want-told program_of (with_set v) pid (f (Some set) p) call (process-changed (Some set) v pid ∙ ap (option_map (f (Some set))) at) (next-call p (Some set) p.table call is)).0 quiet in
+              reported : (x : Bool) → reports_need (step program_of (with_set v) pid).lines ≡ x → reports_need (step program_of (with_set v) pid).lines ≡ true
+              reported true yes' = yes'
+              reported false quiet =
+                  let has = (want-reported program_of (with_set v) pid (f (Some set) p) call (process-changed (Some set) v pid ∙ ap (option_map (f (Some set))) at) (next-call p (Some set) p.table call is)).0 quiet in
                   let bad : None ≡ Some b = sym ((has-all (Some set) call).1 has) ∙ lack in cc bad
           of-call p call at is None met more =
-              told-later (λ q c there next_is.
+              reported-later (λ q c there next_is.
               let both : Some p ≡ Some q = sym at ∙ there in
               let one : p ≡ q = cc both in
               let calls : calls_for call ≡ calls_for c = sym is ∙ ap next one ∙ next_is in
@@ -716,8 +716,8 @@ module _ (program_of : Bytes → Option Program) where
           inside-asked p q at is = ap (asked_of program_of v pid) at ∙ ap (asked_next program_of v pid p) is
 
           by-next : (p : Process) → process_at v pid ≡ Some p → (n : Next) → next p ≡ n
-              → (is_listed_in a (asked_in program_of pids (step program_of v pid).after) ≡ true → tells_want (run program_of pids (with_set (step program_of v pid).after)).lines ≡ true)
-              → tells_want (run program_of (pid ∷ pids) (with_set v)).lines ≡ true
+              → (is_listed_in a (asked_in program_of pids (step program_of v pid).after) ≡ true → reports_need (run program_of pids (with_set (step program_of v pid).after)).lines ≡ true)
+              → reports_need (run program_of (pid ∷ pids) (with_set v)).lines ≡ true
           by-next p at (inside q) is more =
               no-call (inside-asked p q at is) (λ r call there next_is.
               let both : Some p ≡ Some r = sym at ∙ there in
@@ -726,8 +726,8 @@ module _ (program_of : Bytes → Option Program) where
           by-next p at (calls_for call) is more = of-call p call at is (missing_promise (Some set) (needs call)) refl more
 
           by : (o : Option Process) → process_at v pid ≡ o
-              → (is_listed_in a (asked_in program_of pids (step program_of v pid).after) ≡ true → tells_want (run program_of pids (with_set (step program_of v pid).after)).lines ≡ true)
-              → tells_want (run program_of (pid ∷ pids) (with_set v)).lines ≡ true
+              → (is_listed_in a (asked_in program_of pids (step program_of v pid).after) ≡ true → reports_need (run program_of pids (with_set (step program_of v pid).after)).lines ≡ true)
+              → reports_need (run program_of (pid ∷ pids) (with_set v)).lines ≡ true
           by None gone more = no-call (no-asked gone) (λ p call at is. let bad : None ≡ Some p = sym gone ∙ at in cc bad) more
           by (Some p) at more = by-next p at (next p) refl more
 
@@ -741,7 +741,7 @@ module _ (program_of : Bytes → Option Program) where
       → is_listed_in a (asked_in program_of pids (begun_with None s)) ≡ true → contains set a ≡ false → (a ≡ Rpath → contains set Wpath ≡ false)
       → (run program_of pids (begun_with (Some set) s)).lines ≢ (run program_of pids (begun_with None s)).lines
   less-changes pids s set a plain listed lacks wpath same =
-      let told = told-run set a lacks wpath pids (begun_with None s) (begun-again None s) plain listed in
+      let reported = reported-run set a lacks wpath pids (begun_with None s) (begun-again None s) plain listed in
       let bad : true ≡ false =
-      sym told ∙ ap (λ y. tells_want (run program_of pids y).lines) (begun-again (Some set) s) ∙ ap tells_want same ∙ bare-run pids (begun_with None s) (begun-again None s) plain in
+      sym reported ∙ ap (λ y. reports_need (run program_of pids y).lines) (begun-again (Some set) s) ∙ ap reports_need same ∙ bare-run pids (begun_with None s) (begun-again None s) plain in
       cc bad

@@ -1,4 +1,4 @@
--- What stands beside the lines of a run.
+-- The lines of `explain` that are not lines of the run.
 use Rattle.std.proofs.Common.{◌≡◌, ℕ, ◌+◌, List, [], ◌∷◌, ◌++◌, map, flat_map, codes, Option, None, Some, refl, ap, sym, ◌∙◌}
 use Rattle.std.specs.Prelude.{not}
 use Rattle.std.proofs.lemmas.List.{map-append}
@@ -7,7 +7,7 @@ use Rattle.pv_model.specs.declared.call.Call.{Call}
 use Rattle.pv_model.specs.Answer.{Answered, answer}
 use Rattle.pv_model.specs.Answers.Explain.{unveil_reasons, remarks, with_remarks, explained_of, explained_next, explained_step, set_text, settings_next, explain_from, explain_lines}
 use Rattle.pv_model.specs.Answers.Lines.{AnswerLine, answer_line, of_trace, answer_bytes}
-use Rattle.pv_model.specs.Answers.ProcessRecord.{standing_lines, standings}
+use Rattle.pv_model.specs.Answers.ProcessRecord.{location_lines, locations}
 use Rattle.pv_model.specs.Answers.Settings.{Settings, settings_of}
 use Rattle.pv_model.specs.Bytes.{Bytes}
 use Rattle.pv_model.specs.Program.{Next, inside, calls_for, next}
@@ -16,17 +16,17 @@ use Rattle.pv_model.specs.Step.{step, step_of, step_by, run, run_text}
 use Rattle.pv_model.specs.Trace.{Word, call_word, nami_word, pldg_word, unvl_word, gio_word, ret_word, psig_word, wait_word, gone_word, Line, line, call_lines, line_bytes, trace_bytes}
 use Rattle.pv_laws_answers.specs.Explained.{only_explains, without_explaining}
 
--- what is left of two lists
+-- the remaining lines of a concatenation
 left-append : (ls ms : List AnswerLine) → without_explaining (ls ++ ms) ≡ without_explaining ls ++ without_explaining ms
 left-append ls ms = filter-append (λ l. not (only_explains l)) ls ms
 
--- a line of a trace is left
+-- a line of a trace remains
 stays : (pid : ℕ) (w : Word) (rest : List AnswerLine) → without_explaining (of_trace (line pid w) ∷ rest) ≡ of_trace (line pid w) ∷ without_explaining rest
 stays pid (call_word call) rest = refl
 stays pid (nami_word path) rest = refl
 stays pid (pldg_word call promise verdict) rest = refl
 stays pid (unvl_word verdict) rest = refl
-stays pid (gio_word way bytes) rest = refl
+stays pid (gio_word witness bytes) rest = refl
 stays pid (ret_word call returned) rest = refl
 stays pid psig_word rest = refl
 stays pid wait_word rest = refl
@@ -37,12 +37,12 @@ reasons-go pid [] = refl
 reasons-go pid (text ∷ texts) = reasons-go pid texts
 
 module _ (s : State) (pid : ℕ) (p : Process) (source : ℕ → Bytes) (call : Call) (a : Answered) where
-  -- what is said after it is not
+  -- its explanations do not remain
   remarks-go : (w : Word) → without_explaining (remarks s pid p source call a w) ≡ []
   remarks-go (pldg_word by promise verdict) = refl
   remarks-go (unvl_word verdict) = reasons-go pid (unveil_reasons s p source call a.walks verdict)
-  remarks-go (gio_word way []) = refl
-  remarks-go (gio_word way (b ∷ bs)) = refl
+  remarks-go (gio_word witness []) = refl
+  remarks-go (gio_word witness (b ∷ bs)) = refl
   remarks-go (call_word by) = refl
   remarks-go (nami_word path) = refl
   remarks-go (ret_word by returned) = refl
@@ -59,19 +59,19 @@ module _ (s : State) (pid : ℕ) (p : Process) (source : ℕ → Bytes) (call : 
       ∙ ap (λ rest. rest ++ without_explaining (flat_map (with_remarks s pid p source call a) ls)) (remarks-go l.word)
       ∙ remarked ls)
 
-standing-goes : (pid : ℕ) (r : ProcessRecord) → without_explaining (standing_lines pid r) ≡ []
-standing-goes pid (live p) = refl
-standing-goes pid (ended_record parent status) = refl
+location-goes : (pid : ℕ) (r : ProcessRecord) → without_explaining (location_lines pid r) ≡ []
+location-goes pid (live p) = refl
+location-goes pid (ended_record parent status) = refl
 
-standings-go : (s : State) → without_explaining (standings s) ≡ []
-unfolding standings
-standings-go s = by s.processes
+locations-go : (s : State) → without_explaining (locations s) ≡ []
+unfolding locations
+locations-go s = by s.processes
   where
-    by : (rs : List (ℕ × ProcessRecord)) → without_explaining (flat_map (λ r. standing_lines r.0 r.1) rs) ≡ []
+    by : (rs : List (ℕ × ProcessRecord)) → without_explaining (flat_map (λ r. location_lines r.0 r.1) rs) ≡ []
     by [] = refl
     by (r ∷ rs) =
-        left-append (standing_lines r.0 r.1) (flat_map (λ r. standing_lines r.0 r.1) rs)
-        ∙ ap (λ ls. ls ++ without_explaining (flat_map (λ r. standing_lines r.0 r.1) rs)) (standing-goes r.0 r.1)
+        left-append (location_lines r.0 r.1) (flat_map (λ r. location_lines r.0 r.1) rs)
+        ∙ ap (λ ls. ls ++ without_explaining (flat_map (λ r. location_lines r.0 r.1) rs)) (location-goes r.0 r.1)
         ∙ by rs
 
 module _ (program_of : Bytes → Option Program) where
@@ -88,7 +88,7 @@ module _ (program_of : Bytes → Option Program) where
       of (Some p) = by p (next p)
 
   from : (k : ℕ) (all : Settings) (pids : List ℕ) (s : State) → without_explaining (explain_from program_of k all pids s) ≡ map of_trace (run program_of pids s).lines
-  from k all [] s = standings-go s
+  from k all [] s = locations-go s
   from k all (pid ∷ pids) s =
       let source = set_text program_of (settings_of all pid) in
       let later = explain_from program_of (k + 1) (settings_next program_of s pid all) pids (step program_of s pid).after in

@@ -26,15 +26,15 @@ use Rattle.pv_model.specs.Unveil.{Table, entry_for, target_of}
 use Rattle.pv_model.specs.Walks.{unveil_walk}
 use Rattle.pv_model.proofs.Runs.{run-append}
 use Rattle.pv_laws_states.specs.Courses.{is_unveil}
-use Rattle.pv_laws_states.specs.States.{SpellsPrograms, IsWhole}
+use Rattle.pv_laws_states.specs.States.{EncodesPrograms, IsValid}
 use Rattle.pv_laws_states.proofs.BySteps.{run-keeps_whole}
 use Rattle.pv_laws_states.proofs.Outcomes.{next-number}
 use Rattle.pv_laws_states.proofs.Processes.{find-put_same, find-put_other, process_at-same, process_at-other}
 use Rattle.pv_laws_access.specs.Growth.{begins_image, HasExecuted}
 use Rattle.pv_laws_access.proofs.Ends.{alone-same, whole-in_order, not_next, IsSameNext, same-next, step-is, step-gone}
 use Rattle.pv_laws_access.proofs.Images.{tables-stay, others-keep, execve-leaves}
-use Rattle.pv_laws_secrecy.specs.Origins.{origin}
-use Rattle.pv_laws_secrecy.proofs.Provenance.{heirs}
+use Rattle.pv_laws_access.specs.Origins.{origin}
+use Rattle.pv_laws_access.proofs.Provenance.{heirs}
 use Rattle.pv_laws_answers.specs.Settings.{HasNoTables, settings_along, SetsEntry, begins_by, begins_program_of, StaysSet, WasSet}
 use Rattle.pv_laws_answers.proofs.Added.{IsWith, set_at-with, with-length}
 use Rattle.pv_laws_answers.proofs.Letters.{or-false}
@@ -48,7 +48,7 @@ put-same all k mine = ap (λ o. unwrap_or o []) (find-put_same k mine all)
 put-other : (all : Settings) (j : ℕ) (mine : List Setting) (k : ℕ) → k ≢ j → settings_of (put nat_cmp j mine all) k ≡ settings_of all k
 put-other all j mine k apart = ap (λ o. unwrap_or o []) (find-put_other k j mine all apart)
 
--- settings after a step in which an execve succeeded, or none did
+-- the settings after a step, which may be a successful execve
 abbrev aged : Bool → List Setting → List Setting
 aged b mine = if b then map of_earlier_program mine else mine
 
@@ -91,7 +91,7 @@ aged-earlier false old = sym (or-false old.earlier)
 
 -- ---- one step
 
-module _ (program_of : Bytes → Option Program) (s : State) (pid : ℕ) (whole : IsWhole s) (all : Settings) where
+module _ (program_of : Bytes → Option Program) (s : State) (pid : ℕ) (whole : IsValid s) (all : Settings) where
   abbrev after : State
   after = (step program_of s pid).after
 
@@ -101,11 +101,11 @@ module _ (program_of : Bytes → Option Program) (s : State) (pid : ℕ) (whole 
   abbrev all_next : Settings
   all_next = settings_next program_of s pid all
 
-  -- the step sets no entry of process k, with this number
+  -- the step does not set the entry of process k with this number
   abbrev SetsNot : ℕ → ℕ → Type 0
   SetsNot k number = (me : Process) (e : Target × Perms) → SetsEntry program_of s pid me number e → k ≡ pid → ⊥
 
-  -- where the entries and the settings of a process after the step come from
+  -- the origin of the entries and the settings of a process after the step
   data ComesOf (k : ℕ) (q : Process) : Type 0 where
     carries : (j : ℕ) (p : Process) (b : Bool) → origin s pid k ≡ j → process_at s j ≡ Some p → entries_of_table q.table ≡ entries_of_table p.table
         → settings_of all_next k ≡ aged b (settings_of all j) → begins_program_of program_of s pid k ≡ b → ((number : ℕ) → SetsNot k number) → ComesOf k q
@@ -126,7 +126,7 @@ module _ (program_of : Bytes → Option Program) (s : State) (pid : ℕ) (whole 
   here-begins : (me : Process) → process_at s pid ≡ Some me → begins_program_of program_of s pid pid ≡ begins_image (next me) outcome
   here-begins me at = ap (λ b. b && begins_by program_of s pid (process_at s pid)) (eq-eqb pid pid refl) ∙ ap (begins_by program_of s pid) at
 
-  -- ---- where the process is not live
+  -- ---- if the process is not live
 
   gone : process_at s pid ≡ None → (k : ℕ) (q : Process) → process_at after k ≡ Some q → ComesOf k q
   gone none k q there =
@@ -166,8 +166,8 @@ module _ (program_of : Bytes → Option Program) (s : State) (pid : ℕ) (whole 
       stepped : step program_of s pid ≡ step_by program_of s pid me (calls_for call)
       stepped = step-is program_of s pid me at ∙ ap (step_by program_of s pid me) is
 
-      told : outcome ≡ (answer program_of s pid call).outcome
-      told = ap (λ (w : Stepped). w.outcome) stepped
+      reported : outcome ≡ (answer program_of s pid call).outcome
+      reported = ap (λ (w : Stepped). w.outcome) stepped
 
       left : (k : ℕ) → process_at after k ≡ process_at (answer program_of s pid call).after k
       left k = ap (λ (w : Stepped). process_at w.after k) stepped
@@ -175,10 +175,10 @@ module _ (program_of : Bytes → Option Program) (s : State) (pid : ℕ) (whole 
       next-is : all_next ≡ settings_after s pid me after all call outcome
       next-is = ap (settings_of_step program_of s pid all) at ∙ ap (settings_by program_of s pid all me) is
 
-      -- a fork gives another number than that of a live process
+      -- a fork returns a number other than that of a live process
       free : (k : ℕ) (p : Process) → process_at s k ≡ Some p → (child : ℕ) → call ≡ TheCall.Fork → outcome ≡ Value child → k ≢ child
       free k p there child forks answered same =
-          let number = next-number program_of s pid child (subst (λ c. (answer program_of s pid c).outcome ≡ Value child) forks (sym told ∙ answered)) in
+          let number = next-number program_of s pid child (subst (λ c. (answer program_of s pid c).outcome ≡ Value child) forks (sym reported ∙ answered)) in
           not_next s (whole-in_order s whole) k p there (same ∙ number.next)
 
       no_set : is_unveil call ≡ false → (k number : ℕ) → SetsNot k number
@@ -189,7 +189,7 @@ module _ (program_of : Bytes → Option Program) (s : State) (pid : ℕ) (whole 
           let same_call : call ≡ TheCall.Unveil (Some set.path) (Some set.text) = cc calls in
           let bad : true ≡ false = ap is_unveil (sym same_call) ∙ plain in cc bad
 
-      -- ---- of another process
+      -- ---- another process
 
       other-settings : (k : ℕ) → k ≢ pid → (c : Call) (o : Outcome) → ((child : ℕ) → c ≡ TheCall.Fork → o ≡ Value child → k ≢ child)
           → settings_of (settings_after s pid me after all c o) k ≡ settings_of all k
@@ -201,11 +201,11 @@ module _ (program_of : Bytes → Option Program) (s : State) (pid : ℕ) (whole 
 
       beside : (k : ℕ) (q p : Process) → k ≢ pid → process_at s k ≡ Some p → process_at after k ≡ Some q → ComesOf k q
       beside k q p apart old there =
-          let kept = others-keep program_of s pid k p (whole-in_order s whole) apart old in
-          let both : Some kept.0 ≡ Some q = sym kept.1 ∙ there in
-          let same : kept.0 ≡ q = cc both in
+          let preserved = others-keep program_of s pid k p (whole-in_order s whole) apart old in
+          let both : Some preserved.0 ≡ Some q = sym preserved.1 ∙ there in
+          let same : preserved.0 ≡ q = cc both in
           carries k p false (own-origin k p old) old
-          (ap (λ (y : Process). entries_of_table y.table) (sym same) ∙ ap entries_of_table (alone-same p kept.0 kept.2).table)
+          (ap (λ (y : Process). entries_of_table y.table) (sym same) ∙ ap entries_of_table (alone-same p preserved.0 preserved.2).table)
           (ap (λ a. settings_of a k) next-is ∙ other-settings k apart call outcome (free k p old)) (apart-begins k apart) (λ number me e set here. apart here)
 
       born : (k : ℕ) (q : Process) → k ≢ pid → process_at s k ≡ None → process_at after k ≡ Some q → ComesOf k q
@@ -221,7 +221,7 @@ module _ (program_of : Bytes → Option Program) (s : State) (pid : ℕ) (whole 
           let met = subst (λ (y : Process). missing_promise y.promises (needs TheCall.Fork) ≡ None) (sym one)
           (subst (λ c. missing_promise h.p.promises (needs c) ≡ None) f.comes f.held) in
           let child = fork-born program_of s pid me k q at met fresh apart (subst (λ c. process_at (answer program_of s pid c).after k ≡ Some q) forks (sym (left k) ∙ there)) in
-          let answered : outcome ≡ Value k = told ∙ ap (λ c. (answer program_of s pid c).outcome) forks ∙ child.0 in
+          let answered : outcome ≡ Value k = reported ∙ ap (λ c. (answer program_of s pid c).outcome) forks ∙ child.0 in
           carries pid me false (child-origin k fresh) at (ap entries_of_table child.1)
           (ap (λ a. settings_of a k) (next-is ∙ ap (λ c. settings_after s pid me after all c outcome) forks ∙ ap (settings_after s pid me after all TheCall.Fork) answered) ∙ forked k)
           (apart-begins k apart) (λ number me e set here. apart here)
@@ -229,7 +229,7 @@ module _ (program_of : Bytes → Option Program) (s : State) (pid : ℕ) (whole 
           forked : (k : ℕ) → settings_of (settings_after s pid me after all TheCall.Fork (Value k)) k ≡ settings_of all pid
           forked k = put-same all k (settings_of all pid)
 
-      -- ---- of the caller
+      -- ---- the caller
 
       module _ (q : Process) (there : process_at after pid ≡ Some q) where
         still-settings : (c : Call) (o : Outcome) → is_unveil c ≡ false → begins_image (calls_for c) o ≡ false → ((child : ℕ) → c ≡ TheCall.Fork → o ≡ Value child → pid ≢ child)
@@ -243,9 +243,9 @@ module _ (program_of : Bytes → Option Program) (s : State) (pid : ℕ) (whole 
         stays : is_unveil call ≡ false → begins_image (calls_for call) outcome ≡ false → ComesOf pid q
         stays plain quiet =
             let begins : begins_image (next me) outcome ≡ false = ap (λ n. begins_image n outcome) is ∙ quiet in
-            let kept = tables-stay program_of s pid me q (whole-in_order s whole) at there begins
+            let preserved = tables-stay program_of s pid me q (whole-in_order s whole) at there begins
             (λ c which. let calls : calls_for c ≡ calls_for call = sym which ∙ is in let same : c ≡ call = cc calls in ap is_unveil same ∙ plain) in
-            carries pid me false (own-origin pid me at) at (ap entries_of_table kept.0)
+            carries pid me false (own-origin pid me at) at (ap entries_of_table preserved.0)
             (ap (λ a. settings_of a pid) next-is ∙ still-settings call outcome plain quiet (free pid me at)) (here-begins me at ∙ begins) (no_set plain pid)
 
         executed : (path : Bytes) (n : ℕ) → call ≡ TheCall.Execve path → outcome ≡ Value n → ComesOf pid q
@@ -267,15 +267,15 @@ module _ (program_of : Bytes → Option Program) (s : State) (pid : ℕ) (whole 
 
             by : (t : Option Table) → q.table ≡ t → (o : Option Promises) → me.execpromises ≡ o
                 → ((set : Promises) → me.execpromises ≡ Some set → (q.table ≡ me.table) × (q.locked ≡ me.locked)) → (me.execpromises ≡ None → (q.table ≡ None) × (q.locked ≡ false)) → ComesOf pid q
-            by None none o held kept goes =
+            by None none o held preserved goes =
                 empties (ap entries_of_table none) (new_settings ∙ ap (λ (t : Option Table). if is_some t then map of_earlier_program (settings_of all pid) else []) none)
-            by (Some t) some None held kept goes = let bad : Some t ≡ None = sym some ∙ (goes held).0 in cc bad
-            by (Some t) some (Some set) held kept goes =
-                carries pid me true (own-origin pid me at) at (ap entries_of_table (kept set held).0)
+            by (Some t) some None held preserved goes = let bad : Some t ≡ None = sym some ∙ (goes held).0 in cc bad
+            by (Some t) some (Some set) held preserved goes =
+                carries pid me true (own-origin pid me at) at (ap entries_of_table (preserved set held).0)
                 (new_settings ∙ ap (λ (t : Option Table). if is_some t then map of_earlier_program (settings_of all pid) else []) some)
                 begun (no_set (ap is_unveil executes) pid)
 
-        -- the unveil gave its table an entry
+        -- the unveil set an entry of its table
         unveiled : (path text : Bytes) → call ≡ TheCall.Unveil (Some path) (Some text) → outcome ≡ Value 0 → HasUnveiled s me q path text → ComesOf pid q
         unfolding settings_after
         unveiled path text unveils answered has =
@@ -289,7 +289,7 @@ module _ (program_of : Bytes → Option Program) (s : State) (pid : ℕ) (whole 
               next_is = is ∙ ap calls_for unveils;
               succeeds = answered;
               leads = has.leads;
-              spelled = has.spelled;
+              encoded = has.encoded;
               is = refl;
               after = q;
               left = there;
@@ -309,7 +309,7 @@ module _ (program_of : Bytes → Option Program) (s : State) (pid : ℕ) (whole 
                 ∙ put-same all pid (after_unveil s me (entry_given s me path (process_at after pid)) (settings_of all pid))
                 ∙ ap (λ o. after_unveil s me o (settings_of all pid)) given
 
-        -- the unveil left the table
+        -- the unveil left the table unchanged
         not_unveiled : (path text : Option Bytes) → call ≡ TheCall.Unveil path text → q.table ≡ me.table → settings_after s pid me after all (TheCall.Unveil path text) outcome ≡ all
             → ((p t : Bytes) → TheCall.Unveil path text ≡ TheCall.Unveil (Some p) (Some t) → outcome ≡ Value 0 → ⊥) → ComesOf pid q
         not_unveiled path text unveils same still nothing =
@@ -337,7 +337,7 @@ module _ (program_of : Bytes → Option Program) (s : State) (pid : ℕ) (whole 
         by-unveil (Some path) (Some text) unveils how =
             ⊎_elim
             (λ got. unveiled path text unveils got.0 got.1)
-            (λ kept. not_unveiled (Some path) (Some text) unveils kept.0 (no-value path (Some text) outcome kept.1) (λ p t same value. subst IsNoValue value kept.1)) how
+            (λ preserved. not_unveiled (Some path) (Some text) unveils preserved.0 (no-value path (Some text) outcome preserved.1) (λ p t same value. subst IsNoValue value preserved.1)) how
 
         by-caller : ComesOf pid q
         by-caller = by call refl
@@ -349,7 +349,7 @@ module _ (program_of : Bytes → Option Program) (s : State) (pid : ℕ) (whole 
             by : (c : Call) → call ≡ c → ComesOf pid q
             by (TheCall.Unveil path text) unveils =
                 by-unveil path text unveils
-                (subst (UnveilLeft s me path text q) (sym (told ∙ ap (λ c. (answer program_of s pid c).outcome) unveils))
+                (subst (UnveilLeft s me path text q) (sym (reported ∙ ap (λ c. (answer program_of s pid c).outcome) unveils))
                 (unveil-left program_of s pid me path text q (whole-in_order s whole).ascending at
                 (ap (λ c. process_at (answer program_of s pid c).after pid) (sym unveils) ∙ sym (left pid) ∙ there)))
             by (TheCall.Execve path) executes = quiet path executes outcome refl
@@ -377,7 +377,7 @@ module _ (program_of : Bytes → Option Program) (s : State) (pid : ℕ) (whole 
       by None none = gone none k q there
       by (Some me) at = by-next me at (next me) refl k q there
 
-  -- a step sets one entry
+  -- a step sets at most one entry
   sets-once : (me other : Process) (number j : ℕ) (e f : Target × Perms) → SetsEntry program_of s pid me number e → SetsEntry program_of s pid other j f → j ≡ number
   sets-once me other number j e f a b =
       let both : Some me ≡ Some other = sym a.at ∙ b.at in
@@ -394,7 +394,7 @@ module _ (program_of : Bytes → Option Program) (s : State) (pid : ℕ) (whole 
 -- ---- along a run
 
 module _ (program_of : Bytes → Option Program) where
-  -- a step more in the line
+  -- one more step
   stays-more : (since : List ℕ) (s : State) (entry j k m : ℕ) (earlier b : Bool) (pid : ℕ) → StaysSet program_of entry j k earlier since s
       → origin (run program_of since s).final pid m ≡ k → is_some (process_at (step program_of (run program_of since s).final pid).after m) ≡ true
       → ((me : Process) (e : Target × Perms) → SetsEntry program_of (run program_of since s).final pid me entry e → m ≡ pid → ⊥)
@@ -423,36 +423,36 @@ module _ (program_of : Bytes → Option Program) where
   final-more : (before : List ℕ) (pid : ℕ) (s : State) → (run program_of (before ++ pid ∷ []) s).final ≡ (step program_of (run program_of before s).final pid).after
   final-more before pid s = ap (λ (r : Run). r.final) (run-append program_of before (pid ∷ []) s)
 
-  module _ (spells : SpellsPrograms program_of) (first : State) (whole : IsWhole first) where
+  module _ (encodes : EncodesPrograms program_of) (first : State) (whole : IsValid first) where
     abbrev state_after : List ℕ → State
     state_after pids = (run program_of pids first).final
 
     abbrev settings : List ℕ → Settings
     settings pids = settings_along program_of pids [] first
 
-    -- what the settings of a process say of its entries
-    record IsTold (pids : List ℕ) (k : ℕ) (q : Process) : Type 0 where
+    -- the settings of a process name the unveils of its entries
+    record IsReported (pids : List ℕ) (k : ℕ) (q : Process) : Type 0 where
       long : length (settings_of (settings pids) k) ≡ length (entries_of_table q.table)
       each : (number : ℕ) (setting : Setting) → slice_get (settings_of (settings pids) k) number ≡ Some setting
           → (entry : Target × Perms) × (slice_get (entries_of_table q.table) number ≡ Some entry) × WasSet program_of pids first k number entry setting
 
-    abbrev AllTold : List ℕ → Type 0
-    AllTold pids = (k : ℕ) (q : Process) → process_at (state_after pids) k ≡ Some q → IsTold pids k q
+    abbrev AllReported : List ℕ → Type 0
+    AllReported pids = (k : ℕ) (q : Process) → process_at (state_after pids) k ≡ Some q → IsReported pids k q
 
-    module _ (before : List ℕ) (pid : ℕ) (told : AllTold before) where
+    module _ (before : List ℕ) (pid : ℕ) (reported : AllReported before) where
       abbrev s : State
       s = state_after before
 
       abbrev pids : List ℕ
       pids = before ++ pid ∷ []
 
-      s-whole : IsWhole s
-      s-whole = run-keeps_whole program_of spells before first whole
+      s-whole : IsValid s
+      s-whole = run-keeps_whole program_of encodes before first whole
 
       settings-are : (k : ℕ) → settings_of (settings pids) k ≡ settings_of (settings_next program_of s pid (settings before)) k
       settings-are k = ap (λ a. settings_of a k) (settings-more before pid [] first)
 
-      -- a setting that was there is told of one more step
+      -- an old setting after one more step
       carried : (j k number : ℕ) (q : Process) (entry : Target × Perms) (old : Setting) (b : Bool) → process_at (step program_of s pid).after k ≡ Some q → WasSet program_of before first j number entry old
           → origin s pid k ≡ j → begins_program_of program_of s pid k ≡ b → ((me : Process) (e : Target × Perms) → SetsEntry program_of s pid me number e → k ≡ pid → ⊥)
           → WasSet program_of pids first k number entry (aged_one b old)
@@ -475,9 +475,9 @@ module _ (program_of : Bytes → Option Program) where
                 (subst (λ (x : State). begins_program_of program_of x pid k ≡ b) (sym ends) begins));
           }
 
-      by-step : (k : ℕ) (q : Process) → process_at (step program_of s pid).after k ≡ Some q → ComesOf program_of s pid s-whole (settings before) k q → IsTold pids k q
+      by-step : (k : ℕ) (q : Process) → process_at (step program_of s pid).after k ≡ Some q → ComesOf program_of s pid s-whole (settings before) k q → IsReported pids k q
       by-step k q there (carries j p b from at same settle begins none) =
-          let old = told j p at in
+          let old = reported j p at in
           let now : settings_of (settings pids) k ≡ aged b (settings_of (settings before) j) = settings-are k ∙ settle in
           record {
             long = ap length now ∙ aged-length b (settings_of (settings before) j) ∙ old.long ∙ ap length (sym same);
@@ -496,7 +496,7 @@ module _ (program_of : Bytes → Option Program) where
             each = λ number setting is. let bad : None ≡ Some setting = ap (λ mine. slice_get mine number) (sym now) ∙ is in cc bad;
           }
       by-step k q there (sets p number e here at set with settle begins) =
-          let old = told pid p at in
+          let old = reported pid p at in
           let new : Setting = record { line = p.line; earlier = false } in
           let mine = settings_of (settings before) pid in
           let now : settings_of (settings pids) k ≡ set_at (settings_of (settings before) pid) number (record { line = p.line; earlier = false }) = settings-are k ∙ settle in
@@ -537,26 +537,26 @@ module _ (program_of : Bytes → Option Program) where
                 (cases_eq j number);
           }
 
-      more-told : AllTold pids
-      more-told k q at =
+      more-reported : AllReported pids
+      more-reported k q at =
           let there : process_at (step program_of s pid).after k ≡ Some q = sym (ap (λ (x : State). process_at x k) (final-more before pid first)) ∙ at in
           by-step k q there (comes-of program_of s pid s-whole (settings before) k q there)
 
-    all-told : (before rest : List ℕ) → AllTold before → AllTold (before ++ rest)
-    all-told before [] told = subst AllTold (sym (append-nil before)) told
-    all-told before (pid ∷ rest) told = subst AllTold (append_assoc before (pid ∷ []) rest) (all-told (before ++ pid ∷ []) rest (more-told before pid told))
+    all-reported : (before rest : List ℕ) → AllReported before → AllReported (before ++ rest)
+    all-reported before [] reported = subst AllReported (sym (append-nil before)) reported
+    all-reported before (pid ∷ rest) reported = subst AllReported (append_assoc before (pid ∷ []) rest) (all-reported (before ++ pid ∷ []) rest (more-reported before pid reported))
 
     module _ (bare : HasNoTables first) where
-      first-told : AllTold []
-      first-told k q at = record {
+      first-reported : AllReported []
+      first-reported k q at = record {
         long = ap length (ap entries_of_table (sym (bare k q at)));
         each = λ number setting is. cc is;
       }
 
       pub settings-long : (pids : List ℕ) (k : ℕ) (p : Process) → process_at (state_after pids) k ≡ Some p → length (settings_of (settings pids) k) ≡ length (entries_of_table p.table)
-      settings-long pids k p at = (all-told [] pids first-told k p at).long
+      settings-long pids k p at = (all-reported [] pids first-reported k p at).long
 
-      pub settings-tell : (pids : List ℕ) (k : ℕ) (p : Process) (number : ℕ) (setting : Setting) → process_at (state_after pids) k ≡ Some p
+      pub settings-report : (pids : List ℕ) (k : ℕ) (p : Process) (number : ℕ) (setting : Setting) → process_at (state_after pids) k ≡ Some p
           → slice_get (settings_of (settings pids) k) number ≡ Some setting
           → (entry : Target × Perms) × (slice_get (entries_of_table p.table) number ≡ Some entry) × WasSet program_of pids first k number entry setting
-      settings-tell pids k p number setting at is = (all-told [] pids first-told k p at).each number setting is
+      settings-report pids k p number setting at is = (all-reported [] pids first-reported k p at).each number setting is

@@ -1,4 +1,4 @@
--- What an unveil that succeeds leaves, and what a fork does.
+-- The tables after a successful unveil and after a fork.
 use Rattle.std.proofs.Common.{◌≡◌, ◌≢◌, ◌⊎◌, inl, inr, ℕ, suc, pos, negsuc, Bool, true, false, ◌||◌, nat_le, nat_lt, length, Option, None, Some, Ok, refl, ap, sym, subst, ◌∙◌, ⊎_elim}
 use Rattle.std.specs.FinMap.Entries.{is_sorted}
 use Rattle.std.specs.Ordering.{nat_cmp}
@@ -20,7 +20,7 @@ use Rattle.pv_model.specs.Calls.Processes.{with_result, end_process, child, fork
 use Rattle.pv_model.specs.Calls.Restraints.{entries_of_table, refuse_if_locked, unveil, add_target}
 use Rattle.pv_model.specs.Effect.{Effect, Reply, returns, returns_bytes, ends, waits, answers, walk_from, end_of}
 use Rattle.pv_model.specs.Errno.{errno_number}
-use Rattle.pv_model.specs.Held.{trim}
+use Rattle.pv_model.specs.Held.{collect}
 use Rattle.pv_model.specs.Needs.{needs}
 use Rattle.pv_model.specs.Perms.{no_permissions, read_permissions}
 use Rattle.pv_model.specs.Promises.{missing_promise}
@@ -31,22 +31,22 @@ use Rattle.pv_laws_states.proofs.Attempts.{Leads, leads-demand, leads-walk, lead
 use Rattle.pv_laws_states.proofs.Outcomes.{at_call, by_answer}
 use Rattle.pv_laws_states.proofs.Processes.{process_at-same, process_at-other}
 use Rattle.pv_laws_states.proofs.Rests
-use Rattle.pv_laws_access.proofs.Ends.{process_at-trim, update-live, update-other, ended-not_live}
+use Rattle.pv_laws_access.proofs.Ends.{process_at-collect, update-live, update-other, ended-not_live}
 use Rattle.pv_laws_answers.proofs.Added.{IsAdded, leads-added}
 use Rattle.pv_laws_answers.proofs.Asking.{met-answer}
 
 -- ---- an unveil
 
--- what an unveil of a path with permissions comes to
+-- the result of an unveil of a path with permissions
 record IsUnveiled (s : State) (pid : ℕ) (me : Process) (path text : Bytes) (after : State) (r : Reply) : Type 0 where
   place : Place
   permissions : Perms
   table : Table
   leads : end_of s me (unveil_walk path no_permissions) ≡ Ok place
-  spelled : read_permissions text ≡ Some permissions
+  encoded : read_permissions text ≡ Some permissions
   added : IsAdded (entries_of_table me.table) (target_of s.tree place) permissions table
   left : after ≡ with_process s pid (record me { table = Some table })
-  told : r ≡ returns 0
+  reported : r ≡ returns 0
 
 module _ (s : State) (pid : ℕ) (me : Process) (path text : Bytes) where
   abbrev Unveils : Effect → Type 0
@@ -54,7 +54,7 @@ module _ (s : State) (pid : ℕ) (me : Process) (path text : Bytes) where
 
   leads-unveil : Leads Unveils (unveil s pid me (Some path) (Some text))
   leads-unveil =
-      leads-demand Unveils EINVAL (read_permissions text) (Rests.unveil_1 s pid me path) (λ permissions spelled.
+      leads-demand Unveils EINVAL (read_permissions text) (Rests.unveil_1 s pid me path) (λ permissions encoded.
       leads-then Unveils (refuse_if_locked me.locked) (walk_from s me.directory Last path >>= Rests.unveil_2 s pid me permissions)
       (leads-walk Unveils s me.directory Last path (Rests.unveil_2 s pid me permissions) (λ place leads.
       leads-bind Unveils (IsAdded (entries_of_table me.table) (target_of s.tree place) permissions) (add_target s pid me (target_of s.tree place) permissions) (Rests.unveil_3 s pid me)
@@ -64,25 +64,26 @@ module _ (s : State) (pid : ℕ) (me : Process) (path text : Bytes) where
         permissions = permissions;
         table = table;
         leads = leads;
-        spelled = spelled;
+        encoded = encoded;
         added = added;
         left = refl;
-        told = refl;
+        reported = refl;
       }))))
 
--- what is left of the caller, whose unveil answered 0
+-- the caller after a successful unveil
 pub record HasUnveiled (s : State) (me q : Process) (path text : Bytes) : Type 0 where
   pub place : Place
   pub permissions : Perms
   pub leads : end_of s me (unveil_walk path no_permissions) ≡ Ok place
-  pub spelled : read_permissions text ≡ Some permissions
+  pub encoded : read_permissions text ≡ Some permissions
   pub added : IsAdded (entries_of_table me.table) (target_of s.tree place) permissions (entries_of_table q.table)
 
 abbrev pub IsNoValue : Outcome → Type 0
 IsNoValue (Value n) = ⊥
 IsNoValue outcome = Unit {0}
 
--- an unveil of a path with permissions gives the table an entry, or it leaves it; and any other leaves it
+-- an unveil of a path with permissions sets an entry of the table, or leaves it unchanged; any other unveil leaves it
+-- unchanged
 abbrev pub UnveilLeft : State → Process → Option Bytes → Option Bytes → Process → Outcome → Type 0
 UnveilLeft s me None text q o = q.table ≡ me.table
 UnveilLeft s me (Some path) None q o = (q.table ≡ me.table) × IsNoValue o
@@ -100,10 +101,10 @@ module _ (s : State) (pid : ℕ) (me : Process) where
   abbrev now : Process
   now = at_next_line me
 
-  -- a caller that becomes another one and is told an answer
-  told-caller : (after : State) (new : Process) (f : Process → Process) (q : Process) → process_at after pid ≡ Some new → process_at (trim (update after pid f)) pid ≡ Some q → f new ≡ q
-  told-caller after new f q at there =
-      let both : Some (f new) ≡ Some q = sym (process_at-trim (update after pid f) pid ∙ update-live after pid f new at) ∙ there in cc both
+  -- a changed caller that receives an answer
+  reported-caller : (after : State) (new : Process) (f : Process → Process) (q : Process) → process_at after pid ≡ Some new → process_at (collect (update after pid f)) pid ≡ Some q → f new ≡ q
+  reported-caller after new f q at there =
+      let both : Some (f new) ≡ Some q = sym (process_at-collect (update after pid f) pid ∙ update-live after pid f new at) ∙ there in cc both
 
   refused-caller : (errno : Errno) (q : Process) → process_at (update x pid (λ p. with_result p (negsuc 0) (errno_number errno))) pid ≡ Some q → q.table ≡ me.table
   refused-caller errno q there =
@@ -115,18 +116,18 @@ module _ (s : State) (pid : ℕ) (me : Process) where
 
   left-by : (path text : Bytes) (a : Attempt Effect) → Leads (Unveils x pid now path text) a → Left (Some path) (Some text) (answer_by_attempt s x pid now a)
   left-by path text (done walks (after, returns m)) does q there =
-      let told : returns m ≡ returns 0 = does.told in
-      let none : m ≡ 0 = cc told in
+      let reported : returns m ≡ returns 0 = does.reported in
+      let none : m ≡ 0 = cc reported in
       let at : process_at after pid ≡ Some (record now { table = Some does.table }) = ap (λ y. process_at y pid) does.left ∙ process_at-same x pid (record now { table = Some does.table }) in
-      let one = told-caller after (record now { table = Some does.table }) (λ p. with_result p (pos m) 0) q at there in
+      let one = reported-caller after (record now { table = Some does.table }) (λ p. with_result p (pos m) 0) q at there in
       inl (
         ap Value none,
         subst (λ (y : Process). HasUnveiled s me y path text) one
-            (record { place = does.place; permissions = does.permissions; leads = does.leads; spelled = does.spelled; added = does.added }),
+            (record { place = does.place; permissions = does.permissions; leads = does.leads; encoded = does.encoded; added = does.added }),
       )
-  left-by path text (done walks (after, returns_bytes m bytes)) does q there = let bad : returns_bytes m bytes ≡ returns 0 = does.told in cc bad
-  left-by path text (done walks (after, ends status)) does q there = let bad : ends status ≡ returns 0 = does.told in cc bad
-  left-by path text (done walks (after, waits)) does q there = let bad : waits ≡ returns 0 = does.told in cc bad
+  left-by path text (done walks (after, returns_bytes m bytes)) does q there = let bad : returns_bytes m bytes ≡ returns 0 = does.reported in cc bad
+  left-by path text (done walks (after, ends status)) does q there = let bad : ends status ≡ returns 0 = does.reported in cc bad
+  left-by path text (done walks (after, waits)) does q there = let bad : waits ≡ returns 0 = does.reported in cc bad
   left-by path text (refused walks errno cause) does q there = inr (refused-caller errno q there, tt)
 
   left-any : (path text : Option Bytes) → Left path text (answer_by_attempt s x pid now (unveil x pid now path text))
@@ -134,7 +135,7 @@ module _ (s : State) (pid : ℕ) (me : Process) where
   left-any (Some path) None = λ q there. (refused-caller EINVAL q there, tt)
   left-any None (Some text) = λ q there. refused-caller EINVAL q there
   left-any None None = λ q there.
-      let closed = told-caller (with_process x pid (record now { locked = true })) (record now { locked = true }) (λ p. with_result p (pos 0) 0) q (process_at-same x pid (record now { locked = true })) there in
+      let closed = reported-caller (with_process x pid (record now { locked = true })) (record now { locked = true }) (λ p. with_result p (pos 0) 0) q (process_at-same x pid (record now { locked = true })) there in
       ap (λ (y : Process). y.table) (sym closed)
 
 pub unveil-left : (program_of : Bytes → Option Program) (s : State) (pid : ℕ) (me : Process) (path text : Option Bytes) (q : Process) → is_sorted nat_cmp s.processes ≡ true → process_at s pid ≡ Some me
@@ -154,11 +155,11 @@ unveil-left program_of s pid me path text q ascending at =
     unveil-refused s me q path text ENOSYS (ByPromise lacks)
     (refused-caller s pid me ENOSYS q (subst (λ (z : Process). process_at (update (at_call s pid z) pid (λ p. with_result p (negsuc 0) (errno_number ENOSYS))) pid ≡ Some q) same there)))
     (λ y lacks found missing strict there.
-    absurd (ended-not_live s pid (at_next_line y) 6 ascending q (sym (process_at-trim (end_process s pid (at_next_line y) 6) pid) ∙ there)))
+    absurd (ended-not_live s pid (at_next_line y) 6 ascending q (sym (process_at-collect (end_process s pid (at_next_line y) 6) pid) ∙ there)))
 
 -- ---- a fork
 
--- a process that was not live and is live after a fork is the child: the fork answered its number, and it has its parent's table
+-- a process that is live only after a fork is the child: the fork returned its number, and it has its parent's table
 module _ (before x : State) (pid : ℕ) (now : Process) (k : ℕ) (q : Process) (fresh : process_at x k ≡ None) (apart : k ≢ pid) where
   abbrev IsChild : Answered → Type 0
   IsChild a = process_at a.after k ≡ Some q → (a.outcome ≡ Value k) × (q.table ≡ now.table)
@@ -171,7 +172,7 @@ module _ (before x : State) (pid : ℕ) (now : Process) (k : ℕ) (q : Process) 
       by false there =
           let born : State = record (with_process x (suc x.last_process) (child x pid now)) { last_process = suc x.last_process } in
           let found : process_at born k ≡ Some q =
-          sym (process_at-trim (update born pid (λ p. with_result p (pos (suc x.last_process)) 0)) k ∙ update-other born pid (λ p. with_result p (pos (suc x.last_process)) 0) k apart) ∙ there in
+          sym (process_at-collect (update born pid (λ p. with_result p (pos (suc x.last_process)) 0)) k ∙ update-other born pid (λ p. with_result p (pos (suc x.last_process)) 0) k apart) ∙ there in
           ⊎_elim
           (λ here.
           let both : Some (child x pid now) ≡ Some q = sym (ap (process_at born) here ∙ process_at-same x (suc x.last_process) (child x pid now)) ∙ found in

@@ -1,4 +1,4 @@
--- What lines tell of promises and tables, and how far a call walks.
+-- The lines about promises and tables, and the number of walks of a call.
 use Rattle.std.proofs.Common.{◌≡◌, ◌↔◌, inl, inr, ℕ, zero, suc, ◌+◌, ◌<◌, ◌≤◌, Bool, true, false, if◌then◌else◌, ◌&&◌, ◌||◌, List, [], ◌∷◌, ◌++◌, map, Option, None, Some, Ok, Err, refl, ap, sym, subst, ◌∙◌, arith, ⊎_elim}
 use Rattle.std.specs.Prelude.{take}
 use Rattle.std.specs.List.{list_any, list_all}
@@ -29,7 +29,7 @@ use Rattle.pv_model.specs.Program.{calls_for, next}
 use Rattle.pv_model.specs.Promises.{Promises, Need, is_met, is_lenient, missing_promise}
 use Rattle.pv_model.specs.State.{Program, Process, State, process_at}
 use Rattle.pv_model.specs.Step.{Stepped, step, step_by}
-use Rattle.pv_model.specs.Trace.{Word, call_word, nami_word, gio_word, ret_word, psig_word, wait_word, Way, gave, took, Returned, value_of, error_of, Line, line, walked_paths, buffer_of, promise_words, unveil_words, moved_words, end_words, call_lines}
+use Rattle.pv_model.specs.Trace.{Word, call_word, nami_word, gio_word, ret_word, psig_word, wait_word, Direction, gave, took, Returned, value_of, error_of, Line, line, walked_paths, buffer_of, promise_words, unveil_words, moved_words, end_words, call_lines}
 use Rattle.pv_model.specs.Tree.{Tree}
 use Rattle.pv_model.specs.Unveil.{Table, permissions_at, governing_entry, judgement, judge_entry}
 use Rattle.pv_model.specs.Walk.{Walked, begins_walk}
@@ -38,13 +38,13 @@ use Rattle.pv_laws_states.specs.Courses.{is_unveil, along, IsStopped, GoesAlong}
 use Rattle.pv_laws_states.proofs.Going.{calls-along}
 use Rattle.pv_laws_states.proofs.Outcomes.{at_call, by_answer}
 use Rattle.pv_laws_access.proofs.Ends.{step-is}
-use Rattle.pv_laws_sandbox.specs.Promises.{IsFirstMissing, IsRefusedByPromise, missing, increase}
-use Rattle.pv_laws_sandbox.proofs.Decided.{NotByTable, Ends, walks_in, answer-decides, lock-refuses-exactly}
-use Rattle.pv_laws_sandbox.proofs.Firsts.{first-missing-named}
-use Rattle.pv_laws_sandbox.proofs.Pledged.{promise-refuses, promise-kills}
-use Rattle.pv_laws_sandbox.proofs.Spared.{is_of_promise}
-use Rattle.pv_laws_answers.specs.Wanted.{is_want, tells_want, HasAllNeeds, is_of_table_line, tells_of_table, Permits, HasTableLine}
-use Rattle.pv_laws_answers.proofs.Asking.{along-one, walks-told}
+use Rattle.pv_laws_access.specs.Promises.{IsFirstMissing, IsRefusedByPromise, missing, increase}
+use Rattle.pv_laws_access.proofs.Decided.{NotByTable, Ends, walks_in, answer-decides, lock-refuses-exactly}
+use Rattle.pv_laws_access.proofs.Firsts.{first-missing-named}
+use Rattle.pv_laws_access.proofs.Pledged.{promise-refuses, promise-kills}
+use Rattle.pv_laws_access.proofs.Spared.{is_of_promise}
+use Rattle.pv_laws_answers.specs.Wanted.{is_want, reports_need, HasAllNeeds, is_of_table_line, reports_of_table, Permits, HasTableLine}
+use Rattle.pv_laws_answers.proofs.Asking.{along-one, walks-reported}
 use Rattle.pv_laws_answers.proofs.Letters.{or-false}
 
 -- ---- promises that are met
@@ -96,7 +96,7 @@ module _ (held : Option Promises) where
       let parts = and_parts (is_met held (a ∷ others)) (all_met ns) all in
       ap (λ b. if b then missing_promise held ns else Some a) parts.0 ∙ all-met ns filled parts.1
 
--- nothing is missing without promises
+-- a process without promises lacks none
 pub unpledged : (ns : List Need) → missing_promise None ns ≡ None
 unpledged [] = refl
 unpledged ([] ∷ ns) = unpledged ns
@@ -116,7 +116,7 @@ has-all held call = (λ none. by held none, λ has. back has)
         (λ (some : (set : Promises) × (held ≡ Some set) × (list_all (λ need. is_met (Some set) need) (needs call) ≡ true)).
         ap (λ o. missing_promise o (needs call)) some.1 ∙ all-met (Some some.0) (needs call) (needs-filled call) some.2) has
 
--- ---- what lines tell
+-- ---- lines about promises and tables
 
 pub any-append : (test : Line → Bool) (ls ms : List Line) → list_any test (ls ++ ms) ≡ (list_any test ls || list_any test ms)
 any-append test [] ms = refl
@@ -126,33 +126,33 @@ any-append test (l ∷ ls) ms = ap (λ b. test l || b) (any-append test ls ms) �
     along' true b c = refl
     along' false b c = refl
 
--- a test that no line passes but those that tell of a promise or of a table
+-- a test that only lines about promises or tables pass
 record IsQuiet (test : Word → Bool) : Type 0 where
   calls : (call : Call) → test (call_word call) ≡ false
   paths : (path : Bytes) → test (nami_word path) ≡ false
-  moves : (way : Way) (bytes : Bytes) → test (gio_word way bytes) ≡ false
+  moves : (witness : Direction) (bytes : Bytes) → test (gio_word witness bytes) ≡ false
   returns : (call : Call) (value : Returned) → test (ret_word call value) ≡ false
   dies : test psig_word ≡ false
   blocks : test wait_word ≡ false
 
 module _ (pid : ℕ) (test : Word → Bool) where
-  abbrev told : List Word → Bool
-  told ws = list_any (λ l. test l.word) (map (line pid) ws)
+  abbrev reported : List Word → Bool
+  reported ws = list_any (λ l. test l.word) (map (line pid) ws)
 
   module _ (quiet : IsQuiet test) where
     silent-paths : (ps : List Bytes) → list_any (λ l. test l.word) (map (λ path. line pid (nami_word path)) ps) ≡ false
     silent-paths [] = refl
     silent-paths (p ∷ ps) = ap (λ b. b || list_any (λ l. test l.word) (map (λ path. line pid (nami_word path)) ps)) (quiet.paths p) ∙ silent-paths ps
 
-    one-silent : (w : Word) → test w ≡ false → told (w ∷ []) ≡ false
+    one-silent : (w : Word) → test w ≡ false → reported (w ∷ []) ≡ false
     one-silent w is = ap (λ b. b || false) is
 
-    silent-moved : (after : State) (p : Process) (call : Call) (o : Outcome) → told (moved_words after pid p call o) ≡ false
+    silent-moved : (after : State) (p : Process) (call : Call) (o : Outcome) → reported (moved_words after pid p call o) ≡ false
     silent-moved after p call (Text taken) = one-silent _ (quiet.moves gave (take taken.len (buffer_of (process_at after pid))))
     silent-moved after p (TheCall.Write d n) (Value count) = one-silent _ (quiet.moves took (take count p.buffer))
     silent-moved after p call o = refl
 
-    silent-end : (call : Call) (o : Outcome) → told (end_words call o) ≡ false
+    silent-end : (call : Call) (o : Outcome) → reported (end_words call o) ≡ false
     silent-end call (Value n) = one-silent _ (quiet.returns call (value_of n))
     silent-end call (Text taken) = one-silent _ (quiet.returns call (value_of taken.value))
     silent-end call (Failed errno cause) = one-silent _ (quiet.returns call (error_of errno))
@@ -169,9 +169,9 @@ module _ (pid : ℕ) (test : Word → Bool) where
         ∙ any-append T (a ++ b ++ c) d ∙ ap (λ x. list_any T (a ++ b ++ c) || x) no_d ∙ or-false (list_any T (a ++ b ++ c))
         ∙ any-append T (a ++ b) c ∙ ap (λ x. x || list_any T c) (any-append T a b ∙ ap (λ x. x || list_any T b) no_a)
 
-    told-lines : (p : Process) (call : Call) (a : Answered) → list_any (λ l. test l.word) (call_lines pid p call a) ≡ (told (promise_words call a.outcome) || told (unveil_words call a.walks a.outcome))
+    reported-lines : (p : Process) (call : Call) (a : Answered) → list_any (λ l. test l.word) (call_lines pid p call a) ≡ (reported (promise_words call a.outcome) || reported (unveil_words call a.walks a.outcome))
     unfolding call_lines
-    told-lines p call a =
+    reported-lines p call a =
         let paths = map (λ path. line pid (nami_word path)) (take a.walks (walked_paths call)) in
         let promises = map (line pid) (promise_words call a.outcome) in
         let tables = map (line pid) (unveil_words call a.walks a.outcome) in
@@ -184,7 +184,7 @@ want-quiet : IsQuiet is_want
 want-quiet = record {
   calls = λ call. refl;
   paths = λ path. refl;
-  moves = λ way bytes. refl;
+  moves = λ witness bytes. refl;
   returns = λ call value. refl;
   dies = refl;
   blocks = refl;
@@ -194,47 +194,47 @@ table-quiet : IsQuiet is_of_table_line
 table-quiet = record {
   calls = λ call. refl;
   paths = λ path. refl;
-  moves = λ way bytes. refl;
+  moves = λ witness bytes. refl;
   returns = λ call value. refl;
   dies = refl;
   blocks = refl;
 }
 
-tables-want-nothing : (pid : ℕ) (call : Call) (walks : ℕ) (o : Outcome) → told pid is_want (unveil_words call walks o) ≡ false
+tables-want-nothing : (pid : ℕ) (call : Call) (walks : ℕ) (o : Outcome) → reported pid is_want (unveil_words call walks o) ≡ false
 tables-want-nothing pid call walks (Failed errno (ByUnveil None)) = refl
 tables-want-nothing pid call walks (Failed errno (ByUnveil (Some k))) = refl
 tables-want-nothing pid call walks (Failed errno Locked) = refl
 tables-want-nothing pid call walks o = refl
 
-promises-are-no_tables : (pid : ℕ) (call : Call) (o : Outcome) → told pid is_of_table_line (promise_words call o) ≡ false
+promises-are-no_tables : (pid : ℕ) (call : Call) (o : Outcome) → reported pid is_of_table_line (promise_words call o) ≡ false
 promises-are-no_tables pid call (Killed a) = refl
 promises-are-no_tables pid call (Failed ENOSYS (ByPromise a)) = refl
 promises-are-no_tables pid call (Failed errno (ByPromise a)) = refl
 promises-are-no_tables pid call o = refl
 
-no-promise : (pid : ℕ) (call : Call) (errno : Errno) (cause : Cause) → is_of_promise cause ≡ false → told pid is_want (promise_words call (Failed errno cause)) ≡ false
+no-promise : (pid : ℕ) (call : Call) (errno : Errno) (cause : Cause) → is_of_promise cause ≡ false → reported pid is_want (promise_words call (Failed errno cause)) ≡ false
 no-promise pid call errno (ByPromise b) is = cc is
 no-promise pid call ENOSYS cause is = refl
 no-promise pid call errno cause is = refl
 
--- an outcome that a table or its lock decided
+-- whether a table or its lock decided an outcome
 abbrev pub is_by_table : Outcome → Bool
 is_by_table (Failed errno (ByUnveil entry)) = true
 is_by_table (Failed errno Locked) = true
 is_by_table outcome = false
 
-table-told : (pid : ℕ) (call : Call) (walks : ℕ) (o : Outcome) → told pid is_of_table_line (unveil_words call walks o) ≡ is_by_table o
-table-told pid call walks (Failed errno (ByUnveil None)) = refl
-table-told pid call walks (Failed errno (ByUnveil (Some k))) = refl
-table-told pid call walks (Failed errno Locked) = refl
-table-told pid call walks (Failed errno Plain) = refl
-table-told pid call walks (Failed errno (ByPromise a)) = refl
-table-told pid call walks (Value n) = refl
-table-told pid call walks (Text taken) = refl
-table-told pid call walks (Killed a) = refl
-table-told pid call walks Exited = refl
-table-told pid call walks Blocked = refl
-table-told pid call walks Gone = refl
+table-reported : (pid : ℕ) (call : Call) (walks : ℕ) (o : Outcome) → reported pid is_of_table_line (unveil_words call walks o) ≡ is_by_table o
+table-reported pid call walks (Failed errno (ByUnveil None)) = refl
+table-reported pid call walks (Failed errno (ByUnveil (Some k))) = refl
+table-reported pid call walks (Failed errno Locked) = refl
+table-reported pid call walks (Failed errno Plain) = refl
+table-reported pid call walks (Failed errno (ByPromise a)) = refl
+table-reported pid call walks (Value n) = refl
+table-reported pid call walks (Text taken) = refl
+table-reported pid call walks (Killed a) = refl
+table-reported pid call walks Exited = refl
+table-reported pid call walks Blocked = refl
+table-reported pid call walks Gone = refl
 
 module _ (program_of : Bytes → Option Program) (s : State) (pid : ℕ) (p : Process) (call : Call) (at : process_at s pid ≡ Some p) where
   abbrev a : Answered
@@ -243,38 +243,38 @@ module _ (program_of : Bytes → Option Program) (s : State) (pid : ℕ) (p : Pr
   pub lines-of : next p ≡ calls_for call → (step program_of s pid).lines ≡ call_lines pid p call a
   lines-of is = ap (λ (w : Stepped). w.lines) (step-is program_of s pid p at ∙ ap (step_by program_of s pid p) is)
 
-  pub want-lines : tells_want (call_lines pid p call a) ≡ told pid is_want (promise_words call a.outcome)
+  pub want-lines : reports_need (call_lines pid p call a) ≡ reported pid is_want (promise_words call a.outcome)
   want-lines =
-      told-lines pid is_want want-quiet p call a ∙ ap (λ b. told pid is_want (promise_words call a.outcome) || b) (tables-want-nothing pid call a.walks a.outcome)
-      ∙ or-false (told pid is_want (promise_words call a.outcome))
+      reported-lines pid is_want want-quiet p call a ∙ ap (λ b. reported pid is_want (promise_words call a.outcome) || b) (tables-want-nothing pid call a.walks a.outcome)
+      ∙ or-false (reported pid is_want (promise_words call a.outcome))
 
-  pub table-lines : tells_of_table (call_lines pid p call a) ≡ is_by_table a.outcome
+  pub table-lines : reports_of_table (call_lines pid p call a) ≡ is_by_table a.outcome
   table-lines =
-      told-lines pid is_of_table_line table-quiet p call a ∙ ap (λ b. b || told pid is_of_table_line (unveil_words call a.walks a.outcome)) (promises-are-no_tables pid call a.outcome)
-      ∙ table-told pid call a.walks a.outcome
+      reported-lines pid is_of_table_line table-quiet p call a ∙ ap (λ b. b || reported pid is_of_table_line (unveil_words call a.walks a.outcome)) (promises-are-no_tables pid call a.outcome)
+      ∙ table-reported pid call a.walks a.outcome
 
-  -- a missing promise is told
-  pub lacks-told : (b : Promise) → missing_promise p.promises (needs call) ≡ Some b → tells_want (call_lines pid p call a) ≡ true
-  lacks-told b lacks = want-lines ∙ by (is_lenient p.promises) refl
+  -- a missing promise is reported
+  pub lacks-reported : (b : Promise) → missing_promise p.promises (needs call) ≡ Some b → reports_need (call_lines pid p call a) ≡ true
+  lacks-reported b lacks = want-lines ∙ by (is_lenient p.promises) refl
     where
-      by : (l : Bool) → is_lenient p.promises ≡ l → told pid is_want (promise_words call a.outcome) ≡ true
+      by : (l : Bool) → is_lenient p.promises ≡ l → reported pid is_want (promise_words call a.outcome) ≡ true
       by true lenient =
-          ap (λ o. told pid is_want (promise_words call o)) ((promise-refuses program_of s pid p call at ENOSYS b).1 (missing lenient ((first-missing-named p.promises call b).0 lacks)))
+          ap (λ o. reported pid is_want (promise_words call o)) ((promise-refuses program_of s pid p call at ENOSYS b).1 (missing lenient ((first-missing-named p.promises call b).0 lacks)))
       by false strict =
-          ap (λ o. told pid is_want (promise_words call o)) ((promise-kills program_of s pid p call at b).1 (strict, (first-missing-named p.promises call b).0 lacks))
+          ap (λ o. reported pid is_want (promise_words call o)) ((promise-kills program_of s pid p call at b).1 (strict, (first-missing-named p.promises call b).0 lacks))
 
-  -- and where none is missing none is told
-  pub met-told : missing_promise p.promises (needs call) ≡ None → tells_want (call_lines pid p call a) ≡ false
-  met-told met = want-lines ∙ by a.outcome refl
+  -- if no promise is missing, none is reported
+  pub met-reported : missing_promise p.promises (needs call) ≡ None → reports_need (call_lines pid p call a) ≡ false
+  met-reported met = want-lines ∙ by a.outcome refl
     where
       named : (b : Promise) → IsFirstMissing p.promises call b → ⊥
       named b first = let both : None ≡ Some b = sym met ∙ (first-missing-named p.promises call b).1 first in cc both
 
-      refused : (errno : Errno) (b : Promise) → IsRefusedByPromise p call b errno → told pid is_want (promise_words call (Failed errno (ByPromise b))) ≡ false
+      refused : (errno : Errno) (b : Promise) → IsRefusedByPromise p call b errno → reported pid is_want (promise_words call (Failed errno (ByPromise b))) ≡ false
       refused _ b (missing lenient first) = absurd (named b first)
       refused _ b (increase inc) = refl
 
-      by : (o : Outcome) → a.outcome ≡ o → told pid is_want (promise_words call o) ≡ false
+      by : (o : Outcome) → a.outcome ≡ o → reported pid is_want (promise_words call o) ≡ false
       by (Killed b) is = absurd (named b ((promise-kills program_of s pid p call at b).0 is).1)
       by (Failed errno (ByPromise b)) is = refused errno b ((promise-refuses program_of s pid p call at errno b).0 is)
       by (Failed errno Plain) is = no-promise pid call errno Plain refl
@@ -286,25 +286,25 @@ module _ (program_of : Bytes → Option Program) (s : State) (pid : ℕ) (p : Pr
       by Blocked is = refl
       by Gone is = refl
 
-  pub want-told : next p ≡ calls_for call → (tells_want (step program_of s pid).lines ≡ false) ↔ HasAllNeeds p.promises call
-  want-told is = (
-    λ quiet. (has-all p.promises call).0 (by (missing_promise p.promises (needs call)) refl (ap tells_want (sym (lines-of is)) ∙ quiet)),
-    λ has. ap tells_want (lines-of is) ∙ met-told ((has-all p.promises call).1 has),
+  pub want-reported : next p ≡ calls_for call → (reports_need (step program_of s pid).lines ≡ false) ↔ HasAllNeeds p.promises call
+  want-reported is = (
+    λ quiet. (has-all p.promises call).0 (by (missing_promise p.promises (needs call)) refl (ap reports_need (sym (lines-of is)) ∙ quiet)),
+    λ has. ap reports_need (lines-of is) ∙ met-reported ((has-all p.promises call).1 has),
   )
     where
-      by : (o : Option Promise) → missing_promise p.promises (needs call) ≡ o → tells_want (call_lines pid p call a) ≡ false → missing_promise p.promises (needs call) ≡ None
+      by : (o : Option Promise) → missing_promise p.promises (needs call) ≡ o → reports_need (call_lines pid p call a) ≡ false → missing_promise p.promises (needs call) ≡ None
       by None none quiet = none
-      by (Some b) lacks quiet = let bad : true ≡ false = sym (lacks-told b lacks) ∙ quiet in cc bad
+      by (Some b) lacks quiet = let bad : true ≡ false = sym (lacks-reported b lacks) ∙ quiet in cc bad
 
--- ---- walks that a call goes beyond are allowed
+-- ---- walks before the last are allowed
 
 pub at-most-one : (b : Bool) (e : Errno) → 2 ≤ walks_in {A = Unit {0}} (refused (if b then 1 else 0) e Plain) → ⊥
 at-most-one true e more = omega arith
 at-most-one false e more = omega arith
 
 module _ (s : State) (me : Process) where
-  abbrev goes_on : Walk → List Walk → Walked → Attempt (Unit {0})
-  goes_on v ws r = place_or_refusal (if begins_walk v.path then 1 else 0) r >>= (λ p. judge s me v p >> along s me ws)
+  abbrev continues : Walk → List Walk → Walked → Attempt (Unit {0})
+  continues v ws r = place_or_refusal (if begins_walk v.path then 1 else 0) r >>= (λ p. judge s me v p >> along s me ws)
 
   walks-past : (n : ℕ) (c : Attempt (Unit {0})) → walks_in (after_walks n c) ≡ n + walks_in c
   walks-past n (done walks value) = refl
@@ -340,7 +340,7 @@ module _ (s : State) (me : Process) where
           following (deeper (judgement s.tree me.table p v.needed) (subst (λ c. suc (suc (suc n)) ≤ walks_in c) (along-one s me v ws p is) beyond)) found end
       by (Err e) is following =
           absurd (at-most-one (begins_walk v.path) e
-          (let more = subst (λ r. suc (suc (suc n)) ≤ walks_in (goes_on v ws r)) is beyond in omega (arith, more)))
+          (let more = subst (λ r. suc (suc (suc n)) ≤ walks_in (continues v ws r)) is beyond in omega (arith, more)))
 
 pub along-walks : (c : Attempt (Unit {0})) (e : Attempt Effect) → GoesAlong c e → walks_in c ≡ walks_in e
 along-walks (done k v) (done walks value) is = sym is
@@ -379,7 +379,7 @@ module _ (program_of : Bytes → Option Program) (s : State) (pid : ℕ) (p : Pr
   abbrev r : Answered
   r = answer program_of s pid call
 
-  -- a walk beyond which a call goes is allowed
+  -- a walk before the last is allowed
   pub beyond-allowed : number < r.walks → is_allowed (judgement s.tree p.table place w.needed) ≡ true
   beyond-allowed =
       by_answer (λ x. number < x.walks → is_allowed (judgement s.tree p.table place w.needed) ≡ true) program_of s pid call
@@ -397,7 +397,7 @@ module _ (program_of : Bytes → Option Program) (s : State) (pid : ℕ) (p : Pr
 
       here : number < (answer_by_attempt s (at_call s pid p) pid (at_next_line p) (effect program_of (at_call s pid p) pid (at_next_line p) call)).walks → is_allowed (judgement s.tree p.table place w.needed) ≡ true
       here more =
-          let counts = walks-told s (at_call s pid p) pid (at_next_line p) (effect program_of (at_call s pid p) pid (at_next_line p) call) in
+          let counts = walks-reported s (at_call s pid p) pid (at_next_line p) (effect program_of (at_call s pid p) pid (at_next_line p) call) in
           ⊎_elim
           (λ stopped. absurd (let none = stopped-early (effect program_of (at_call s pid p) pid (at_next_line p) call) stopped in omega (arith, more, counts, none)))
           (λ goes.
@@ -405,11 +405,11 @@ module _ (program_of : Bytes → Option Program) (s : State) (pid : ℕ) (p : Pr
           passed (at_call s pid p) (at_next_line p) (walks_of call) number w place (omega (arith, more, counts, same)) found end)
           (calls-along program_of (at_call s pid p) pid (at_next_line p) call plain)
 
-  -- the last one decides
+  -- the decision about the last walk determines the answer
   pub last-decides : number ≡ r.walks → Ends (judgement s.tree p.table place w.needed) r.outcome
   last-decides last = (answer-decides program_of s pid p call at w place end (ap (walk_number (walks_of call)) (sym last) ∙ found)).0 plain
 
-  -- allowed at its last place, a call is not refused by the table
+  -- if the last place is allowed, the table does not refuse the call
   pub allowed-silent : number ≡ r.walks → is_allowed (judgement s.tree p.table place w.needed) ≡ true → is_by_table r.outcome ≡ false
   allowed-silent last allowed = by (judgement s.tree p.table place w.needed) allowed (last-decides last)
     where
@@ -432,21 +432,21 @@ module _ (program_of : Bytes → Option Program) (s : State) (pid : ℕ) (p : Pr
       by Hidden passes how = cc passes
       by (Denied k) passes how = cc passes
 
-  pub refused-told : number ≡ r.walks → is_allowed (judgement s.tree p.table place w.needed) ≡ false → is_by_table r.outcome ≡ true
-  refused-told last stops = by (judgement s.tree p.table place w.needed) stops (last-decides last)
+  pub refused-reported : number ≡ r.walks → is_allowed (judgement s.tree p.table place w.needed) ≡ false → is_by_table r.outcome ≡ true
+  refused-reported last stops = by (judgement s.tree p.table place w.needed) stops (last-decides last)
     where
       by : (j : Judgement) → is_allowed j ≡ false → Ends j r.outcome → is_by_table r.outcome ≡ true
       by Allowed stops how = cc stops
       by Hidden stops how = ap is_by_table how
       by (Denied k) stops how = ap is_by_table how
 
-  pub refusal-told : next p ≡ calls_for call → number ≤ r.walks → (¬ HasTableLine program_of s pid call number) ↔ Permits s.tree p.table place w.needed
-  refusal-told is within =
+  pub refusal-reported : next p ≡ calls_for call → number ≤ r.walks → (¬ HasTableLine program_of s pid call number) ↔ Permits s.tree p.table place w.needed
+  refusal-reported is within =
       ⊎_elim
       (λ last. (
         λ silent. (permitted s.tree p.table place w.needed).1 (quiet last silent (is_allowed (judgement s.tree p.table place w.needed)) refl),
         λ permits has.
-            let bad : true ≡ false = sym (ap tells_of_table (sym (lines-of program_of s pid p call at is)) ∙ has.0) ∙ table-lines program_of s pid p call at
+            let bad : true ≡ false = sym (ap reports_of_table (sym (lines-of program_of s pid p call at is)) ∙ has.0) ∙ table-lines program_of s pid p call at
             ∙ allowed-silent last ((permitted s.tree p.table place w.needed).0 permits) in
             cc bad,
       ))
@@ -462,4 +462,4 @@ module _ (program_of : Bytes → Option Program) (s : State) (pid : ℕ) (p : Pr
       quiet : number ≡ r.walks → (¬ HasTableLine program_of s pid call number) → (b : Bool) → is_allowed (judgement s.tree p.table place w.needed) ≡ b → is_allowed (judgement s.tree p.table place w.needed) ≡ true
       quiet last silent true allowed = allowed
       quiet last silent false stops =
-          absurd (silent (ap tells_of_table (lines-of program_of s pid p call at is) ∙ table-lines program_of s pid p call at ∙ refused-told last stops, last))
+          absurd (silent (ap reports_of_table (lines-of program_of s pid p call at is) ∙ table-lines program_of s pid p call at ∙ refused-reported last stops, last))

@@ -1,4 +1,4 @@
--- The worked run with answers, by computing.
+-- The worked run with answers, by computation.
 use Rattle.std.proofs.Common.{◌≡◌, ℕ, false, ◌<◌, length, List, [], ◌∷◌, replicate, codes, slice_index_or, Option, None, Some, refl, arith}
 use Rattle.std.proofs.lemmas.List.Elements.{Contains-get_or}
 use Rattle.std.specs.Prelude.{IsTrue, IsFalse}
@@ -7,7 +7,7 @@ use Rattle.pv_model.specs.Answers.Needs.{same_promise}
 use Rattle.pv_model.specs.Answers.OnLiterals.{answers_on_literals}
 use Rattle.pv_model.specs.State.{Process, first_process, first_state, process_at}
 use Rattle.pv_laws_answers.specs.Examples.{moving, tree, no_programs, state_after, only_r, only_c, r_and_c, set_at, AnswersExamples}
-use Rattle.pv_laws_answers.specs.Stints.{moments, stints_of, Moment, IsCallOf, with_promises, with_own_table}
+use Rattle.pv_laws_answers.specs.ProcessImages.{moments, process_images_of, Moment, IsCallOf, with_promises, with_own_table}
 use Rattle.pv_model.specs.declared.call.Call.TheVariants.{Open, Rename as CallRename}
 use Rattle.pv_model.specs.declared.errno.Errno.TheVariants.{EACCES}
 use Rattle.pv_model.specs.declared.open_flags.Mode.TheVariants.{Read}
@@ -23,7 +23,7 @@ use Rattle.pv_model.specs.Unveil.{Table}
 use Rattle.pv_laws_answers.specs.OverTime.{letters_at, IsOwnStep, place_in}
 use Rattle.pv_laws_answers.specs.Reach.{AsksAt, opening}
 use Rattle.pv_laws_answers.specs.Settings.{settings_along}
-use Rattle.pv_laws_answers.specs.Wanted.{tells_want}
+use Rattle.pv_laws_answers.specs.Wanted.{reports_need}
 
 abbrev or_first : Option Process → Process
 or_first None = first_process []
@@ -36,14 +36,14 @@ or_empty (Some table) = table
 abbrev first_after : ℕ → Process
 first_after steps = or_first (process_at (state_after steps) 1)
 
-abbrev all_stints : List (List Moment)
-all_stints = stints_of (moments no_programs 1 (replicate 6 1) (first_state tree moving))
+abbrev all_process_images : List (List Moment)
+all_process_images = process_images_of (moments no_programs 1 (replicate 6 1) (first_state tree moving))
 
-abbrev whole_stint : List Moment
-whole_stint = slice_index_or all_stints 0 []
+abbrev whole_process_image : List Moment
+whole_process_image = slice_index_or all_process_images 0 []
 
 abbrev no_call : Moment
-no_call = record { state = state_after 0; asked = record { line = 0; promises = []; walks = []; ends_stint = false } }
+no_call = record { state = state_after 0; asked = record { line = 0; promises = []; walks = []; ends_process_image = false } }
 
 abbrev table : Table
 table = or_empty (first_after 4).table
@@ -77,24 +77,24 @@ unfolding answers_on_literals
 asks = record { walk = _; only = refl; end = refl; asks = refl; goes_with = refl; made = λ none. refl }
 
 abbrev call : Moment
-call = slice_index_or whole_stint 4 no_call
+call = slice_index_or whole_process_image 4 no_call
 
-one_stint : length all_stints ≡ 1
+one_process_image : length all_process_images ≡ 1
 unfolding answers_on_literals
-one_stint = refl
+one_process_image = refl
 
-six_calls : length whole_stint ≡ 6
+six_calls : length whole_process_image ≡ 6
 unfolding answers_on_literals
 six_calls = refl
 
 below : {n m : ℕ} (k : ℕ) → n ≡ m → k < m → k < n
 below k same less = omega arith
 
-of_stint : IsCallOf no_programs (replicate 6 1) (first_state tree moving) 1 whole_stint call
-of_stint =
+of_process_image : IsCallOf no_programs (replicate 6 1) (first_state tree moving) 1 whole_process_image call
+of_process_image =
     let one : 0 < 1 = omega arith in
     let fifth : 4 < 6 = omega arith in
-    record { of_run = Contains-get_or all_stints 0 [] (below 0 one_stint one); of_stint = Contains-get_or whole_stint 4 no_call (below 4 six_calls fifth) }
+    record { of_run = Contains-get_or all_process_images 0 [] (below 0 one_process_image one); of_process_image = Contains-get_or whole_process_image 4 no_call (below 4 six_calls fifth) }
 
 made : call.state ≡ state_after 4
 unfolding answers_on_literals
@@ -104,11 +104,11 @@ asks_cpath : IsTrue (list_any (same_promise Cpath) call.asked.promises)
 unfolding answers_on_literals
 asks_cpath = refl
 
-enough : IsFalse (tells_want (step no_programs (with_promises call.state 1 (mask Cpath)) 1).lines)
+enough : IsFalse (reports_need (step no_programs (with_promises call.state 1 (mask Cpath)) 1).lines)
 unfolding answers_on_literals
 enough = refl
 
-needed : IsTrue (tells_want (step no_programs (with_promises call.state 1 (mask Stdio)) 1).lines)
+needed : IsTrue (reports_need (step no_programs (with_promises call.state 1 (mask Stdio)) 1).lines)
 unfolding answers_on_literals
 needed = refl
 
@@ -131,9 +131,9 @@ answers-happen = record {
   gone = gone;
   settings = settings;
   asks = asks;
-  stint = whole_stint;
+  process_image = whole_process_image;
   call = call;
-  of_stint = of_stint;
+  of_process_image = of_process_image;
   made = made;
   asks_cpath = asks_cpath;
   enough = enough;

@@ -1,4 +1,5 @@
--- A run in which letters come and go, and what is asked and set in it, so that the laws of answers speak of something.
+-- A run in which a process gains and loses permissions at a place, with its needs and settings. It shows that the laws
+-- of answers are not vacuous.
 use Rattle.std.specs.Prelude.{◌≡◌, ℕ, true, false, IsTrue, IsFalse, List, replicate, [], ◌∷◌, codes, Option, None, Some}
 use Rattle.std.specs.List.{list_any}
 use Rattle.pv_model.specs.declared.call.Call.TheVariants.{Open, Rename as CallRename}
@@ -23,10 +24,10 @@ use Rattle.pv_model.specs.Unveil.{Table}
 use Rattle.pv_laws_answers.specs.OverTime.{letters_at, IsOwnStep, place_in}
 use Rattle.pv_laws_answers.specs.Reach.{AsksAt, opening}
 use Rattle.pv_laws_answers.specs.Settings.{settings_along}
-use Rattle.pv_laws_answers.specs.Stints.{Moment, IsCallOf, with_promises, with_own_table}
-use Rattle.pv_laws_answers.specs.Wanted.{tells_want}
+use Rattle.pv_laws_answers.specs.ProcessImages.{Moment, IsCallOf, with_promises, with_own_table}
+use Rattle.pv_laws_answers.specs.Wanted.{reports_need}
 
--- a directory moves from one whose entry gives c into one whose entry gives r too
+-- a directory moves from one whose entry grants c into one whose entry grants r too
 abbrev pub moving : Program
 moving =
     Unveil (Some (codes "/a")) (Some (codes "c"))
@@ -41,7 +42,7 @@ moving =
 abbrev pub tree : Tree
 tree = manifest_tree 14 16 (make (codes "/a") (directory_node []) ∷ make (codes "/b") (directory_node []) ∷ make (codes "/a/x") (directory_node []) ∷ [])
 
--- no execve is made
+-- no file parses as a program
 abbrev pub no_programs : Bytes → Option Program
 no_programs bytes = None
 
@@ -60,7 +61,7 @@ r_and_c = record { r = true; w = false; x = false; c = true }
 abbrev pub set_at : ℕ → Setting
 set_at line = record { line = line; earlier = false }
 
--- the fifth step is the rename, and the sixth the pledge
+-- the fifth step is the rename, and the sixth is the pledge
 pub record AnswersExamples : Type 0 where
   pub table : Table
   pub first : Process
@@ -68,23 +69,23 @@ pub record AnswersExamples : Type 0 where
   pub pledged : Process
   pub renames : IsOwnStep no_programs (state_after 4) 1 first moved table
   pub narrows : IsOwnStep no_programs (state_after 5) 1 moved pledged table
-  -- a name in the directory that moves gains r, and loses it by the pledge
+  -- the process gains r at a name in the moved directory, and loses it by the pledge
   pub before : letters_at (state_after 4) first 4 (codes "y") ≡ only_c
   pub come : letters_at (state_after 5) moved 4 (codes "y") ≡ r_and_c
   pub gone : letters_at (state_after 6) pledged 4 (codes "y") ≡ only_c
   -- the child has the settings of its parent
   pub settings : settings_of (settings_along no_programs (replicate 6 1) [] (first_state tree moving)) 2 ≡ set_at 1 ∷ set_at 2 ∷ []
-  -- r stands in the second directory, not in the first
+  -- the process has r in the second directory, but not in the first
   pub asks : AsksAt no_programs (state_after 5) 1 moved (Open (codes "/b/x") (opening Read)) (place_in (state_after 5).tree 3 (codes "x")) only_r
-  -- the rename is a call of the run's only stint; it asks cpath, and is killed for want of it
-  pub stint : List Moment
+  -- the rename is a call of the only program image of the run; it needs cpath, and is killed without it
+  pub process_image : List Moment
   pub call : Moment
-  pub of_stint : IsCallOf no_programs (replicate 6 1) (first_state tree moving) 1 stint call
+  pub of_process_image : IsCallOf no_programs (replicate 6 1) (first_state tree moving) 1 process_image call
   pub made : call.state ≡ state_after 4
   pub asks_cpath : IsTrue (list_any (same_promise Cpath) call.asked.promises)
-  pub enough : IsFalse (tells_want (step no_programs (with_promises call.state 1 (mask Cpath)) 1).lines)
-  pub needed : IsTrue (tells_want (step no_programs (with_promises call.state 1 (mask Stdio)) 1).lines)
-  -- with a table that lacks c for the second directory it is refused by that entry
+  pub enough : IsFalse (reports_need (step no_programs (with_promises call.state 1 (mask Cpath)) 1).lines)
+  pub needed : IsTrue (reports_need (step no_programs (with_promises call.state 1 (mask Stdio)) 1).lines)
+  -- if the process's table lacks c for the second directory, that entry refuses the rename
   pub lacks :
       (answer no_programs (with_own_table call.state 1 ((Directory 2, only_c) ∷ (Directory 3, only_r) ∷ [])) 1 (CallRename (codes "/a/x") (codes "/b/x"))).outcome
       ≡ Failed EACCES (ByUnveil (Some 1))

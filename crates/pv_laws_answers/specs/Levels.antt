@@ -1,4 +1,4 @@
--- The levels of a judgement are those by which rights flow down.
+-- The levels of a decision are the steps of the derivation that an entry governs a place.
 use Rattle.std.specs.Prelude.{◌≡◌, ℕ, if◌then◌else◌, ◌==◌, List, [], ◌∷◌, Option, None, Some}
 use Rattle.pv_model.specs.declared.place.Place.{Place}
 use Rattle.pv_model.specs.declared.target.Target.{Target}
@@ -8,9 +8,9 @@ use Rattle.pv_model.specs.Bytes.{Bytes}
 use Rattle.pv_model.specs.Closed.{GovernsName, by_name, by_directory}
 use Rattle.pv_model.specs.Tree.{Tree, root, parent, IsWellFormed}
 use Rattle.pv_model.specs.Unveil.{Table, entry_for, target_of, Governs, own, from_above, governing_entry}
-use Rattle.pv_laws_sandbox.specs.Tables.{GovernsPlace, unnamed, absent, directory, named}
+use Rattle.pv_laws_access.specs.Tables.{GovernsPlace, unnamed, absent, directory, named}
 
--- the last level has the entry that is found, or none, and no level before it has one
+-- the last level has this entry, or none, and no level before it has one
 abbrev pub LeadTo : Option ℕ → List Level → Type 0
 LeadTo found [] = ⊥
 LeadTo found (l ∷ []) = l.entry ≡ found
@@ -22,38 +22,38 @@ module _ (t : Tree) (table : Table) where
   directory_steps _ _ (own d k is) = level t table (Directory d) ∷ []
   directory_steps _ _ (from_above d above k not_root none up governs) = level t table (Directory d) ∷ directory_steps above k governs
 
-  -- of one that it governs a name
+  -- the levels of a derivation that an entry governs a name
   abbrev pub name_steps : (d : ℕ) (name : Bytes) (k : ℕ) → GovernsName t table d name k → List Level
   name_steps d name _ (by_name k is) = level t table (Name d name) ∷ []
   name_steps d name _ (by_directory k none governs) = level t table (Name d name) ∷ directory_steps d k governs
 
-  -- and of one that it governs a place
+  -- the levels of a derivation that an entry governs a place
   abbrev pub place_steps : (place : Place) (k : ℕ) → GovernsPlace t table place k → List Level
   place_steps _ _ (unnamed n k governs) = directory_steps n k governs
   place_steps _ _ (absent d name k governs) = name_steps d name k governs
   place_steps _ _ (directory d name n k is governs) = directory_steps n k governs
   place_steps _ _ (named d name n k plain governs) = name_steps d name k governs
 
-  -- what is above a target: of a name its directory, and of a directory the one above it
+  -- the directory above a target: the directory of a name, or the parent of a directory
   abbrev pub above_target : Target → Option ℕ
   above_target (Directory d) = if d == root then None else parent t d
   above_target (Name d name) = Some d
 
-  -- levels go up from a target: to the first that has an entry, or as far as something is above
+  -- levels go up from a target to the first that has an entry, or to the top
   pub data GoUp : Target → List Level → Type 0 where
     found : (target : Target) (k : ℕ) → entry_for table target ≡ Some k → GoUp target (level t table target ∷ [])
     at_top : (target : Target) → entry_for table target ≡ None → above_target target ≡ None → GoUp target (level t table target ∷ [])
-    goes_on : (target : Target) (d : ℕ) (ls : List Level) → entry_for table target ≡ None → above_target target ≡ Some d → GoUp (Directory d) ls
+    continues : (target : Target) (d : ℕ) (ls : List Level) → entry_for table target ≡ None → above_target target ≡ Some d → GoUp (Directory d) ls
         → GoUp target (level t table target ∷ ls)
 
--- where an entry governs a place, the levels are the steps by which it does
+-- if an entry governs a place, the levels are the steps of the derivation
 abbrev pub LevelsAreTheDerivation : Type 0
 LevelsAreTheDerivation = (t : Tree) (table : Table) (place : Place) (k : ℕ) (governs : GovernsPlace t table place k) → levels t table place ≡ place_steps t table place k governs
 
--- the levels end at the entry that governs, and where none does no level has one
+-- the levels end at the entry that governs the place; if there is none, no level has an entry
 abbrev pub LevelsLeadToTheGovernor : Type 0
 LevelsLeadToTheGovernor = (t : Tree) (table : Table) (place : Place) → LeadTo (governing_entry t table place) (levels t table place)
 
--- and they go up from the place, in every well-formed tree
+-- in every well-formed tree, the levels go up from the place
 abbrev pub LevelsGoUp : Type 0
 LevelsGoUp = (t : Tree) (table : Table) (place : Place) → IsWellFormed t → GoUp t table (target_of t place) (levels t table place)

@@ -1,4 +1,4 @@
--- The letters of a place before and after a process's own step, under a locked table.
+-- The permissions of a process at a place before and after its own step, under a locked table.
 use Rattle.std.specs.Prelude.{◌≡◌, ◌⊎◌, ℕ, IsTrue, IsFalse, slice_get, Option, Some}
 use Rattle.pv_model.specs.declared.perms.Perms.{Perms}
 use Rattle.pv_model.specs.declared.place.Place.{Place}
@@ -15,14 +15,14 @@ use Rattle.pv_model.specs.Step.{step}
 use Rattle.pv_model.specs.Touch.{change_entry, Touches}
 use Rattle.pv_model.specs.Tree.{Tree, is_directory_at, find_entry, IsAtOrAbove}
 use Rattle.pv_model.specs.Unveil.{Table}
-use Rattle.pv_laws_states.specs.States.{SpellsPrograms, IsWhole}
+use Rattle.pv_laws_states.specs.States.{EncodesPrograms, IsValid}
 use Rattle.pv_laws_access.specs.Growth.{begins_image}
 
--- a name in a directory, with what has it
+-- a name in a directory, with the node that it has
 abbrev pub place_in : Tree → ℕ → Bytes → Place
 place_in t d name = At d name (find_entry t d name)
 
--- the letters of a process at a name in a directory
+-- the permissions of a process at a name in a directory
 abbrev pub letters_at : State → Process → ℕ → Bytes → Perms
 letters_at s p d name = reached_permissions s p (place_in s.tree d name)
 
@@ -30,7 +30,7 @@ module _ (program_of : Bytes → Option Program) (s : State) (pid : ℕ) where
   abbrev pub after : State
   after = (step program_of s pid).after
 
-  -- the step is the process's own, which stays live in one program image; its table is locked
+  -- the step is the process's own; the process stays live in one program image, and its table is locked
   pub record IsOwnStep (p q : Process) (table : Table) : Type 0 where
     pub at : process_at s pid ≡ Some p
     pub left : process_at (step program_of s pid).after pid ≡ Some q
@@ -38,41 +38,41 @@ module _ (program_of : Bytes → Option Program) (s : State) (pid : ℕ) where
     pub in_force : p.table ≡ Some table
     pub locked : IsTrue p.locked
 
-  -- the step takes no letter to a place that it had not
+  -- the process gains no permission at the place
   abbrev pub LettersOnlyGo : Process → Process → ℕ → Bytes → Type 0
   LettersOnlyGo p q d name = IsTrue (covers (letters_at s p d name) (letters_at (step program_of s pid).after q d name))
 
-  -- an entry is that of a name, or is for its directory or for one above that, before the step or after it
+  -- an entry is that of the name, or one for a directory at or above its directory, before or after the step
   pub data IsThereOrAbove (d : ℕ) (name : Bytes) : ℕ → Bytes → Type 0 where
     there : IsThereOrAbove d name d name
     above_before : (x e : ℕ) (word : Bytes) → IsAtOrAbove s.tree x d → find_entry s.tree e word ≡ Some x → IsThereOrAbove d name e word
     above_after : (x e : ℕ) (word : Bytes) → IsAtOrAbove s.tree x d → find_entry (step program_of s pid).after.tree e word ≡ Some x → IsThereOrAbove d name e word
 
--- in a step that changes no entry letters only go
+-- a step that changes no entry adds no permission
 abbrev pub WithoutChangeLettersGo : Type 0
 WithoutChangeLettersGo =
-    (program_of : Bytes → Option Program) → SpellsPrograms program_of → (s : State) (pid : ℕ) (p q : Process) (table : Table) (d : ℕ) (name : Bytes) → IsWhole s → IsOwnStep program_of s pid p q table
+    (program_of : Bytes → Option Program) → EncodesPrograms program_of → (s : State) (pid : ℕ) (p q : Process) (table : Table) (d : ℕ) (name : Bytes) → IsValid s → IsOwnStep program_of s pid p q table
     → IsTrue (is_directory_at s.tree d) → ((e : ℕ) (word : Bytes) → ¬ Touches program_of s pid (change_entry e word)) → LettersOnlyGo program_of s pid p q d name
 
--- no entry of a table gives c
+-- no entry of a table grants c
 abbrev pub GivesNoC : Table → Type 0
 GivesNoC table = (k : ℕ) (e : Target × Perms) → slice_get table k ≡ Some e → IsFalse e.1.c
 
--- and they only go where no entry of the table gives c, or the promises lack cpath
+-- if no entry of the table grants c, or the promises lack cpath, the step adds no permission
 abbrev pub WithoutCLettersGo : Type 0
 WithoutCLettersGo =
-    (program_of : Bytes → Option Program) → SpellsPrograms program_of → (s : State) (pid : ℕ) (p q : Process) (table : Table) (d : ℕ) (name : Bytes) → IsWhole s → IsOwnStep program_of s pid p q table
+    (program_of : Bytes → Option Program) → EncodesPrograms program_of → (s : State) (pid : ℕ) (p q : Process) (table : Table) (d : ℕ) (name : Bytes) → IsValid s → IsOwnStep program_of s pid p q table
     → IsTrue (is_directory_at s.tree d) → GivesNoC table ⊎ IsFalse (holds p.promises Cpath) → LettersOnlyGo program_of s pid p q d name
 
--- where a letter comes, an entry there or of a directory above changed
+-- if the step adds a permission, it changed the entry there or one for a directory at or above
 abbrev pub LettersComeByChanges : Type 0
 LettersComeByChanges =
-    (program_of : Bytes → Option Program) → SpellsPrograms program_of → (s : State) (pid : ℕ) (p q : Process) (table : Table) (d : ℕ) (name : Bytes) → IsWhole s → IsOwnStep program_of s pid p q table
+    (program_of : Bytes → Option Program) → EncodesPrograms program_of → (s : State) (pid : ℕ) (p q : Process) (table : Table) (d : ℕ) (name : Bytes) → IsValid s → IsOwnStep program_of s pid p q table
     → IsTrue (is_directory_at s.tree d) → IsFalse (covers (letters_at s p d name) (letters_at (step program_of s pid).after q d name))
     → (e : ℕ) × (word : Bytes) × Touches program_of s pid (change_entry e word) × IsThereOrAbove program_of s pid d name e word
 
--- and c stood before at each entry that changed
+-- the process had c at each entry that the step changed
 abbrev pub ChangesShowC : Type 0
 ChangesShowC =
-    (program_of : Bytes → Option Program) (s : State) (pid : ℕ) (p : Process) (e : ℕ) (word : Bytes) → IsWhole s → process_at s pid ≡ Some p → Touches program_of s pid (change_entry e word)
+    (program_of : Bytes → Option Program) (s : State) (pid : ℕ) (p : Process) (e : ℕ) (word : Bytes) → IsValid s → process_at s pid ≡ Some p → Touches program_of s pid (change_entry e word)
     → IsTrue (letters_at s p e word).c

@@ -1,4 +1,4 @@
--- What the letters of a place are worth to the next call of a process.
+-- What the permissions that `reach` shows at a place mean for the next call of a process.
 use Rattle.std.specs.Prelude.{◌≡◌, ◌↔◌, ℕ, Bool, true, false, ◌||◌, nat_le, IsTrue, IsFalse, List, [], ◌∷◌, ◌++◌, Option, None, Some, Ok, option_and_then}
 use Rattle.pv_model.specs.declared.call.Call.{Call}
 use Rattle.pv_model.specs.declared.call.Call.TheVariants.{Execve, Open, Unlink, Rename}
@@ -29,7 +29,7 @@ use Rattle.pv_model.specs.Tree.{node_at}
 use Rattle.pv_model.specs.Walk.{resolve}
 use Rattle.pv_model.specs.Walks.{Walk, rename_walk, walks_of}
 
--- killed or refused by a promise, or refused by a table
+-- whether a promise killed or refused the call, or a table refused it
 abbrev pub is_by_sandbox : Outcome → Bool
 is_by_sandbox (Killed a) = true
 is_by_sandbox (Failed errno (ByPromise a)) = true
@@ -40,7 +40,7 @@ abbrev pub need_if : Bool → Promise → List Need
 need_if true a = (a ∷ []) ∷ []
 need_if false a = []
 
--- the promises that go with permissions
+-- the promises that correspond to permissions
 abbrev pub needs_with : Perms → List Need
 needs_with asked = need_if asked.r Rpath ++ need_if asked.w Wpath ++ need_if asked.x Exec ++ need_if asked.c Cpath
 
@@ -48,8 +48,8 @@ abbrev pub is_some_letter : Perms → Bool
 is_some_letter asked = asked.r || asked.w || asked.x || asked.c
 
 module _ (program_of : Bytes → Option Program) (s : State) (pid : ℕ) (p : Process) where
-  -- a call with one walk, which ends at the place; it asks there for permissions, and needs just the promises that go with them.
-  -- The walk is made, unless a promise is missing
+  -- a call with one walk, which ends at the place; there it needs permissions, and it needs exactly the promises that
+  -- correspond to them. The walk is made unless a promise is missing
   pub record AsksAt (call : Call) (place : Place) (asked : Perms) : Type 0 where
     pub walk : Walk
     pub only : walks_of call ≡ walk ∷ []
@@ -58,14 +58,14 @@ module _ (program_of : Bytes → Option Program) (s : State) (pid : ℕ) (p : Pr
     pub goes_with : needs call ≡ needs_with asked
     pub made : missing_promise p.promises (needs call) ≡ None → (answer program_of s pid call).walks ≡ 1
 
--- neither promise nor table refuses such a call, exactly where all letters that it asks for stand at the place
+-- neither a promise nor the table refuses such a call if and only if the process has all these permissions at the place
 abbrev pub ReachIsExact : Type 0
 ReachIsExact =
     (program_of : Bytes → Option Program) (s : State) (pid : ℕ) (p : Process) (call : Call) (place : Place) (asked : Perms) → process_at s pid ≡ Some p
     → AsksAt program_of s pid p call place asked → IsTrue (is_some_letter asked)
     → IsFalse (is_by_sandbox (answer program_of s pid call).outcome) ↔ IsTrue (covers (reached_permissions s p place) asked)
 
--- nor a rename, exactly where c stands at both its places
+-- neither refuses a rename if and only if the process has c at both its places
 abbrev pub RenameIsExact : Type 0
 RenameIsExact =
     (program_of : Bytes → Option Program) (s : State) (pid : ℕ) (p : Process) (path new : Bytes) (from into : Place) → process_at s pid ≡ Some p
@@ -77,34 +77,34 @@ RenameIsExact =
 abbrev pub HasRoomToOpen : State → Process → Type 0
 HasRoomToOpen s p = IsFalse (nat_le DESCRIPTORS (least_free p.descriptors)) × IsFalse (nat_le OPEN_FILES (least_free s.files))
 
--- a path leads to a place, a link at its end not followed
+-- a path leads to a place; a link at its end is not followed
 abbrev pub LeadsThere : State → Process → Bytes → Place → Type 0
 LeadsThere s p path place = resolve s.tree Keep p.directory path ≡ Ok place
 
--- an open that makes nothing and follows no final link
+-- an open that creates nothing and does not follow a final link
 abbrev pub opening : Mode → OpenFlags
 opening mode = record { mode = mode; append = false; create = false; truncate = false; exclusive = false; no_follow = true; directory = false; close_on_exec = false }
 
--- r is what an open for reading shows
+-- an open for reading shows r
 abbrev pub OpenShowsR : Type 0
 OpenShowsR =
     (program_of : Bytes → Option Program) (s : State) (pid : ℕ) (p : Process) (path : Bytes) (place : Place) → process_at s pid ≡ Some p → HasRoomToOpen s p → LeadsThere s p path place
     → IsFalse (is_by_sandbox (answer program_of s pid (Open path (opening Read))).outcome) ↔ IsTrue (reached_permissions s p place).r
 
--- w one for writing
+-- an open for writing shows w
 abbrev pub OpenShowsW : Type 0
 OpenShowsW =
     (program_of : Bytes → Option Program) (s : State) (pid : ℕ) (p : Process) (path : Bytes) (place : Place) → process_at s pid ≡ Some p → HasRoomToOpen s p → LeadsThere s p path place
     → IsFalse (is_by_sandbox (answer program_of s pid (Open path (opening Write))).outcome) ↔ IsTrue (reached_permissions s p place).w
 
--- x an execve of what is no link
+-- an execve of a node that is not a link shows x
 abbrev pub ExecveShowsX : Type 0
 ExecveShowsX =
     (program_of : Bytes → Option Program) (s : State) (pid : ℕ) (p : Process) (path : Bytes) (place : Place) → process_at s pid ≡ Some p → LeadsThere s p path place
     → IsFalse (is_link (option_and_then (node_at s.tree) (node_of place)))
     → IsFalse (is_by_sandbox (answer program_of s pid (Execve path)).outcome) ↔ IsTrue (reached_permissions s p place).x
 
--- and c an unlink
+-- an unlink shows c
 abbrev pub UnlinkShowsC : Type 0
 UnlinkShowsC =
     (program_of : Bytes → Option Program) (s : State) (pid : ℕ) (p : Process) (path : Bytes) (place : Place) → process_at s pid ≡ Some p → LeadsThere s p path place

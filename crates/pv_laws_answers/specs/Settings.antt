@@ -1,4 +1,4 @@
--- Where the entries of tables were set: by which unveils of a run.
+-- The settings of table entries: the unveils of a run that set them.
 use Rattle.std.specs.Prelude.{◌≡◌, ℕ, Bool, false, ◌&&◌, ◌||◌, ◌==◌, IsTrue, List, [], ◌∷◌, ◌++◌, length, slice_get, Option, None, Some, is_some, Ok}
 use Rattle.pv_model.specs.declared.call.Call.TheVariants.{Unveil}
 use Rattle.pv_model.specs.declared.outcome.Outcome.TheVariants.{Value}
@@ -16,21 +16,21 @@ use Rattle.pv_model.specs.State.{Program, Process, State, process_at}
 use Rattle.pv_model.specs.Step.{step, run}
 use Rattle.pv_model.specs.Unveil.{entry_for, target_of}
 use Rattle.pv_model.specs.Walks.{unveil_walk}
-use Rattle.pv_laws_states.specs.States.{SpellsPrograms, IsWhole}
+use Rattle.pv_laws_states.specs.States.{EncodesPrograms, IsValid}
 use Rattle.pv_laws_access.specs.Growth.{begins_image}
-use Rattle.pv_laws_secrecy.specs.Origins.{origin}
+use Rattle.pv_laws_access.specs.Origins.{origin}
 
--- no process has a table
 abbrev pub HasNoTables : State → Type 0
 HasNoTables s = (k : ℕ) (p : Process) → process_at s k ≡ Some p → p.table ≡ None
 
 module _ (program_of : Bytes → Option Program) where
-  -- where entries were set, after a run
+  -- the settings after a run
   abbrev pub settings_along : List ℕ → Settings → State → Settings
   settings_along [] all s = all
   settings_along (pid ∷ pids) all s = settings_along pids (settings_next program_of s pid all) (step program_of s pid).after
 
-  -- a step of process `pid` is an unveil of a path with permissions that succeeds: the entry k of its table, which is then for what is at the path's end, has got them
+  -- a step of process `pid` is a successful unveil of a path with permissions: it gives entry k of its table, for the
+  -- node or name at the path's end, its permissions
   pub record SetsEntry (s : State) (pid : ℕ) (me : Process) (k : ℕ) (entry : Target × Perms) : Type 0 where
     pub path : Bytes
     pub text : Bytes
@@ -40,14 +40,14 @@ module _ (program_of : Bytes → Option Program) where
     pub next_is : next me ≡ calls_for (Unveil (Some path) (Some text))
     pub succeeds : (step program_of s pid).outcome ≡ Value 0
     pub leads : end_of s me (unveil_walk path no_permissions) ≡ Ok place
-    pub spelled : read_permissions text ≡ Some permissions
+    pub encoded : read_permissions text ≡ Some permissions
     pub is : entry ≡ (target_of s.tree place, permissions)
     pub after : Process
     pub left : process_at (step program_of s pid).after pid ≡ Some after
     pub number : entry_for (entries_of_table after.table) (target_of s.tree place) ≡ Some k
     pub has : slice_get (entries_of_table after.table) k ≡ Some entry
 
-  -- the step of process `pid` begins a new program, and is process m's
+  -- the step of process `pid` starts a new program, and the process is m
   abbrev pub begins_by : State → ℕ → Option Process → Bool
   begins_by s pid None = false
   begins_by s pid (Some me) = begins_image (next me) (step program_of s pid).outcome
@@ -55,7 +55,8 @@ module _ (program_of : Bytes → Option Program) where
   abbrev pub begins_program_of : State → ℕ → ℕ → Bool
   begins_program_of s pid m = (m == pid) && begins_by s pid (process_at s pid)
 
-  -- the process that is k after a run descends from the one that is j before it, and none of this line set the entry; and whether one of it began a new program
+  -- process k after a run is process j before it or a descendant, no process of this line set the entry since, and
+  -- `earlier` states whether one of them started a new program
   abbrev pub StaysSet : ℕ → ℕ → ℕ → Bool → List ℕ → State → Type 0
   StaysSet entry j k earlier [] s = (j ≡ k) × (earlier ≡ false)
   StaysSet entry j k earlier (pid ∷ pids) s =
@@ -63,8 +64,9 @@ module _ (program_of : Bytes → Option Program) where
       × ((me : Process) (e : Target × Perms) → SetsEntry s pid me entry e → m ≡ pid → ⊥)
       × (earlier ≡ (begins_program_of s pid m || later)) × StaysSet entry m k later pids (step program_of s pid).after
 
-  -- what a setting of an entry of process k says, after a run: an unveil of the run, at its line, gave the entry its permissions, by this process or by one from
-  -- which it descends; since then none of the line set the entry, and one of it began a new program exactly where the setting says so
+  -- the meaning of a setting of process k after a run: an unveil of the run at this line, by this process or an
+  -- ancestor, gave the entry its permissions; no process of this line has set the entry since, and one of them has
+  -- started a new program if and only if the setting says so
   pub record WasSet (pids : List ℕ) (s : State) (k number : ℕ) (entry : Target × Perms) (setting : Setting) : Type 0 where
     pub before : List ℕ
     pub by : ℕ
@@ -75,15 +77,15 @@ module _ (program_of : Bytes → Option Program) where
     pub line : me.line ≡ setting.line
     pub stays : StaysSet number by k setting.earlier since (step program_of (run program_of before s).final by).after
 
--- each live process has a setting for each of its entries, and no others
+-- each live process has exactly one setting for each of its entries
 abbrev pub EachEntryIsSet : Type 0
 EachEntryIsSet =
-    (program_of : Bytes → Option Program) → SpellsPrograms program_of → (s : State) (pids : List ℕ) (k : ℕ) (p : Process) → IsWhole s → HasNoTables s
+    (program_of : Bytes → Option Program) → EncodesPrograms program_of → (s : State) (pids : List ℕ) (k : ℕ) (p : Process) → IsValid s → HasNoTables s
     → process_at (run program_of pids s).final k ≡ Some p → length (settings_of (settings_along program_of pids [] s) k) ≡ length (entries_of_table p.table)
 
--- and it tells the unveil that set the entry
-abbrev pub SettingsTellUnveils : Type 0
-SettingsTellUnveils =
-    (program_of : Bytes → Option Program) → SpellsPrograms program_of → (s : State) (pids : List ℕ) (k : ℕ) (p : Process) (number : ℕ) (setting : Setting) → IsWhole s → HasNoTables s
+-- each setting names the unveil that set the entry
+abbrev pub SettingsReportUnveils : Type 0
+SettingsReportUnveils =
+    (program_of : Bytes → Option Program) → EncodesPrograms program_of → (s : State) (pids : List ℕ) (k : ℕ) (p : Process) (number : ℕ) (setting : Setting) → IsValid s → HasNoTables s
     → process_at (run program_of pids s).final k ≡ Some p → slice_get (settings_of (settings_along program_of pids [] s) k) number ≡ Some setting
     → (entry : Target × Perms) × (slice_get (entries_of_table p.table) number ≡ Some entry) × WasSet program_of pids s k number entry setting

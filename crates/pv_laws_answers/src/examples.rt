@@ -1,9 +1,10 @@
-//! A worked run with answers.
+//! A worked run for the laws of answers.
 
 ghost use Rattle.pv_laws_answers.specs.Examples.{AnswersExamples};
 
-/// In a worked run letters of a place come and go by own steps under a locked table, a child has its parent's settings, and a call
-/// of a stint is killed for want of a listed promise, and refused by an entry that lacks a letter.
+/// In a worked run under a locked table, a place gains and loses permissions by the process's own steps, and a child
+/// has its parent's settings. A call of the run is killed if a listed promise is missing, and refused by an entry that
+/// lacks a listed permission.
 pub fn answers_happen()
     ensures { AnswersExamples }
 {}

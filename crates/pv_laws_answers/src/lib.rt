@@ -1,25 +1,27 @@
-//! Laws of the answers: what the texts of `explain`, `reach` and `needs` are worth.
+//! Laws of the answers: what a reader may conclude from the texts of `reach`, `needs`, `explain`, `explore` and
+//! `graph`.
 //!
-//! Each function has an empty body: its contract is the law, which the check proves. The statements stand in `specs/`, one
-//! file for a subject:
+//! Each law is a function with an empty body whose contract is the statement, defined in `specs/`.
 //!
-//! - `begun`: a whole run begun with promises.
-//! - `examples`: a run in which letters come and go.
-//! - `explained`: the lines of a run with what is said of them.
-//! - `levels`: how a judgement came about.
-//! - `over_time`: the letters of a place before and after a step.
-//! - `reach`: what a process may do at each place.
-//! - `settings`: where the entries of tables were set.
-//! - `stints`: what is enough for a stint, and what it needs.
-//! - `wanted`: what lines tell of what a call needs.
+//! - One state: `reach` (names, and permissions at each place), `over_time` (their changes), `levels` (decisions of a table).
+//! - A run: `explained` (its text), `settings` (where entries were set), `wanted` (the lines PLDG and UNVL),
+//!   `process_images`, `counts` and `begun` (what a program needs).
+//! - All schedules: `search` (states and texts), `graph` (its paths are the runs), `unread` (files that no step reads),
+//!   `waits` (no deadlocks). The modules `*examples` have worked runs.
 #![tactic(auto)]
 
 pub mod begun;
+pub mod counts;
 pub mod examples;
 pub mod explained;
+pub mod graph;
 pub mod levels;
 pub mod over_time;
+pub mod process_images;
 pub mod reach;
+pub mod search;
+pub mod search_examples;
 pub mod settings;
-pub mod stints;
+pub mod unread;
+pub mod waits;
 pub mod wanted;

@@ -1,24 +1,26 @@
-//! Laws of the letters of a place over time.
+//! Laws of how a step changes the permissions of a process at a place.
 
 ghost use Rattle.pv_laws_answers.specs.OverTime.{WithoutChangeLettersGo, WithoutCLettersGo, LettersComeByChanges, ChangesShowC};
 
-/// In one program image, by a process's own step under a locked table, the letters of a place only go where the step changes no
-/// entry.
+/// If a step of a process with a locked table starts no new program image and changes no entry, the process gains no
+/// permission at any place.
 pub fn without_change_letters_go()
     ensures { WithoutChangeLettersGo }
 {}
 
-/// They only go where no entry of the table gives c, or the promises lack `cpath`.
+/// If a step of a process with a locked table starts no new program image, and no entry of the table grants c or the
+/// promises lack `cpath`, the process gains no permission at any place.
 pub fn without_c_letters_go()
     ensures { WithoutCLettersGo }
 {}
 
-/// Where a letter comes, the entry there, or one for its directory or for one above that, changed.
+/// If such a step gives the process a permission at a place, it changed the entry there or an entry for a directory at
+/// or above the place's directory.
 pub fn letters_come_by_changes()
     ensures { LettersComeByChanges }
 {}
 
-/// In any step, c stood before at each entry that changed.
+/// Before any step, its process has c at each entry that the step changes.
 pub fn changes_show_c()
     ensures { ChangesShowC }
 {}

@@ -1,35 +1,45 @@
-//! Laws of what a process may do at each place.
+//! Laws of the answer `reach`: the permissions of a process at each place.
 
 ghost use Rattle.pv_laws_answers.specs.Reach.{ReachIsExact, RenameIsExact, OpenShowsR, OpenShowsW, ExecveShowsX, UnlinkShowsC};
+ghost use Rattle.pv_laws_answers.specs.ReachNames.{ReachBeginsWithNames, ReachListsTheListing};
 
-/// A call with one walk, which needs just the promises that go with the letters that it asks for where the walk ends, is refused
-/// by neither promise nor table exactly where all these letters stand at that place.
+/// If a call makes one walk and needs exactly the promises that correspond to the permissions that it needs at the end,
+/// then neither a promise nor the table refuses it if and only if `reach` shows all these permissions at that place.
 pub fn reach_is_exact()
     ensures { ReachIsExact }
 {}
 
-/// A rename is refused by neither promise nor table exactly where c stands at both its places.
+/// Neither a promise nor the table refuses a rename if and only if `reach` shows c at both its places.
 pub fn rename_is_exact()
     ensures { RenameIsExact }
 {}
 
-/// Where a path leads to a place, and a descriptor and an open file are free, an open for reading that follows no final link
-/// shows whether r stands there.
+/// If a path leads to a place, and a descriptor and an open file are free, then an open for reading that does not
+/// follow a final link is refused by neither a promise nor the table if and only if `reach` shows r there.
 pub fn open_shows_r()
     ensures { OpenShowsR }
 {}
 
-/// And one for writing whether w does.
+/// The same holds for an open for writing and w.
 pub fn open_shows_w()
     ensures { OpenShowsW }
 {}
 
-/// Where a path leads to a place, and what is there is no link, an execve shows whether x stands there.
+/// If a path leads to a place that is not a symbolic link, an execve is refused by neither a promise nor the table if
+/// and only if `reach` shows x there.
 pub fn execve_shows_x()
     ensures { ExecveShowsX }
 {}
 
-/// Where a path leads to a place, an unlink shows whether c stands there.
+/// If a path leads to a place, an unlink is refused by neither a promise nor the table if and only if `reach` shows c
+/// there.
 pub fn unlink_shows_c()
     ensures { UnlinkShowsC }
+{}
+
+/// The names that `reach` lists are those of the listing, in its order: each name to which entries lead from the root,
+/// once, with its path, its node and its place. The text for a process begins with one line for each.
+pub fn reach_lists_the_listing()
+    ensures names { ReachListsTheListing }
+    ensures lines { ReachBeginsWithNames }
 {}

@@ -1,15 +1,15 @@
-//! Laws of where entries were set.
+//! Laws of where the entries of unveil tables were set.
 
-ghost use Rattle.pv_laws_answers.specs.Settings.{EachEntryIsSet, SettingsTellUnveils};
+ghost use Rattle.pv_laws_answers.specs.Settings.{EachEntryIsSet, SettingsReportUnveils};
 
-/// Along a run that begins without tables, each live process has a setting for each entry of its table, and for no other: an
-/// entry's line is never lacking.
+/// Along a run that starts without tables, each live process has exactly one setting for each entry of its table, so
+/// the line of an entry is always known.
 pub fn each_entry_is_set()
     ensures { EachEntryIsSet }
 {}
 
-/// A setting tells the last unveil that gave the entry its permissions: the line at which the process stood that made it, this one
-/// or one from which it was forked; and whether one of them has begun a new program since.
-pub fn settings_tell_unveils()
-    ensures { SettingsTellUnveils }
+/// A setting names the last unveil that gave the entry its permissions: the line of the process that made it, which is
+/// this process or an ancestor, and whether one of them has started a new program since.
+pub fn settings_report_unveils()
+    ensures { SettingsReportUnveils }
 {}

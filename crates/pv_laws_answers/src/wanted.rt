@@ -1,15 +1,15 @@
-//! Laws of what the lines of a step say of what its call needs.
+//! Laws of what the lines PLDG and UNVL of a step report about the needs of its call.
 
-ghost use Rattle.pv_laws_answers.specs.Wanted.{WantIsTold, RefusalIsTold};
+ghost use Rattle.pv_laws_answers.specs.Wanted.{NeedIsReported, RefusalIsReported};
 
-/// A step has no PLDG line `killed` or `refused` exactly where its process is not pledged, or its promises have all that its call
-/// needs.
-pub fn want_is_told()
-    ensures { WantIsTold }
+/// A step has no PLDG line `killed` or `refused` if and only if its process is not pledged or its promises meet all
+/// needs of the call.
+pub fn need_is_reported()
+    ensures { NeedIsReported }
 {}
 
-/// A walk that is judged and ends at a place has no UNVL line exactly where no table is in force, or the entry that governs the
-/// place has the letters asked.
-pub fn refusal_is_told()
-    ensures { RefusalIsTold }
+/// A walk that is judged and ends at a place has no UNVL line if and only if no table is in force or the entry that
+/// governs the place has the permissions that the call needs.
+pub fn refusal_is_reported()
+    ensures { RefusalIsReported }
 {}

@@ -1,4 +1,4 @@
--- The entries of a manifest are applied to a tree one after another.
+-- The entries of a manifest are added to a tree in order.
 use Rattle.std.proofs.Common.{◌≡◌, ℕ, true, false, cond, not, ◌||◌, List, [], ◌∷◌, ◌++◌, map, Option, None, Some, Result, Ok, Err, ap, sym, ◌∙◌, refl, subst}
 use Rattle.std.specs.Prelude.{is_some, fold}
 use Rattle.std.proofs.lemmas.Bool.{cond_both, cond-true, cond-false, or_parts, or_from, not-false, not_from_true}
@@ -13,20 +13,20 @@ use Rattle.pv_model.specs.Room.{is_too_long, fits}
 use Rattle.pv_model.specs.Tree.{Tree, root, is_directory_at, find_entry, with_entry, with_new_node}
 use Rattle.pv_model.specs.Walk.{components}
 
--- ---- where names lead
+-- ---- the place that names lead to
 
 module _ (t : Tree) where
-  -- what is entered is a directory
+  -- a node on the path is a directory
   record Entered (onward : ℕ → Option (ℕ × Bytes)) (o : Option ℕ) (p : ℕ × Bytes) : Type 0 where
     n : ℕ
-    stands : o ≡ Some n
+    appears : o ≡ Some n
     kind : is_directory_at t n ≡ true
     more : onward n ≡ Some p
 
   enter_found : (onward : ℕ → Option (ℕ × Bytes)) (o : Option ℕ) (p : ℕ × Bytes) → enter_directory t onward o ≡ Some p → Entered onward o p
   enter_found onward None p e = absurd (cc)
   enter_found onward (Some n) p e = cond_both (is_directory_at t n) (onward n) None (λ r. r ≡ Some p → Entered onward (Some n) p)
-      (λ is h. record { n = n; stands = refl; kind = is; more = h })
+      (λ is h. record { n = n; appears = refl; kind = is; more = h })
       (λ is h. absurd (cc)) e
 
   LeadsTo-container : (names : List Bytes) (d : ℕ) (p : ℕ × Bytes) → container t names d ≡ Some p → LeadsTo t d names p.0 p.1
@@ -36,12 +36,12 @@ module _ (t : Tree) where
       subst (λ (q : ℕ × Bytes). LeadsTo t d (name ∷ []) q.0 q.1) same (at_last_name d name)
   LeadsTo-container (name ∷ next ∷ others) d p e =
       let entered = enter_found (container t (next ∷ others)) (find_entry t d name) p e in
-      down d entered.n name next others p.0 p.1 entered.stands entered.kind (LeadsTo-container (next ∷ others) entered.n p entered.more)
+      down d entered.n name next others p.0 p.1 entered.appears entered.kind (LeadsTo-container (next ∷ others) entered.n p entered.more)
 
   container-LeadsTo : (d : ℕ) (names : List Bytes) (at : ℕ) (last : Bytes) → LeadsTo t d names at last → container t names d ≡ Some (at, last)
   container-LeadsTo _ _ _ _ (at_last_name d name) = refl
-  container-LeadsTo _ _ _ _ (down d n name next others at last stands kind more) =
-      ap (enter_directory t (container t (next ∷ others))) stands
+  container-LeadsTo _ _ _ _ (down d n name next others at last appears kind more) =
+      ap (enter_directory t (container t (next ∷ others))) appears
       ∙ cond-true (is_directory_at t n) (container t (next ∷ others) n) None kind
       ∙ container-LeadsTo n (next ∷ others) at last more
 
@@ -57,7 +57,7 @@ module _ (t : Tree) where
   under_found path n None is e = absurd (cc)
   under_found path n (Some p) is e =
       let found = kind_found (find_entry t p.0 p.1) n e in
-      record { container = p.0; name = p.1; leads = LeadsTo-container (components path) root p is; stands = found.0; kind = found.1 }
+      record { container = p.0; name = p.1; leads = LeadsTo-container (components path) root p is; appears = found.0; kind = found.1 }
 
   NamesFile-source_of : (path : Bytes) (n : ℕ) → source_of t path ≡ Some n → NamesFile t path n
   NamesFile-source_of path n e = under_found path n (container t (components path) root) refl e
@@ -65,7 +65,7 @@ module _ (t : Tree) where
   source_of-NamesFile : (path : Bytes) (n : ℕ) → NamesFile t path n → source_of t path ≡ Some n
   source_of-NamesFile path n h =
       ap (under_container t) (container-LeadsTo root (components path) h.container h.name h.leads)
-      ∙ ap (if_not_directory t) h.stands
+      ∙ ap (if_not_directory t) h.appears
       ∙ cond-false (is_directory_at t n) None (Some n) h.kind
 
   -- ---- one entry
@@ -111,7 +111,7 @@ module _ (t : Tree) where
   unfolding add_entry
   judged line e = judged_at line e (container t (components (path_of e)) root) refl
 
-  -- ---- what is said of an entry determines the answer
+  -- ---- the result for an entry is unique
 
   at_place : (line : ℕ) (e : Entry) (d : ℕ) (name : Bytes) → IsPlaceOf t e d name → add_entry line t e ≡ entry_in line t e d name
   unfolding add_entry
@@ -160,24 +160,24 @@ module _ (t : Tree) where
       makes_answer line e h.1 h.2 ∙ no_room line h.1 h.3 ∙ ap (λ k. Err (Room k)) (sym h.0)
   add_entry-IsRefused line e _ h = absurd h
 
-  -- ---- the tree by the plain fold
+  -- ---- the tree as a fold over entries
 
   at_last-LeadsTo : (step : ℕ → Bytes → Tree) (d : ℕ) (names : List Bytes) (at : ℕ) (last : Bytes) → LeadsTo t d names at last → at_last step t names d ≡ step at last
   at_last-LeadsTo step _ _ _ _ (at_last_name d name) = refl
-  at_last-LeadsTo step _ _ _ _ (down d n name next others at last stands kind more) =
-      ap (λ o. at_last step t (next ∷ others) (or_none o)) stands ∙ at_last-LeadsTo step n (next ∷ others) at last more
+  at_last-LeadsTo step _ _ _ _ (down d n name next others at last appears kind more) =
+      ap (λ o. at_last step t (next ∷ others) (or_none o)) appears ∙ at_last-LeadsTo step n (next ∷ others) at last more
 
   descend-LeadsTo : (d : ℕ) (names : List Bytes) (at : ℕ) (last : Bytes) (n : ℕ) → LeadsTo t d names at last → find_entry t at last ≡ Some n → descend t names d ≡ n
-  descend-LeadsTo _ _ _ _ n (at_last_name d name) stands = ap or_none stands
-  descend-LeadsTo _ _ _ _ n (down d m name next others at last there kind more) stands =
-      ap (λ o. descend t (next ∷ others) (or_none o)) there ∙ descend-LeadsTo m (next ∷ others) at last n more stands
+  descend-LeadsTo _ _ _ _ n (at_last_name d name) appears = ap or_none appears
+  descend-LeadsTo _ _ _ _ n (down d m name next others at last there kind more) appears =
+      ap (λ o. descend t (next ∷ others) (or_none o)) there ∙ descend-LeadsTo m (next ∷ others) at last n more appears
 
   pub apply_entry-Makes : (e : Entry) (after : Tree) → Makes t e after → apply_entry t e ≡ after
   apply_entry-Makes (make path node) after h =
       at_last-LeadsTo (λ d name. with_new_node t d name node) root (components path) h.container h.name h.place.leads ∙ sym h.made
   apply_entry-Makes (further_name path source) after h =
       at_last-LeadsTo (λ d name. with_entry t d name (descend t (components source) root)) root (components path) h.container h.name h.place.leads
-      ∙ ap (with_entry t h.container h.name) (descend-LeadsTo root (components source) h.made.1.container h.made.1.name h.made.0 h.made.1.leads h.made.1.stands)
+      ∙ ap (with_entry t h.container h.name) (descend-LeadsTo root (components source) h.made.1.container h.made.1.name h.made.0 h.made.1.leads h.made.1.appears)
       ∙ sym h.made.2
 
 -- ---- all entries

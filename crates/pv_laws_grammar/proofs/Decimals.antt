@@ -1,4 +1,4 @@
--- Decimals, and numbers of 32 bits.
+-- Decimal numbers, and numbers of 32 bits.
 use Rattle.std.proofs.Common.{◌≡◌, ◌≢◌, ℕ, ◌+◌, ◌-◌, ◌*◌, ◌/◌, ◌%◌, ◌^◌, ◌<◌, ◌≤◌, true, false, not, ◌&&◌, ◌==◌, nat_le, [], ◌∷◌, ◌++◌, None, Some, ap, sym, ◌∙◌, refl, subst, append_assoc, append-nil, arith, leb-true, le-leb}
 use Rattle.std.proofs.lemmas.Bool.{cond_both, and_parts, and_from, ne_eqb, not-true, not_from_false, eqb-false, cond-true}
 use Rattle.std.proofs.lemmas.Fmt.{decimal_digit, decimal_step, decimal_by_steps}
@@ -7,7 +7,7 @@ use Rattle.std.specs.Fmt.{decimal}
 use Rattle.std.specs.List.{list_all}
 use Rattle.pv_model.specs.Bytes.{Bytes, is_empty}
 use Rattle.pv_model.specs.Grammar.Lines.{is_digit, has_leading_zero, is_decimal, value_from, decimal_of}
-use Rattle.pv_model.specs.Grammar.Spelling.{Decimal, one_digit, one_more}
+use Rattle.pv_model.specs.Grammar.Encoding.{Decimal, one_digit, one_more}
 use Rattle.pv_laws_grammar.proofs.FirstWord.{no_space}
 
 pub digit_bounds : (b : ℕ) → is_digit b ≡ true → (48 ≤ b) × (b ≤ 57)
@@ -16,7 +16,7 @@ digit_bounds b h = let parts = and_parts (nat_le 48 b) (nat_le b 57) h in (leb-t
 is_digit-digit : (d : ℕ) → d < 10 → is_digit (48 + d) ≡ true
 is_digit-digit d h = and_from (nat_le 48 (48 + d)) (nat_le (48 + d) 57) (le-leb 48 (48 + d) (omega arith)) (le-leb (48 + d) 57 (omega arith))
 
--- digits after a decimal that is not 0
+-- digits after a nonzero decimal number
 more_digits : (n : ℕ) (front bs : Bytes) → 0 < n → Decimal n front → list_all is_digit bs ≡ true → Decimal (value_from n bs) (front ++ bs)
 more_digits n front [] some so_far h = rw append-nil so_far
 more_digits n front (b ∷ bs) some so_far h =
@@ -52,13 +52,13 @@ Decimal-is_decimal bs h =
     let inner = and_parts (not (is_empty bs)) (list_all is_digit bs) outer.0 in
     from_parts bs inner.0 inner.1 (not-true (has_leading_zero bs) outer.1)
 
--- what the function on bytes finds is a decimal
+-- a word that parses is a decimal number
 pub Decimal-decimal_of : (bs : Bytes) (n : ℕ) → decimal_of bs ≡ Some n → Decimal n bs
 Decimal-decimal_of bs n = cond_both (is_decimal bs) (Some (value_from 0 bs)) None (λ r. r ≡ Some n → Decimal n bs)
     (λ is e. let same : value_from 0 bs ≡ n = cc in subst (λ m. Decimal m bs) same (Decimal-is_decimal bs is))
     (λ is e. cc)
 
--- ---- and the other way round
+-- ---- conversely
 
 value_from-more : (n d : ℕ) (front : Bytes) → value_from n (front ++ (48 + d) ∷ []) ≡ 10 * value_from n front + d
 value_from-more n d [] = omega arith
@@ -81,7 +81,7 @@ not_empty : (n : ℕ) (bs : Bytes) → Decimal n bs → not (is_empty bs) ≡ tr
 not_empty _ _ (one_digit d h) = refl
 not_empty _ _ (one_more n d front some h so_far) = not_empty_append front (48 + d)
 
--- what begins without a 0 goes on so
+-- a prefix without a leading 0 can be extended
 no_lead_more : (front : Bytes) (b : ℕ) → list_all is_digit front ≡ true → 0 < value_from 0 front → has_leading_zero front ≡ false → has_leading_zero (front ++ b ∷ []) ≡ false
 no_lead_more [] b all some lead = refl
 no_lead_more (c ∷ []) b all some lead = ne_eqb c 48 (λ e. omega arith)
@@ -102,7 +102,7 @@ is_decimal-Decimal n bs h =
 pub decimal_of-Decimal : (n : ℕ) (bs : Bytes) → Decimal n bs → decimal_of bs ≡ Some n
 decimal_of-Decimal n bs h = cond-true (is_decimal bs) (Some (value_from 0 bs)) None (is_decimal-Decimal n bs h) ∙ ap Some (value_from-Decimal n bs h)
 
--- ---- the decimal that std writes
+-- ---- the decimal number that the standard library writes
 
 pub Decimal-decimal : (n : ℕ) → n < 2 ^ 64 → Decimal n (decimal n)
 Decimal-decimal = decimal_by_steps Decimal one_digit more
@@ -112,14 +112,14 @@ Decimal-decimal = decimal_by_steps Decimal one_digit more
         let whole : 10 * (n / 10) + n % 10 ≡ n = omega arith in
         subst (λ m. Decimal m (ds ++ (48 + n % 10) ∷ [])) whole (one_more (n / 10) (n % 10) ds (omega arith) (omega arith) so_far)
 
-pub Decimal-spelled : (n : ℕ) (bs : Bytes) → Decimal n bs → n < 2 ^ 64 → bs ≡ decimal n
-Decimal-spelled _ _ (one_digit d h) fits = sym (decimal_digit d h)
-Decimal-spelled _ _ (one_more n d front some h so_far) fits =
+pub Decimal-encoded : (n : ℕ) (bs : Bytes) → Decimal n bs → n < 2 ^ 64 → bs ≡ decimal n
+Decimal-encoded _ _ (one_digit d h) fits = sym (decimal_digit d h)
+Decimal-encoded _ _ (one_more n d front some h so_far) fits =
     let front_is : (10 * n + d) / 10 ≡ n = omega arith in
     let last_is : (10 * n + d) % 10 ≡ d = omega arith in
     let step = decimal_step (10 * n + d) (omega arith) fits in
     let same : decimal (10 * n + d) ≡ decimal n ++ (48 + d) ∷ [] = rw (front_is, last_is) at step in
-    ap (λ f. f ++ (48 + d) ∷ []) (Decimal-spelled n front so_far (omega arith)) ∙ sym same
+    ap (λ f. f ++ (48 + d) ∷ []) (Decimal-encoded n front so_far (omega arith)) ∙ sym same
 
 no_space-digits : (bs : Bytes) → list_all is_digit bs ≡ true → no_space bs ≡ true
 no_space-digits [] h = refl

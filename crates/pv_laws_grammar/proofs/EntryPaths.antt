@@ -1,4 +1,4 @@
--- Paths of a manifest's entries.
+-- The paths of a manifest's entries.
 use Rattle.std.proofs.Common.{◌≡◌, ◌≢◌, ℕ, Bool, true, false, not, ◌&&◌, ◌==◌, List, [], ◌∷◌, ◌++◌, length, ap, sym, ◌∙◌, refl, append-nil, eqb-true}
 use Rattle.std.specs.Prelude.{IsTrue, codes, bytes_eq, nat_le}
 use Rattle.std.proofs.lemmas.Bool.{cond_both, and_parts, and_from, not-true, cond-false}
@@ -10,7 +10,7 @@ use Rattle.pv_model.specs.Grammar.Manifests.{is_manifest_path}
 use Rattle.pv_model.specs.Tree.{is_name_byte, is_name}
 use Rattle.pv_model.specs.Walk.{split_slashes}
 
--- the components between slashes, each after one, are the path after one
+-- joining the components between slashes gives the path back
 more_in_component : (b : ℕ) (bs : Bytes) (ps : List Bytes) → path_of_names ps ≡ 47 ∷ bs → path_of_names (onto_first b ps) ≡ 47 ∷ b ∷ bs
 more_in_component b bs [] e = absurd (cc)
 more_in_component b bs (p ∷ ps) e = let tail : p ++ path_of_names ps ≡ bs = cc in ap (λ r. 47 ∷ b ∷ r) tail
@@ -43,7 +43,7 @@ IsEntryPath-from_test (b ∷ bs) h =
     let parts = and_parts (b == 47) (list_all (is_name V1) (split_slashes bs)) h in
     (split_slashes bs, some_component bs, all_from (is_name V1) (split_slashes bs) parts.1, ap (λ c. c ∷ bs) (eqb-true b 47 parts.0) ∙ sym (path_of_components bs))
 
--- ---- names are the components of the path that they make
+-- ---- names are the components of the path that they form
 
 abbrev NoSlash : Bytes → Type 0
 NoSlash bs = list_all is_name_byte bs ≡ true

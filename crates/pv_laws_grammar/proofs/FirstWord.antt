@@ -1,4 +1,4 @@
--- The first word of a line, and what stands after it.
+-- The first word of a line, and the bytes after it.
 use Rattle.std.proofs.Common.{◌≡◌, Bool, true, false, cond, not, ◌==◌, [], ◌∷◌, ◌++◌, ap, ◌∙◌, refl, eqb-true}
 use Rattle.std.proofs.lemmas.Bool.{cond_both, and_parts, and_from, not-true}
 use Rattle.std.proofs.lemmas.List.Folds.{list_all-append}
@@ -7,14 +7,14 @@ use Rattle.pv_model.specs.Bytes.{Bytes}
 use Rattle.pv_model.specs.Grammar.Lines.{word_of, after_word}
 use Rattle.pv_model.specs.Grammar.Forms.{IsAfterWord}
 
--- a word has no space in it
+-- a word contains no space
 abbrev pub no_space : Bytes → Bool
 no_space bs = list_all (λ b. not (b == 32)) bs
 
 pub no_space-append : (a b : Bytes) → no_space a ≡ true → no_space b ≡ true → no_space (a ++ b) ≡ true
 no_space-append a b p q = list_all-append (λ c. not (c == 32)) a b ∙ and_from (no_space a) (no_space b) p q
 
--- a line is its first word and what stands after that
+-- a line is its first word followed by the rest
 pub word_split : (bs : Bytes) → bs ≡ word_of bs ++ after_word bs
 word_split [] = refl
 word_split (b ∷ bs) = elim (b == 32) as (λ t. b ∷ bs ≡ cond t [] (b ∷ word_of bs) ++ cond t (b ∷ bs) (after_word bs)) [

@@ -9,7 +9,7 @@ use Rattle.pv_model.specs.declared.open_flags.OpenFlags.{OpenFlags}
 use Rattle.pv_model.specs.Bytes.{Bytes}
 use Rattle.pv_model.specs.Trace.{mode_text, flag_text, flags_text}
 use Rattle.pv_model.specs.Grammar.Arguments.{Parsed, without_front, flag_or_none, flag_at, mode_after_r, mode_at, if_nothing_left, flags_after, flags_of_mode, flags_of}
-use Rattle.pv_model.specs.Grammar.Spelling.{SpellsFlags}
+use Rattle.pv_model.specs.Grammar.Encoding.{EncodesFlags}
 use Rattle.pv_laws_grammar.proofs.FirstWord.{no_space, no_space-append}
 use Rattle.pv_laws_grammar.proofs.Reading.{ReadsWord}
 
@@ -30,16 +30,16 @@ flag_or_none_found : (name word : Bytes) (o : Option Bytes) → without_front (4
 flag_or_none_found name word None is = refl
 flag_or_none_found name word (Some rest) is = without_front_found (43 ∷ name) word rest is
 
--- a word is the flag, if it stands there, and the rest
+-- a word is the flag, if present, followed by the rest
 flag_found : (name word : Bytes) → word ≡ flag_text (flag_at name word).0 name ++ (flag_at name word).1
 flag_found name word = flag_or_none_found name word (without_front (43 ∷ name) word) refl
 
--- a flag that is written stands there; where it is not written, the rest has to begin otherwise
+-- a written flag is recognized; if it is absent, the rest must not start with it
 flag_again : (name rest : Bytes) (b : Bool) → without_front (43 ∷ name) rest ≡ None → flag_at name (flag_text b name ++ rest) ≡ (b, rest)
 flag_again name rest true other = ap (flag_or_none ((43 ∷ name) ++ rest)) (without_front-front (43 ∷ name) rest)
 flag_again name rest false other = ap (flag_or_none rest) other
 
--- what does not begin with a flag, after another flag
+-- bytes that do not start with a flag, after another flag
 past_flag : (name other rest : Bytes) (b : Bool) → without_front (43 ∷ name) ((43 ∷ other) ++ rest) ≡ None → without_front (43 ∷ name) rest ≡ None → without_front (43 ∷ name) (flag_text b other ++ rest) ≡ None
 past_flag name other rest true here there = here
 past_flag name other rest false here there = there
@@ -50,7 +50,7 @@ if_nothing_left_found : (bs : Bytes) (f g : OpenFlags) → if_nothing_left bs f 
 if_nothing_left_found [] f g e = (refl, same_Some f g e)
 if_nothing_left_found (b ∷ bs) f g e = absurd (cc)
 
--- the texts of the flags after each
+-- the text of all flags that come after a flag
 abbrev pub after_close_on_exec : OpenFlags → Bytes
 after_close_on_exec f = []
 
@@ -89,7 +89,7 @@ flags_after_found mode word f e =
     let close_on_exec = flag_at (codes "cloexec") directory.1 in
     let g : OpenFlags = record { mode = mode; append = append.0; create = create.0; truncate = truncate.0; exclusive = exclusive.0; no_follow = no_follow.0; directory = directory.0; close_on_exec = close_on_exec.0 } in
     let end = if_nothing_left_found close_on_exec.1 g f e in
-    let spelled : word ≡ after_mode g =
+    let encoded : word ≡ after_mode g =
     flag_found (codes "append") word
     ∙ ap (λ r. flag_text append.0 (codes "append") ++ r) (flag_found (codes "create") append.1
     ∙ ap (λ r. flag_text create.0 (codes "create") ++ r) (flag_found (codes "trunc") create.1
@@ -98,9 +98,9 @@ flags_after_found mode word f e =
     ∙ ap (λ r. flag_text no_follow.0 (codes "nofollow") ++ r) (flag_found (codes "dir") no_follow.1
     ∙ ap (λ r. flag_text directory.0 (codes "dir") ++ r) (flag_found (codes "cloexec") directory.1
     ∙ ap (λ r. flag_text close_on_exec.0 (codes "cloexec") ++ r) end.0)))))) in
-    (ap (λ h. h.mode) end.1, spelled ∙ ap after_mode end.1)
+    (ap (λ h. h.mode) end.1, encoded ∙ ap after_mode end.1)
 
-flags_found : (word : Bytes) (f : OpenFlags) → flags_of word ≡ Some f → SpellsFlags f word
+flags_found : (word : Bytes) (f : OpenFlags) → flags_of word ≡ Some f → EncodesFlags f word
 unfolding flags_of
 flags_found word f e = by_mode (mode_at word) refl e
   where
@@ -132,9 +132,9 @@ flags_found word f e = by_mode (mode_at word) refl e
         let flags = flags_after_found p.0 p.1 f h in
         mode_found word p.0 p.1 is ∙ ap (λ r. mode_text p.0 ++ r) flags.1 ∙ ap (λ m. mode_text m ++ after_mode f) flags.0 ∙ sym (flags_text-parts f)
 
--- ---- and the other way round
+-- ---- conversely
 
--- what stands after a mode: nothing, or a flag
+-- the bytes after a mode: none, or a flag
 abbrev IsAfterMode : Bytes → Type 0
 IsAfterMode [] = Unit {0}
 IsAfterMode (b ∷ bs) = b ≡ 43
@@ -170,7 +170,7 @@ all_flags : (mode : Mode) (w w₁ w₂ w₃ w₄ w₅ w₆ w₇ : Bytes) (b₁ b
 all_flags mode w w₁ w₂ w₃ w₄ w₅ w₆ w₇ b₁ b₂ b₃ b₄ b₅ b₆ b₇ e₁ e₂ e₃ e₄ e₅ e₆ e₇ = rw (e₁, e₂, e₃, e₄, e₅, e₆, e₇) refl
 
 module _ (name : Bytes) (f : OpenFlags) where
-  -- where none of the flags after is this one
+  -- none of the later flags is this one
   abbrev Misses : Bytes → Bytes → Type 0
   Misses other rest = without_front (43 ∷ name) ((43 ∷ other) ++ rest) ≡ None
 
@@ -204,7 +204,7 @@ flags_after_again f =
     (flag_again (codes "dir") (after_directory f) f.directory (past_close_on_exec (codes "dir") f refl))
     (flag_again (codes "cloexec") (after_close_on_exec f) f.close_on_exec refl)
 
-flags_again : (f : OpenFlags) (word : Bytes) → SpellsFlags f word → flags_of word ≡ Some f
+flags_again : (f : OpenFlags) (word : Bytes) → EncodesFlags f word → flags_of word ≡ Some f
 unfolding flags_of
 flags_again f word h =
     ap flags_of (h ∙ flags_text-parts f)
@@ -220,7 +220,7 @@ no_space_flag : (b : Bool) (name rest : Bytes) → no_space name ≡ true → no
 no_space_flag true name rest h k = no_space-append (43 ∷ name) rest h k
 no_space_flag false name rest h k = k
 
-flags_whole : (f : OpenFlags) (word : Bytes) → SpellsFlags f word → no_space word ≡ true
+flags_whole : (f : OpenFlags) (word : Bytes) → EncodesFlags f word → no_space word ≡ true
 flags_whole f word h =
     ap no_space (h ∙ flags_text-parts f)
     ∙ no_space-append (mode_text f.mode) (after_mode f) (no_space_mode f.mode)
@@ -232,5 +232,5 @@ flags_whole f word h =
     (no_space_flag f.directory (codes "dir") (after_directory f) refl
     (no_space_flag f.close_on_exec (codes "cloexec") [] refl refl)))))))
 
-pub reads_flags : ReadsWord flags_of SpellsFlags
+pub reads_flags : ReadsWord flags_of EncodesFlags
 reads_flags = record { found = flags_found; again = flags_again; whole = flags_whole }

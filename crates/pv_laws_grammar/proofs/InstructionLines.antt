@@ -1,4 +1,4 @@
--- A line is read as the instruction that it spells, and else by what is wrong with it.
+-- A line parses as the instruction that it encodes, or gives the error that it contains.
 use Rattle.std.proofs.Common.{◌≡◌, ◌≢◌, ℕ, ◌≤◌, ℤ, pos, negsuc, true, false, cond, ◌&&◌, nat_le, nat_lt, List, [], ◌∷◌, ◌++◌, Option, None, Some, Result, Ok, Err, ap, sym, ◌∙◌, refl, subst, arith, leb-true, le-leb}
 use Rattle.std.specs.Prelude.{option_map, codes, bytes_eq}
 use Rattle.std.proofs.lemmas.Bool.{cond_both, and_parts, and_from, cond-true, cond-false, ltb-true, lt-ltb, false_from_ne_true}
@@ -19,8 +19,8 @@ use Rattle.pv_model.specs.Bytes.{Bytes}
 use Rattle.pv_model.specs.Grammar.Arguments.{Parsed, text_at, text_or_null_at, operand_of, register_of, number_of, whence_of, origin_of, flags_of, operand_at, register_at, number_at, whence_at, origin_at, flags_at, no_argument, one_argument, two_arguments, three_arguments}
 use Rattle.pv_model.specs.Grammar.Instructions.{or_argument, buffer_place, line_within, or_target, jump_by, jump_if_by, peek_by, on_registers, on_processes, on_descriptors, on_paths, instruction_by, instruction_of}
 use Rattle.pv_model.specs.Grammar.Lines.{word_of, after_word}
-use Rattle.pv_model.specs.Grammar.Forms.{Argument, operand, register, number, line, text, text_or_null, flags, whence, origin, Form, form_of, SpellsArguments, SpellsLine, IsAfterWord, BeginsWith, Jumping, always, if_zero, if_not_zero, if_negative, jump_form, IsLineOf, HasNoName, JumpsOut, IsWrong}
-use Rattle.pv_model.specs.Grammar.Spelling.{SpellsOperand, SpellsRegister, SpellsNumber, SpellsWhence, SpellsOrigin, SpellsFlags}
+use Rattle.pv_model.specs.Grammar.Forms.{Argument, operand, register, number, line, text, text_or_null, flags, whence, origin, Form, form_of, EncodesArguments, EncodesLine, IsAfterWord, BeginsWith, Jumping, always, if_zero, if_not_zero, if_negative, jump_form, IsLineOf, HasNoName, JumpsOut, IsInvalid}
+use Rattle.pv_model.specs.Grammar.Encoding.{EncodesOperand, EncodesRegister, EncodesNumber, EncodesWhence, EncodesOrigin, EncodesFlags}
 use Rattle.pv_laws_grammar.proofs.ArgumentLists.{ReadsAs, arguments_after, none_found, none_again, one_found, one_again, two_found, two_again, three_found, three_again}
 use Rattle.pv_laws_grammar.proofs.FirstWord.{no_space, word_split, after_word-ends, word_of-word, after_word-word}
 use Rattle.pv_laws_grammar.proofs.FlagWords.{reads_flags}
@@ -28,20 +28,20 @@ use Rattle.pv_laws_grammar.proofs.OneWord.{reads_number, reads_register, reads_o
 use Rattle.pv_laws_grammar.proofs.QuotedTexts.{reads_text, reads_text_or_null}
 use Rattle.pv_laws_grammar.proofs.Reading.{reads_word}
 
--- how an argument of a sort is read, in a program of so many lines
+-- the parser of one kind of argument, in a program with a number of lines
 record Shape (lines : ℕ) (A : Type 0) : Type 0 where
   at : Bytes → Parsed A
   sort : A → Argument
   reads : ReadsAs lines at sort
 
 abbrev operand_argument : {lines : ℕ} → Shape lines Operand
-operand_argument = record { at = operand_at; sort = operand; reads = reads_word operand_of SpellsOperand reads_operand }
+operand_argument = record { at = operand_at; sort = operand; reads = reads_word operand_of EncodesOperand reads_operand }
 
 abbrev register_argument : {lines : ℕ} → Shape lines ℕ
-register_argument = record { at = register_at; sort = register; reads = reads_word register_of SpellsRegister reads_register }
+register_argument = record { at = register_at; sort = register; reads = reads_word register_of EncodesRegister reads_register }
 
 abbrev number_argument : {lines : ℕ} → Shape lines ℤ
-number_argument = record { at = number_at; sort = number; reads = reads_word number_of SpellsNumber reads_number }
+number_argument = record { at = number_at; sort = number; reads = reads_word number_of EncodesNumber reads_number }
 
 abbrev text_argument : {lines : ℕ} → Shape lines Bytes
 text_argument = record { at = text_at; sort = text; reads = reads_text }
@@ -50,13 +50,13 @@ abbrev text_or_null_argument : {lines : ℕ} → Shape lines (Option Bytes)
 text_or_null_argument = record { at = text_or_null_at; sort = text_or_null; reads = reads_text_or_null }
 
 abbrev flags_argument : {lines : ℕ} → Shape lines OpenFlags
-flags_argument = record { at = flags_at; sort = flags; reads = reads_word flags_of SpellsFlags reads_flags }
+flags_argument = record { at = flags_at; sort = flags; reads = reads_word flags_of EncodesFlags reads_flags }
 
 abbrev whence_argument : {lines : ℕ} → Shape lines Whence
-whence_argument = record { at = whence_at; sort = whence; reads = reads_word whence_of SpellsWhence reads_whence }
+whence_argument = record { at = whence_at; sort = whence; reads = reads_word whence_of EncodesWhence reads_whence }
 
 abbrev origin_argument : {lines : ℕ} → Shape lines Origin
-origin_argument = record { at = origin_at; sort = origin; reads = reads_word origin_of SpellsOrigin reads_origin }
+origin_argument = record { at = origin_at; sort = origin; reads = reads_word origin_of EncodesOrigin reads_origin }
 
 abbrev no_flags : OpenFlags
 no_flags = record { mode = ForReading; append = false; create = false; truncate = false; exclusive = false; no_follow = false; directory = false; close_on_exec = false }
@@ -79,35 +79,35 @@ outside_lines lines (pos n) out = cond-false (nat_le 1 n && nat_le n lines) (Som
     let parts = and_parts (nat_le 1 n) (nat_le n lines) is in
     out (n, leb-true 1 n parts.0, leb-true n lines parts.1, refl)))
 
--- a jump's line is a number of the program's lines
-line_at_one : (lines n : ℕ) (rest : Bytes) → 1 ≤ n → n ≤ lines → SpellsArguments lines (number (pos n) ∷ []) rest → SpellsArguments lines (line n ∷ []) rest
+-- the target of a jump is the number of a line of the program
+line_at_one : (lines n : ℕ) (rest : Bytes) → 1 ≤ n → n ≤ lines → EncodesArguments lines (number (pos n) ∷ []) rest → EncodesArguments lines (line n ∷ []) rest
 line_at_one lines n rest low high h = (h.0, h.1, (low, high, h.2), h.3, h.4)
 
-number_at_one : (lines n : ℕ) (rest : Bytes) → SpellsArguments lines (line n ∷ []) rest → SpellsArguments lines (number (pos n) ∷ []) rest
+number_at_one : (lines n : ℕ) (rest : Bytes) → EncodesArguments lines (line n ∷ []) rest → EncodesArguments lines (number (pos n) ∷ []) rest
 number_at_one lines n rest h = (h.0, h.1, h.2.2, h.3, h.4)
 
-line_at_two : (lines r n : ℕ) (rest : Bytes) → 1 ≤ n → n ≤ lines → SpellsArguments lines (register r ∷ number (pos n) ∷ []) rest → SpellsArguments lines (register r ∷ line n ∷ []) rest
+line_at_two : (lines r n : ℕ) (rest : Bytes) → 1 ≤ n → n ≤ lines → EncodesArguments lines (register r ∷ number (pos n) ∷ []) rest → EncodesArguments lines (register r ∷ line n ∷ []) rest
 line_at_two lines r n rest low high h = (h.0, h.1, h.2, line_at_one lines n h.1 low high h.3, h.4)
 
-number_at_two : (lines r n : ℕ) (rest : Bytes) → SpellsArguments lines (register r ∷ line n ∷ []) rest → SpellsArguments lines (register r ∷ number (pos n) ∷ []) rest
+number_at_two : (lines r n : ℕ) (rest : Bytes) → EncodesArguments lines (register r ∷ line n ∷ []) rest → EncodesArguments lines (register r ∷ number (pos n) ∷ []) rest
 number_at_two lines r n rest h = (h.0, h.1, h.2, number_at_one lines n h.1 h.3, h.4)
 
--- ---- what is found
+-- ---- parsed instructions
 
 module _ (lines : ℕ) (word rest : Bytes) where
   abbrev Sound : Result Instruction What → Type 0
-  Sound (Ok i) = ((form_of i).0 ≡ word) × SpellsArguments lines (form_of i).1 rest
+  Sound (Ok i) = ((form_of i).0 ≡ word) × EncodesArguments lines (form_of i).1 rest
   Sound (Err Word) = Unit {0}
-  Sound (Err Target) = (j : Jumping) × (n : ℤ) × ¬ (IsLineOf lines n) × ((jump_form j n).0 ≡ word) × SpellsArguments lines (jump_form j n).1 rest
+  Sound (Err Target) = (j : Jumping) × (n : ℤ) × ¬ (IsLineOf lines n) × ((jump_form j n).0 ≡ word) × EncodesArguments lines (jump_form j n).1 rest
   Sound (Err BadArgument) = (i : Instruction) × ((form_of i).0 ≡ word)
   Sound (Err TooMany) = ⊥
 
   step : (name : Bytes) (r other : Result Instruction What) → (name ≡ word → Sound r) → Sound other → Sound (cond (bytes_eq word name) r other)
   step name r other here there = cond_both (bytes_eq word name) r other Sound (λ is. here (sym ((bytes_eq-Decides word name).0 is))) (λ is. there)
 
-  made : {X : Type 0} (f : X → Instruction) (arguments : X → List Argument) (name : Bytes) (x : X) → ((y : X) → form_of (f y) ≡ (name, arguments y)) → (o : Option X) → ((y : X) → o ≡ Some y → SpellsArguments lines (arguments y) rest) → name ≡ word → Sound (or_argument (option_map f o))
-  made f arguments name x form None spells is = (f x, ap (λ (g : Form). g.0) (form x) ∙ is)
-  made f arguments name x form (Some y) spells is = (ap (λ (g : Form). g.0) (form y) ∙ is, subst (λ (g : Form). SpellsArguments lines g.1 rest) (sym (form y)) (spells y refl))
+  made : {X : Type 0} (f : X → Instruction) (arguments : X → List Argument) (name : Bytes) (x : X) → ((y : X) → form_of (f y) ≡ (name, arguments y)) → (o : Option X) → ((y : X) → o ≡ Some y → EncodesArguments lines (arguments y) rest) → name ≡ word → Sound (or_argument (option_map f o))
+  made f arguments name x form None encodes is = (f x, ap (λ (g : Form). g.0) (form x) ∙ is)
+  made f arguments name x form (Some y) encodes is = (ap (λ (g : Form). g.0) (form y) ∙ is, subst (λ (g : Form). EncodesArguments lines g.1 rest) (sym (form y)) (encodes y refl))
 
   of_none : (name : Bytes) (i : Instruction) → form_of i ≡ (name, []) → (other : Result Instruction What) → Sound other → Sound (cond (bytes_eq word name) (or_argument (option_map (λ _. i) (no_argument rest))) other)
   of_none name i form other h = step name (or_argument (option_map (λ _. i) (no_argument rest))) other
@@ -130,21 +130,21 @@ module _ (lines : ℕ) (word rest : Bytes) where
       (made (λ (p : A × B × C). f p.0 p.1 p.2) (λ p. s.sort p.0 ∷ t.sort p.1 ∷ u.sort p.2 ∷ []) name (a, b, c) (λ p. form p.0 p.1 p.2) (three_arguments s.at t.at u.at rest)
       (three_found lines s.at s.sort s.reads t.at t.sort t.reads u.at u.sort u.reads rest)) h
 
-  peek_place : (r : ℕ) (z : ℤ) → SpellsArguments lines (register r ∷ number z ∷ []) rest → codes "peek" ≡ word → Sound (or_argument (option_map (Peek r) (buffer_place z)))
+  peek_place : (r : ℕ) (z : ℤ) → EncodesArguments lines (register r ∷ number z ∷ []) rest → codes "peek" ≡ word → Sound (or_argument (option_map (Peek r) (buffer_place z)))
   peek_place r (negsuc n) h is = (Peek 0 0, is)
   peek_place r (pos n) h is = cond_both (nat_lt n 4096) (Some n) None (λ o. Sound (or_argument (option_map (Peek r) o)))
       (λ low. (is, (h.0, h.1, h.2, (h.3.0, h.3.1, (ltb-true n 4096 low, h.3.2), h.3.3, h.3.4), h.4)))
       (λ high. (Peek 0 0, is))
 
-  peek_sound : (o : Option (ℕ × ℤ)) → ((p : ℕ × ℤ) → o ≡ Some p → SpellsArguments lines (register p.0 ∷ number p.1 ∷ []) rest) → codes "peek" ≡ word → Sound (or_argument (peek_by o))
-  peek_sound None spells is = (Peek 0 0, is)
-  peek_sound (Some p) spells is = peek_place p.0 p.1 (spells p refl) is
+  peek_sound : (o : Option (ℕ × ℤ)) → ((p : ℕ × ℤ) → o ≡ Some p → EncodesArguments lines (register p.0 ∷ number p.1 ∷ []) rest) → codes "peek" ≡ word → Sound (or_argument (peek_by o))
+  peek_sound None encodes is = (Peek 0 0, is)
+  peek_sound (Some p) encodes is = peek_place p.0 p.1 (encodes p refl) is
 
   of_peek : (other : Result Instruction What) → Sound other → Sound (cond (bytes_eq word (codes "peek")) (or_argument (peek_by (two_arguments register_at number_at rest))) other)
   of_peek other h = step (codes "peek") (or_argument (peek_by (two_arguments register_at number_at rest))) other
       (peek_sound (two_arguments register_at number_at rest) (two_found lines register_at register (register_argument {lines = lines}).reads number_at number (number_argument {lines = lines}).reads rest)) h
 
-  target_sound : (j : Jumping) (jump : ℕ → Instruction) (z : ℤ) → (jump_form j z).0 ≡ word → SpellsArguments lines (jump_form j z).1 rest
+  target_sound : (j : Jumping) (jump : ℕ → Instruction) (z : ℤ) → (jump_form j z).0 ≡ word → EncodesArguments lines (jump_form j z).1 rest
       → ((n : ℕ) → 1 ≤ n → n ≤ lines → z ≡ pos n → Sound (Ok (jump n))) → Sound (or_target jump (line_within lines z))
   target_sound j jump (negsuc n) name h good = (j, negsuc n, (λ l. absurd (let e : negsuc n ≡ pos l.0 = l.3 in cc)), name, h)
   target_sound j jump (pos n) name h good = cond_both (nat_le 1 n && nat_le n lines) (Some n) None (λ o. Sound (or_target jump o))
@@ -164,25 +164,25 @@ module _ (lines : ℕ) (word rest : Bytes) where
         h,
       ))
 
-  jump_sound : (o : Option ℤ) → ((z : ℤ) → o ≡ Some z → SpellsArguments lines (number z ∷ []) rest) → codes "jmp" ≡ word → Sound (jump_by lines o)
-  jump_sound None spells is = (Jump 0, is)
-  jump_sound (Some z) spells is =
-      let h = spells z refl in
-      target_sound always Jump z is h (λ n low high e. (is, line_at_one lines n rest low high (subst (λ y. SpellsArguments lines (number y ∷ []) rest) e h)))
+  jump_sound : (o : Option ℤ) → ((z : ℤ) → o ≡ Some z → EncodesArguments lines (number z ∷ []) rest) → codes "jmp" ≡ word → Sound (jump_by lines o)
+  jump_sound None encodes is = (Jump 0, is)
+  jump_sound (Some z) encodes is =
+      let h = encodes z refl in
+      target_sound always Jump z is h (λ n low high e. (is, line_at_one lines n rest low high (subst (λ y. EncodesArguments lines (number y ∷ []) rest) e h)))
 
   of_jump : (other : Result Instruction What) → Sound other → Sound (cond (bytes_eq word (codes "jmp")) (jump_by lines (one_argument number_at rest)) other)
   of_jump other h = step (codes "jmp") (jump_by lines (one_argument number_at rest)) other
       (jump_sound (one_argument number_at rest) (one_found lines number_at number (number_argument {lines = lines}).reads rest)) h
 
   jump_if_sound : (name : Bytes) (jump : ℕ → ℕ → Instruction) (j : ℕ → Jumping) → ((r n : ℕ) → form_of (jump r n) ≡ (name, register r ∷ line n ∷ [])) → ((r : ℕ) (z : ℤ) → jump_form (j r) z ≡ (name, register r ∷ number z ∷ []))
-      → (o : Option (ℕ × ℤ)) → ((p : ℕ × ℤ) → o ≡ Some p → SpellsArguments lines (register p.0 ∷ number p.1 ∷ []) rest) → name ≡ word → Sound (jump_if_by lines jump o)
-  jump_if_sound name jump j form jform None spells is = (jump 0 0, ap (λ (g : Form). g.0) (form 0 0) ∙ is)
-  jump_if_sound name jump j form jform (Some p) spells is =
-      let h = spells p refl in
-      target_sound (j p.0) (jump p.0) p.1 (ap (λ (g : Form). g.0) (jform p.0 p.1) ∙ is) (subst (λ (g : Form). SpellsArguments lines g.1 rest) (sym (jform p.0 p.1)) h)
+      → (o : Option (ℕ × ℤ)) → ((p : ℕ × ℤ) → o ≡ Some p → EncodesArguments lines (register p.0 ∷ number p.1 ∷ []) rest) → name ≡ word → Sound (jump_if_by lines jump o)
+  jump_if_sound name jump j form jform None encodes is = (jump 0 0, ap (λ (g : Form). g.0) (form 0 0) ∙ is)
+  jump_if_sound name jump j form jform (Some p) encodes is =
+      let h = encodes p refl in
+      target_sound (j p.0) (jump p.0) p.1 (ap (λ (g : Form). g.0) (jform p.0 p.1) ∙ is) (subst (λ (g : Form). EncodesArguments lines g.1 rest) (sym (jform p.0 p.1)) h)
       (λ n low high e. (
         ap (λ (g : Form). g.0) (form p.0 n) ∙ is,
-        subst (λ (g : Form). SpellsArguments lines g.1 rest) (sym (form p.0 n)) (line_at_two lines p.0 n rest low high (subst (λ y. SpellsArguments lines (register p.0 ∷ number y ∷ []) rest) e h)),
+        subst (λ (g : Form). EncodesArguments lines g.1 rest) (sym (form p.0 n)) (line_at_two lines p.0 n rest low high (subst (λ y. EncodesArguments lines (register p.0 ∷ number y ∷ []) rest) e h)),
       ))
 
   of_jump_if : (name : Bytes) (jump : ℕ → ℕ → Instruction) (j : ℕ → Jumping) → ((r n : ℕ) → form_of (jump r n) ≡ (name, register r ∷ line n ∷ [])) → ((r : ℕ) (z : ℤ) → jump_form (j r) z ≡ (name, register r ∷ number z ∷ []))
@@ -248,40 +248,40 @@ module _ (lines : ℕ) (word rest : Bytes) where
   unfolding instruction_by
   sound = sound_registers _ (sound_processes _ (sound_descriptors _ (sound_paths (Err Word) tt)))
 
--- ---- what is spelled
+-- ---- encoded instructions
 
--- the reading at an instruction's name finds it, where it is spelled, and knows the name at least
+-- the parser finds an instruction at its name if it is encoded, and otherwise recognizes at least the name
 abbrev Known : ℕ → Instruction → Bytes → Result Instruction What → Type 0
-Known lines i rest r = (SpellsArguments lines (form_of i).1 rest → r ≡ Ok i) × (r ≢ Err Word)
+Known lines i rest r = (EncodesArguments lines (form_of i).1 rest → r ≡ Ok i) × (r ≢ Err Word)
 
 module _ (lines : ℕ) (rest : Bytes) where
   known_none : (i : Instruction) → (form_of i).1 ≡ [] → Known lines i rest (or_argument (option_map (λ _. i) (no_argument rest)))
   known_none i form = (
-    (λ h. ap (λ (o : Option (Unit {0})). or_argument (option_map (λ _. i) o)) (none_again lines rest (subst (λ g. SpellsArguments lines g rest) form h))),
+    (λ h. ap (λ (o : Option (Unit {0})). or_argument (option_map (λ _. i) o)) (none_again lines rest (subst (λ g. EncodesArguments lines g rest) form h))),
     or_argument_no_word (option_map (λ _. i) (no_argument rest)),
   )
 
   known_one : {A : Type 0} (s : Shape lines A) (f : A → Instruction) → ((a : A) → (form_of (f a)).1 ≡ s.sort a ∷ []) → (a : A) → Known lines (f a) rest (or_argument (option_map f (one_argument s.at rest)))
   known_one s f form a = (
-    (λ h. ap (λ o. or_argument (option_map f o)) (one_again lines s.at s.sort s.reads a rest (subst (λ g. SpellsArguments lines g rest) (form a) h))),
+    (λ h. ap (λ o. or_argument (option_map f o)) (one_again lines s.at s.sort s.reads a rest (subst (λ g. EncodesArguments lines g rest) (form a) h))),
     or_argument_no_word (option_map f (one_argument s.at rest)),
   )
 
   known_two : {A B : Type 0} (s : Shape lines A) (t : Shape lines B) (f : A → B → Instruction) → ((a : A) (b : B) → (form_of (f a b)).1 ≡ s.sort a ∷ t.sort b ∷ []) → (a : A) (b : B)
       → Known lines (f a b) rest (or_argument (option_map (λ (p : A × B). f p.0 p.1) (two_arguments s.at t.at rest)))
   known_two {A} {B} s t f form a b = (
-    (λ h. ap (λ o. or_argument (option_map (λ (p : A × B). f p.0 p.1) o)) (two_again lines s.at s.sort s.reads t.at t.sort t.reads a b rest (subst (λ g. SpellsArguments lines g rest) (form a b) h))),
+    (λ h. ap (λ o. or_argument (option_map (λ (p : A × B). f p.0 p.1) o)) (two_again lines s.at s.sort s.reads t.at t.sort t.reads a b rest (subst (λ g. EncodesArguments lines g rest) (form a b) h))),
     or_argument_no_word (option_map (λ (p : A × B). f p.0 p.1) (two_arguments s.at t.at rest)),
   )
 
   known_three : {A B C : Type 0} (s : Shape lines A) (t : Shape lines B) (u : Shape lines C) (f : A → B → C → Instruction) → ((a : A) (b : B) (c : C) → (form_of (f a b c)).1 ≡ s.sort a ∷ t.sort b ∷ u.sort c ∷ []) → (a : A) (b : B) (c : C)
       → Known lines (f a b c) rest (or_argument (option_map (λ (p : A × B × C). f p.0 p.1 p.2) (three_arguments s.at t.at u.at rest)))
   known_three {A} {B} {C} s t u f form a b c = (
-    (λ h. ap (λ o. or_argument (option_map (λ (p : A × B × C). f p.0 p.1 p.2) o)) (three_again lines s.at s.sort s.reads t.at t.sort t.reads u.at u.sort u.reads a b c rest (subst (λ g. SpellsArguments lines g rest) (form a b c) h))),
+    (λ h. ap (λ o. or_argument (option_map (λ (p : A × B × C). f p.0 p.1 p.2) o)) (three_again lines s.at s.sort s.reads t.at t.sort t.reads u.at u.sort u.reads a b c rest (subst (λ g. EncodesArguments lines g rest) (form a b c) h))),
     or_argument_no_word (option_map (λ (p : A × B × C). f p.0 p.1 p.2) (three_arguments s.at t.at u.at rest)),
   )
 
-  two_numbers : (r : ℕ) (z : ℤ) → SpellsArguments lines (register r ∷ number z ∷ []) rest → two_arguments register_at number_at rest ≡ Some (r, z)
+  two_numbers : (r : ℕ) (z : ℤ) → EncodesArguments lines (register r ∷ number z ∷ []) rest → two_arguments register_at number_at rest ≡ Some (r, z)
   two_numbers r z h = two_again lines register_at register (register_argument {lines = lines}).reads number_at number (number_argument {lines = lines}).reads r z rest h
 
   known_peek : (r k : ℕ) → Known lines (Peek r k) rest (or_argument (peek_by (two_arguments register_at number_at rest)))
@@ -300,7 +300,7 @@ module _ (lines : ℕ) (rest : Bytes) where
   jump_if_no_word jump None e = absurd (cc)
   jump_if_no_word jump (Some p) e = or_target_no_word (jump p.0) (line_within lines p.1) e
 
-  one_number : (z : ℤ) → SpellsArguments lines (number z ∷ []) rest → one_argument number_at rest ≡ Some z
+  one_number : (z : ℤ) → EncodesArguments lines (number z ∷ []) rest → one_argument number_at rest ≡ Some z
   one_number z h = one_again lines number_at number (number_argument {lines = lines}).reads z rest h
 
   known_jump : (n : ℕ) → Known lines (Jump n) rest (jump_by lines (one_argument number_at rest))
@@ -312,7 +312,7 @@ module _ (lines : ℕ) (rest : Bytes) where
   known_jump_if : (jump : ℕ → ℕ → Instruction) → ((r n : ℕ) → (form_of (jump r n)).1 ≡ register r ∷ line n ∷ []) → (r n : ℕ) → Known lines (jump r n) rest (jump_if_by lines jump (two_arguments register_at number_at rest))
   known_jump_if jump form r n = (
     (λ k.
-        let h : SpellsArguments lines (register r ∷ line n ∷ []) rest = subst (λ g. SpellsArguments lines g rest) (form r n) k in
+        let h : EncodesArguments lines (register r ∷ line n ∷ []) rest = subst (λ g. EncodesArguments lines g rest) (form r n) k in
         ap (jump_if_by lines jump) (two_numbers r (pos n) (number_at_two lines r n rest h)) ∙ ap (or_target (jump r)) (within_lines lines n h.3.2.0 h.3.2.1)),
     jump_if_no_word jump (two_arguments register_at number_at rest),
   )
@@ -359,8 +359,8 @@ module _ (lines : ℕ) where
   known (Link a b) rest = known_two lines rest text_argument text_argument Link (λ a b. refl) a b
   known (Symlink a b) rest = known_two lines rest text_argument text_argument Symlink (λ a b. refl) a b
 
-  -- a jump past the program's lines
-  out_found : (j : Jumping) (z : ℤ) (rest : Bytes) → ¬ (IsLineOf lines z) → SpellsArguments lines (jump_form j z).1 rest → instruction_by lines (jump_form j z).0 rest ≡ Err Target
+  -- a jump past the lines of the program
+  out_found : (j : Jumping) (z : ℤ) (rest : Bytes) → ¬ (IsLineOf lines z) → EncodesArguments lines (jump_form j z).1 rest → instruction_by lines (jump_form j z).0 rest ≡ Err Target
   unfolding instruction_by
   out_found always z rest out h = ap (jump_by lines) (one_number lines rest z h) ∙ ap (or_target Jump) (outside_lines lines z out)
   out_found (if_zero r) z rest out h = ap (jump_if_by lines JumpIfZero) (two_numbers lines rest r z h) ∙ ap (or_target (JumpIfZero r)) (outside_lines lines z out)
@@ -390,15 +390,15 @@ module _ (lines : ℕ) where
       ∙ ap (λ w. instruction_by lines w (after_word (name ++ rest))) (word_of-word name rest clear ends)
       ∙ ap (instruction_by lines name) (after_word-word name rest clear ends)
 
-  pub instruction_of-SpellsLine : (bytes : Bytes) (i : Instruction) → SpellsLine lines bytes i → instruction_of lines bytes ≡ Ok i
-  instruction_of-SpellsLine bytes i h =
+  pub instruction_of-EncodesLine : (bytes : Bytes) (i : Instruction) → EncodesLine lines bytes i → instruction_of lines bytes ≡ Ok i
+  instruction_of-EncodesLine bytes i h =
       at_word (form_of i).0 h.0 bytes (no_space_name i) (arguments_after lines (form_of i).1 h.0 h.1) h.2 ∙ (known lines i h.0).0 h.1
 
   split_at : (name bytes : Bytes) → name ≡ word_of bytes → bytes ≡ name ++ after_word bytes
   split_at name bytes is = word_split bytes ∙ ap (λ w. w ++ after_word bytes) (sym is)
 
-  pub SpellsLine-instruction_of : (bytes : Bytes) (i : Instruction) → instruction_of lines bytes ≡ Ok i → SpellsLine lines bytes i
-  SpellsLine-instruction_of bytes i e =
+  pub EncodesLine-instruction_of : (bytes : Bytes) (i : Instruction) → instruction_of lines bytes ≡ Ok i → EncodesLine lines bytes i
+  EncodesLine-instruction_of bytes i e =
       let s = subst (Sound lines (word_of bytes) (after_word bytes)) e (sound lines (word_of bytes) (after_word bytes)) in
       (after_word bytes, s.1, split_at (form_of i).0 bytes s.0)
 
@@ -412,7 +412,7 @@ module _ (lines : ℕ) where
       let form = h.3 in
       at_word (jump_form h.0 h.1).0 form.0 bytes (no_space_jump h.0 h.1) (arguments_after lines (jump_form h.0 h.1).1 form.0 form.1) form.2 ∙ out_found lines h.0 h.1 form.0 h.2 form.1
 
-  -- a name that is known is no wrong word
+  -- a known name is not a `Word` error
   named_no_word : (bytes : Bytes) (i : Instruction) → BeginsWith (form_of i).0 bytes → instruction_of lines bytes ≢ Err Word
   named_no_word bytes i h e = (known lines i h.0).1 (sym (at_word (form_of i).0 h.0 bytes (no_space_name i) h.1 h.2) ∙ e)
 
@@ -433,26 +433,26 @@ module _ (lines : ℕ) where
   pub instruction_of-HasNoName : (bytes : Bytes) → HasNoName bytes → instruction_of lines bytes ≡ Err Word
   instruction_of-HasNoName bytes none = no_name_is_word bytes none (instruction_of lines bytes) (sound lines (word_of bytes) (after_word bytes))
 
-  the_rest : (bytes : Bytes) → IsWrong lines bytes BadArgument → (r : Result Instruction What) → instruction_of lines bytes ≡ r → Sound lines (word_of bytes) (after_word bytes) r → r ≡ Err BadArgument
-  the_rest bytes h (Ok i) is s = absurd (h.2 i (SpellsLine-instruction_of bytes i is))
+  the_rest : (bytes : Bytes) → IsInvalid lines bytes BadArgument → (r : Result Instruction What) → instruction_of lines bytes ≡ r → Sound lines (word_of bytes) (after_word bytes) r → r ≡ Err BadArgument
+  the_rest bytes h (Ok i) is s = absurd (h.2 i (EncodesLine-instruction_of bytes i is))
   the_rest bytes h (Err Word) is s = absurd (h.0 (HasNoName-instruction_of bytes is))
   the_rest bytes h (Err Target) is s = absurd (h.1 (JumpsOut-instruction_of bytes is))
   the_rest bytes h (Err BadArgument) is s = refl
   the_rest bytes h (Err TooMany) is s = absurd s
 
-  -- what is wrong with a line is what is said of it
-  pub IsWrong-instruction_of : (bytes : Bytes) (what : What) → instruction_of lines bytes ≡ Err what → IsWrong lines bytes what
-  IsWrong-instruction_of bytes Word e = HasNoName-instruction_of bytes e
-  IsWrong-instruction_of bytes Target e = JumpsOut-instruction_of bytes e
-  IsWrong-instruction_of bytes BadArgument e = (
+  -- the error of a line is exact
+  pub IsInvalid-instruction_of : (bytes : Bytes) (what : What) → instruction_of lines bytes ≡ Err what → IsInvalid lines bytes what
+  IsInvalid-instruction_of bytes Word e = HasNoName-instruction_of bytes e
+  IsInvalid-instruction_of bytes Target e = JumpsOut-instruction_of bytes e
+  IsInvalid-instruction_of bytes BadArgument e = (
     (λ none. let f : Err BadArgument ≡ Err Word = sym e ∙ instruction_of-HasNoName bytes none in absurd (cc)),
     (λ out. let f : Err BadArgument ≡ Err Target = sym e ∙ instruction_of-JumpsOut bytes out in absurd (cc)),
-    (λ i spells. let f : Err BadArgument ≡ Ok i = sym e ∙ instruction_of-SpellsLine bytes i spells in absurd (cc)),
+    (λ i encodes. let f : Err BadArgument ≡ Ok i = sym e ∙ instruction_of-EncodesLine bytes i encodes in absurd (cc)),
   )
-  IsWrong-instruction_of bytes TooMany e = absurd (subst (Sound lines (word_of bytes) (after_word bytes)) e (sound lines (word_of bytes) (after_word bytes)))
+  IsInvalid-instruction_of bytes TooMany e = absurd (subst (Sound lines (word_of bytes) (after_word bytes)) e (sound lines (word_of bytes) (after_word bytes)))
 
-  pub instruction_of-IsWrong : (bytes : Bytes) (what : What) → IsWrong lines bytes what → instruction_of lines bytes ≡ Err what
-  instruction_of-IsWrong bytes Word h = instruction_of-HasNoName bytes h
-  instruction_of-IsWrong bytes Target h = instruction_of-JumpsOut bytes h
-  instruction_of-IsWrong bytes BadArgument h = the_rest bytes h (instruction_of lines bytes) refl (sound lines (word_of bytes) (after_word bytes))
-  instruction_of-IsWrong bytes TooMany h = absurd h
+  pub instruction_of-IsInvalid : (bytes : Bytes) (what : What) → IsInvalid lines bytes what → instruction_of lines bytes ≡ Err what
+  instruction_of-IsInvalid bytes Word h = instruction_of-HasNoName bytes h
+  instruction_of-IsInvalid bytes Target h = instruction_of-JumpsOut bytes h
+  instruction_of-IsInvalid bytes BadArgument h = the_rest bytes h (instruction_of lines bytes) refl (sound lines (word_of bytes) (after_word bytes))
+  instruction_of-IsInvalid bytes TooMany h = absurd h

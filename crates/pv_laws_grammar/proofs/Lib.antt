@@ -1,7 +1,10 @@
--- Lemmas of the grammars, from single words to whole texts.
--- - words: Reading, OneWord, FirstWord, Decimals, QuotedTexts, FlagWords, ShortestForm, WordLists
--- - lines: ArgumentLists, InstructionLines, EntryLines, EntryPaths, TextLines
--- - whole texts: WholePrograms, WrittenPrograms, WholeSchedules, WholeManifests, AppliedEntries
+-- Lemmas about the text formats, from words to whole texts.
+-- - Words: Reading, OneWord, FirstWord, Decimals, QuotedTexts, FlagWords, ShortestForm, WordLists.
+-- - Lines: ArgumentLists, InstructionLines, EntryLines, EntryPaths, TextLines.
+-- - Whole texts: WholePrograms, WrittenPrograms, WholeSchedules, WholeManifests, AppliedEntries.
+-- - Sources: LabelNumbers (labels), WrittenLines (written lines contain no LF), AcceptedBlocks and AcceptedSources (the
+--   written text is accepted), EncodedWords (words of lines), AcceptedAgain (an accepted text denotes itself),
+--   SameCode (sources with the same words).
 pub mod AppliedEntries
 pub mod ArgumentLists
 pub mod Decimals
@@ -20,3 +23,10 @@ pub mod WholePrograms
 pub mod WholeSchedules
 pub mod WordLists
 pub mod WrittenPrograms
+pub mod AcceptedAgain
+pub mod AcceptedBlocks
+pub mod AcceptedSources
+pub mod LabelNumbers
+pub mod EncodedWords
+pub mod WrittenLines
+pub mod SameCode

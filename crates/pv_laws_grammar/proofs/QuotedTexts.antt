@@ -1,4 +1,4 @@
--- Texts in quotation marks.
+-- Quoted texts.
 use Rattle.std.proofs.Common.{◌≡◌, ◌≢◌, ℕ, ◌+◌, ◌-◌, ◌*◌, ◌/◌, ◌%◌, ◌<◌, ◌≤◌, true, false, cond, not, ◌&&◌, ◌==◌, nat_le, nat_lt, [], ◌∷◌, ◌++◌, length, Option, None, Some, ap, sym, ◌∙◌, refl, subst, append_assoc, arith, eqb-true, leb-true, le-leb}
 use Rattle.std.specs.Prelude.{codes}
 use Rattle.std.proofs.lemmas.Bool.{cond_both, and_parts, and_from, ne_eqb, eqb-false, cond-true, cond-false, ltb-false, ltb-true, lt-ltb, le-ltb, lt-leb, not-true}
@@ -7,9 +7,9 @@ use Rattle.pv_model.specs.Bytes.{Bytes}
 use Rattle.pv_model.specs.Trace.{hex_digit, hex_byte, is_plain}
 use Rattle.pv_model.specs.Grammar.Arguments.{Parsed, Escape, outside, after_backslash, after_x, after_digit, hex_value, onto_text, Onward, text_outside, first_digit, second_digit, text_step, text_rest, if_short, text_at, some_text, begins_text, null_of, word_at, text_or_null_at}
 use Rattle.pv_model.specs.Grammar.Forms.{IsAfterWord}
-use Rattle.pv_model.specs.Grammar.Spelling.{SpellsBytes, nothing, plain, escaped, SpellsText, SpellsTextOrNull}
-use Rattle.pv_laws_grammar.proofs.OneWord.{SpellsNull, reads_null}
-use Rattle.pv_laws_grammar.proofs.Reading.{SpelledAt, Reads, reads_word}
+use Rattle.pv_model.specs.Grammar.Encoding.{EncodesBytes, nothing, plain, escaped, EncodesText, EncodesTextOrNull}
+use Rattle.pv_laws_grammar.proofs.OneWord.{EncodesNull, reads_null}
+use Rattle.pv_laws_grammar.proofs.Reading.{EncodedAt, Reads, reads_word}
 
 -- ---- hexadecimal digits
 
@@ -61,14 +61,14 @@ hex_byte_of high low h l =
     let back : (16 * high + low) % 16 ≡ low = omega arith in
     rw (front, back) refl
 
--- ---- what is found is spelled so
+-- ---- a parsed text is encoded
 
--- what is read on from a state is spelled so
+-- the bytes parsed from a state on are encoded
 abbrev Within : Escape → Bytes → Bytes → Bytes → Type 0
-Within outside value bs rest = (spelled : Bytes) × SpellsBytes value spelled × (bs ≡ spelled ++ 34 ∷ rest)
-Within after_backslash value bs rest = (spelled : Bytes) × SpellsBytes value (92 ∷ spelled) × (bs ≡ spelled ++ 34 ∷ rest)
-Within after_x value bs rest = (spelled : Bytes) × SpellsBytes value (92 ∷ 120 ∷ spelled) × (bs ≡ spelled ++ 34 ∷ rest)
-Within (after_digit high) value bs rest = high < 16 → (spelled : Bytes) × SpellsBytes value (92 ∷ 120 ∷ hex_digit high ∷ spelled) × (bs ≡ spelled ++ 34 ∷ rest)
+Within outside value bs rest = (encoded : Bytes) × EncodesBytes value encoded × (bs ≡ encoded ++ 34 ∷ rest)
+Within after_backslash value bs rest = (encoded : Bytes) × EncodesBytes value (92 ∷ encoded) × (bs ≡ encoded ++ 34 ∷ rest)
+Within after_x value bs rest = (encoded : Bytes) × EncodesBytes value (92 ∷ 120 ∷ encoded) × (bs ≡ encoded ++ 34 ∷ rest)
+Within (after_digit high) value bs rest = high < 16 → (encoded : Bytes) × EncodesBytes value (92 ∷ 120 ∷ hex_digit high ∷ encoded) × (bs ≡ encoded ++ 34 ∷ rest)
 
 abbrev Known : Bytes → Onward → Type 0
 Known bs onward = (escape : Escape) (value rest : Bytes) → onward escape ≡ Some (value, rest) → Within escape value bs rest
@@ -84,8 +84,8 @@ module _ (b : ℕ) (bs : Bytes) (onward : Onward) (known : Known bs onward) wher
   found_plain value rest is e =
       let p = onto_text_found b (onward outside) value rest e in
       let more = known outside p.0 rest p.1 in
-      let spells : SpellsBytes value (b ∷ more.0) = subst (λ v. SpellsBytes v (b ∷ more.0)) (sym p.2) (plain b p.0 more.0 is more.1) in
-      (b ∷ more.0, spells, ap (λ r. b ∷ r) more.2)
+      let encodes : EncodesBytes value (b ∷ more.0) = subst (λ v. EncodesBytes v (b ∷ more.0)) (sym p.2) (plain b p.0 more.0 is more.1) in
+      (b ∷ more.0, encodes, ap (λ r. b ∷ r) more.2)
 
   found_escape : (value rest : Bytes) → b ≡ 92 → onward after_backslash ≡ Some (value, rest) → Within outside value (b ∷ bs) rest
   found_escape value rest is e =
@@ -95,7 +95,7 @@ module _ (b : ℕ) (bs : Bytes) (onward : Onward) (known : Known bs onward) wher
   found_end : (value rest : Bytes) → b ≡ 34 → ◌≡◌ {A = Parsed Bytes} (Some ([], bs)) (Some (value, rest)) → Within outside value (b ∷ bs) rest
   found_end value rest is e =
       let parts = some_pair_parts [] value bs rest e in
-      ([], subst (λ v. SpellsBytes v []) parts.0 nothing, ap (λ c. c ∷ bs) is ∙ ap (λ r. 34 ∷ r) parts.1)
+      ([], subst (λ v. EncodesBytes v []) parts.0 nothing, ap (λ c. c ∷ bs) is ∙ ap (λ r. 34 ∷ r) parts.1)
 
   found_outside : (value rest : Bytes) → text_outside b bs onward ≡ Some (value, rest) → Within outside value (b ∷ bs) rest
   found_outside value rest e =
@@ -122,19 +122,19 @@ module _ (b : ℕ) (bs : Bytes) (onward : Onward) (known : Known bs onward) wher
       (hex_digit high ∷ more.0, more.1, ap (λ c. c ∷ bs) (sym digit.1) ∙ ap (λ r. hex_digit high ∷ r) more.2)
 
   found_second : (high : ℕ) → high < 16 → (o : Option ℕ) → hex_value b ≡ o → (value rest : Bytes) → second_digit onward high o ≡ Some (value, rest)
-      → (spelled : Bytes) × SpellsBytes value (92 ∷ 120 ∷ hex_digit high ∷ spelled) × (b ∷ bs ≡ spelled ++ 34 ∷ rest)
+      → (encoded : Bytes) × EncodesBytes value (92 ∷ 120 ∷ hex_digit high ∷ encoded) × (b ∷ bs ≡ encoded ++ 34 ∷ rest)
   found_second high fits None is value rest e = absurd (cc)
   found_second high fits (Some low) is value rest e =
-      cond_both (16 * high + low == 0) None (onto_text (16 * high + low) (onward outside)) (λ r. r ≡ Some (value, rest) → (spelled : Bytes) × SpellsBytes value (92 ∷ 120 ∷ hex_digit high ∷ spelled) × (b ∷ bs ≡ spelled ++ 34 ∷ rest))
+      cond_both (16 * high + low == 0) None (onto_text (16 * high + low) (onward outside)) (λ r. r ≡ Some (value, rest) → (encoded : Bytes) × EncodesBytes value (92 ∷ 120 ∷ hex_digit high ∷ encoded) × (b ∷ bs ≡ encoded ++ 34 ∷ rest))
       (λ zeros h. absurd (cc))
       (λ other h.
       let digit = hex_value_found b low is in
       let p = onto_text_found (16 * high + low) (onward outside) value rest h in
       let more = known outside p.0 rest p.1 in
       let some = eqb-false (16 * high + low) 0 other in
-      let spells : SpellsBytes ((16 * high + low) ∷ p.0) (codes "\\x" ++ hex_byte (16 * high + low) ++ more.0) = escaped (16 * high + low) p.0 more.0 (omega arith) (omega arith) more.1 in
+      let encodes : EncodesBytes ((16 * high + low) ∷ p.0) (codes "\\x" ++ hex_byte (16 * high + low) ++ more.0) = escaped (16 * high + low) p.0 more.0 (omega arith) (omega arith) more.1 in
       let digits : codes "\\x" ++ hex_byte (16 * high + low) ++ more.0 ≡ 92 ∷ 120 ∷ hex_digit high ∷ hex_digit low ∷ more.0 = ap (λ t. codes "\\x" ++ t ++ more.0) (hex_byte_of high low fits digit.0) in
-      let here : SpellsBytes value (92 ∷ 120 ∷ hex_digit high ∷ hex_digit low ∷ more.0) = subst (λ v. SpellsBytes v (92 ∷ 120 ∷ hex_digit high ∷ hex_digit low ∷ more.0)) (sym p.2) (subst (SpellsBytes ((16 * high + low) ∷ p.0)) digits spells) in
+      let here : EncodesBytes value (92 ∷ 120 ∷ hex_digit high ∷ hex_digit low ∷ more.0) = subst (λ v. EncodesBytes v (92 ∷ 120 ∷ hex_digit high ∷ hex_digit low ∷ more.0)) (sym p.2) (subst (EncodesBytes ((16 * high + low) ∷ p.0)) digits encodes) in
       (hex_digit low ∷ more.0, here, ap (λ c. c ∷ bs) (sym digit.1) ∙ ap (λ r. hex_digit low ∷ r) more.2)) e
 
   found_step : Known (b ∷ bs) (text_step b bs onward)
@@ -154,19 +154,19 @@ if_short_found (Some p) value rest e =
     let same : p.0 ≡ value = ap (λ q. q.0) found.1 in
     (ap Some found.1, subst (λ v. length v ≤ 1100) same (leb-true (length p.0) 1100 found.0))
 
-text_found : (bytes value rest : Bytes) → text_at bytes ≡ Some (value, rest) → SpelledAt SpellsText bytes value rest
+text_found : (bytes value rest : Bytes) → text_at bytes ≡ Some (value, rest) → EncodedAt EncodesText bytes value rest
 unfolding text_at
 text_found [] value rest e = absurd (cc)
-text_found (b ∷ bs) value rest e = cond_both (b == 34) (if_short (text_rest bs outside)) None (λ r. r ≡ Some (value, rest) → SpelledAt SpellsText (b ∷ bs) value rest)
+text_found (b ∷ bs) value rest e = cond_both (b == 34) (if_short (text_rest bs outside)) None (λ r. r ≡ Some (value, rest) → EncodedAt EncodesText (b ∷ bs) value rest)
     (λ is h.
     let short = if_short_found (text_rest bs outside) value rest h in
     let within = found_rest bs outside value rest short.0 in
     let regroup : within.0 ++ 34 ∷ rest ≡ (within.0 ++ 34 ∷ []) ++ rest = sym (append_assoc within.0 (34 ∷ []) rest) in
-    let spells : SpellsText value (34 ∷ within.0 ++ 34 ∷ []) = (within.0, within.1, short.1, refl) in
-    (34 ∷ within.0 ++ 34 ∷ [], spells, ap (λ c. c ∷ bs) (eqb-true b 34 is) ∙ ap (λ r. 34 ∷ r) (within.2 ∙ regroup)))
+    let encodes : EncodesText value (34 ∷ within.0 ++ 34 ∷ []) = (within.0, within.1, short.1, refl) in
+    (34 ∷ within.0 ++ 34 ∷ [], encodes, ap (λ c. c ∷ bs) (eqb-true b 34 is) ∙ ap (λ r. 34 ∷ r) (within.2 ∙ regroup)))
     (λ is h. absurd (cc)) e
 
--- ---- what is spelled so is found
+-- ---- an encoded text parses
 
 plain_is_none : (b : ℕ) → is_plain b ≡ true → (b ≢ 34) × (b ≢ 92)
 plain_is_none b h =
@@ -174,21 +174,21 @@ plain_is_none b h =
     let next = and_parts (nat_le 32 b && nat_le b 126) (not (b == 34)) last.0 in
     (eqb-false b 34 (not-true (b == 34) next.1), eqb-false b 92 (not-true (b == 92) last.1))
 
-again_rest : (value spelled : Bytes) → SpellsBytes value spelled → (rest : Bytes) → text_rest (spelled ++ 34 ∷ rest) outside ≡ Some (value, rest)
+again_rest : (value encoded : Bytes) → EncodesBytes value encoded → (rest : Bytes) → text_rest (encoded ++ 34 ∷ rest) outside ≡ Some (value, rest)
 again_rest _ _ nothing rest = refl
-again_rest _ _ (plain b value spelled prints more) rest =
+again_rest _ _ (plain b value encoded prints more) rest =
     let other = plain_is_none b prints in
-    let last : Parsed Bytes = cond (is_plain b) (onto_text b (text_rest (spelled ++ 34 ∷ rest) outside)) None in
-    let next : Parsed Bytes = cond (b == 92) (text_rest (spelled ++ 34 ∷ rest) after_backslash) last in
-    cond-false (b == 34) (Some ([], spelled ++ 34 ∷ rest)) next (ne_eqb b 34 other.0)
-    ∙ cond-false (b == 92) (text_rest (spelled ++ 34 ∷ rest) after_backslash) last (ne_eqb b 92 other.1)
-    ∙ cond-true (is_plain b) (onto_text b (text_rest (spelled ++ 34 ∷ rest) outside)) None prints
-    ∙ ap (onto_text b) (again_rest value spelled more rest)
-again_rest _ _ (escaped b value spelled some fits more) rest =
+    let last : Parsed Bytes = cond (is_plain b) (onto_text b (text_rest (encoded ++ 34 ∷ rest) outside)) None in
+    let next : Parsed Bytes = cond (b == 92) (text_rest (encoded ++ 34 ∷ rest) after_backslash) last in
+    cond-false (b == 34) (Some ([], encoded ++ 34 ∷ rest)) next (ne_eqb b 34 other.0)
+    ∙ cond-false (b == 92) (text_rest (encoded ++ 34 ∷ rest) after_backslash) last (ne_eqb b 92 other.1)
+    ∙ cond-true (is_plain b) (onto_text b (text_rest (encoded ++ 34 ∷ rest) outside)) None prints
+    ∙ ap (onto_text b) (again_rest value encoded more rest)
+again_rest _ _ (escaped b value encoded some fits more) rest =
     let back : 16 * (b / 16) + b % 16 ≡ b = omega arith in
-    rw (hex_value-hex_digit (b / 16) (omega arith), hex_value-hex_digit (b % 16) (omega arith), back, ne_eqb b 0 (λ e. omega arith), again_rest value spelled more rest) refl
+    rw (hex_value-hex_digit (b / 16) (omega arith), hex_value-hex_digit (b % 16) (omega arith), back, ne_eqb b 0 (λ e. omega arith), again_rest value encoded more rest) refl
 
-text_again : (value word rest : Bytes) → SpellsText value word → IsAfterWord rest → text_at (word ++ rest) ≡ Some (value, rest)
+text_again : (value word rest : Bytes) → EncodesText value word → IsAfterWord rest → text_at (word ++ rest) ≡ Some (value, rest)
 unfolding text_at
 text_again value word rest h ends =
     let regroup : (h.0 ++ 34 ∷ []) ++ rest ≡ h.0 ++ 34 ∷ rest = append_assoc h.0 (34 ∷ []) rest in
@@ -197,7 +197,7 @@ text_again value word rest h ends =
     ∙ ap if_short (again_rest value h.0 h.1 rest)
     ∙ cond-true (nat_le (length value) 1100) (Some (value, rest)) None (le-leb (length value) 1100 h.2)
 
-pub reads_text : Reads text_at SpellsText
+pub reads_text : Reads text_at EncodesText
 reads_text = record { found = text_found; again = text_again }
 
 -- ---- a text, or `null`
@@ -208,28 +208,28 @@ some_text_found (Some p) o rest e =
     let parts = some_pair_parts (Some p.0) o p.1 rest e in
     (p.0, sym parts.0, ap (λ r. Some (p.0, r)) parts.1)
 
-null_spells : (bytes : Bytes) (o : Option Bytes) (rest : Bytes) → SpelledAt SpellsNull bytes o rest → SpelledAt SpellsTextOrNull bytes o rest
-null_spells bytes None rest h = h
-null_spells bytes (Some value) rest h = absurd h.1
+null_encodes : (bytes : Bytes) (o : Option Bytes) (rest : Bytes) → EncodedAt EncodesNull bytes o rest → EncodedAt EncodesTextOrNull bytes o rest
+null_encodes bytes None rest h = h
+null_encodes bytes (Some value) rest h = absurd h.1
 
-text_or_null_found : (bytes : Bytes) (o : Option Bytes) (rest : Bytes) → text_or_null_at bytes ≡ Some (o, rest) → SpelledAt SpellsTextOrNull bytes o rest
-text_or_null_found bytes o rest e = cond_both (begins_text bytes) (some_text (text_at bytes)) (word_at null_of bytes) (λ r. r ≡ Some (o, rest) → SpelledAt SpellsTextOrNull bytes o rest)
+text_or_null_found : (bytes : Bytes) (o : Option Bytes) (rest : Bytes) → text_or_null_at bytes ≡ Some (o, rest) → EncodedAt EncodesTextOrNull bytes o rest
+text_or_null_found bytes o rest e = cond_both (begins_text bytes) (some_text (text_at bytes)) (word_at null_of bytes) (λ r. r ≡ Some (o, rest) → EncodedAt EncodesTextOrNull bytes o rest)
     (λ is h.
     let text = some_text_found (text_at bytes) o rest h in
-    subst (λ v. SpelledAt SpellsTextOrNull bytes v rest) (sym text.1) (text_found bytes text.0 rest text.2))
-    (λ is h. null_spells bytes o rest ((reads_word null_of SpellsNull reads_null).found bytes o rest h)) e
+    subst (λ v. EncodedAt EncodesTextOrNull bytes v rest) (sym text.1) (text_found bytes text.0 rest text.2))
+    (λ is h. null_encodes bytes o rest ((reads_word null_of EncodesNull reads_null).found bytes o rest h)) e
 
-begins_text_word : (value word rest : Bytes) → SpellsText value word → begins_text (word ++ rest) ≡ true
+begins_text_word : (value word rest : Bytes) → EncodesText value word → begins_text (word ++ rest) ≡ true
 begins_text_word value word rest h = ap (λ w. begins_text (w ++ rest)) h.3
 
-text_or_null_again : (o : Option Bytes) (word rest : Bytes) → SpellsTextOrNull o word → IsAfterWord rest → text_or_null_at (word ++ rest) ≡ Some (o, rest)
+text_or_null_again : (o : Option Bytes) (word rest : Bytes) → EncodesTextOrNull o word → IsAfterWord rest → text_or_null_at (word ++ rest) ≡ Some (o, rest)
 text_or_null_again None word rest h ends =
     let begins : begins_text (word ++ rest) ≡ false = ap (λ w. begins_text (w ++ rest)) h in
     cond-false (begins_text (word ++ rest)) (some_text (text_at (word ++ rest))) (word_at null_of (word ++ rest)) begins
-    ∙ (reads_word null_of SpellsNull reads_null).again None word rest h ends
+    ∙ (reads_word null_of EncodesNull reads_null).again None word rest h ends
 text_or_null_again (Some value) word rest h ends =
     cond-true (begins_text (word ++ rest)) (some_text (text_at (word ++ rest))) (word_at null_of (word ++ rest)) (begins_text_word value word rest h)
     ∙ ap some_text (text_again value word rest h ends)
 
-pub reads_text_or_null : Reads text_or_null_at SpellsTextOrNull
+pub reads_text_or_null : Reads text_or_null_at EncodesTextOrNull
 reads_text_or_null = record { found = text_or_null_found; again = text_or_null_again }

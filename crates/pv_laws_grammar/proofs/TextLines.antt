@@ -1,4 +1,4 @@
--- Lines of a text.
+-- The lines of a text.
 use Rattle.std.proofs.Common.{◌≡◌, ◌≢◌, inl, inr, ℕ, ◌==◌, List, [], ◌∷◌, ◌++◌, ap, sym, ◌∙◌, refl, append_assoc, append-nil, eqb-true, ne_eqb}
 use Rattle.std.proofs.lemmas.Bool.{cond_both, eqb-false}
 use Rattle.std.specs.List.{AllByRecursion}
@@ -11,7 +11,7 @@ lines_of-line : (line rest : Bytes) → IsLine line → lines_of (line ++ 10 ∷
 lines_of-line [] rest h = refl
 lines_of-line (b ∷ line) rest h = rw (ne_eqb b 10 h.0, lines_of-line line rest h.1) refl
 
--- a last line without one
+-- a last line without an LF
 lines_of-last : (b : ℕ) (last : Bytes) → IsLine (b ∷ last) → lines_of (b ∷ last) ≡ (b ∷ last) ∷ []
 lines_of-last b [] h = rw (ne_eqb b 10 h.0) refl
 lines_of-last b (c ∷ last) h = rw (ne_eqb b 10 h.0, lines_of-last c last h.1) refl
@@ -40,7 +40,7 @@ lines_from_relation bytes lines h = elim h.1 [
       ap lines_of lacks.4 ∙ lines_of-lacking lacks.0 lacks.1 lacks.2 all ∙ sym lacks.3
 ]
 
--- a byte more at the front of a text
+-- a text with a byte prepended
 after_end : (bs : Bytes) (lines : List Bytes) → HasLines bs lines → HasLines (10 ∷ bs) ([] ∷ lines)
 after_end bs lines h = (
   (tt, h.0),

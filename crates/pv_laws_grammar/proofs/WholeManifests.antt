@@ -6,18 +6,18 @@ use Rattle.std.proofs.lemmas.Slice.Eq.{bytes_eq-Decides}
 use Rattle.pv_model.specs.declared.fault.ManifestFault.{ManifestFault}
 use Rattle.pv_model.specs.declared.fault.ManifestFault.TheVariants.{Form, Size}
 use Rattle.pv_model.specs.Bytes.{Bytes}
-use Rattle.pv_model.specs.Grammar.Entries.{SpellsEntry, of_directory, of_file, of_program, of_link, of_name, Lists, at_end as ends, at_schedule, entry, SpellsSizes, AreSizes, SpellsManifest, HasNoForm, no_schedule, no_entry, further, HasNoSizes, IsFirstWithoutForm, HasOtherSizes}
+use Rattle.pv_model.specs.Grammar.Entries.{EncodesEntry, of_directory, of_file, of_program, of_link, of_name, Lists, at_end as ends, at_schedule, entry, EncodesSizes, AreSizes, EncodesManifest, HasNoForm, no_schedule, no_entry, further, HasNoSizes, IsFirstWithoutForm, HasOtherSizes}
 use Rattle.pv_model.specs.Grammar.Lines.{lines_of}
 use Rattle.pv_model.specs.Grammar.Manifests.{Taking, entry_of, Listed, onto_listed, or_form, is_schedule_line, at_end, entries_from, Manifest, sizes_of, inode_table_blocks, are_sizes, if_sizes, with_entries, after_sizes, manifest_by}
 use Rattle.pv_model.specs.Grammar.Texts.{HasLines}
 use Rattle.pv_model.specs.Manifest.{Entry}
-use Rattle.pv_laws_grammar.proofs.EntryLines.{entry_found, entry_again, SpellsSizes-sizes_of, sizes_of-SpellsSizes}
+use Rattle.pv_laws_grammar.proofs.EntryLines.{entry_found, entry_again, EncodesSizes-sizes_of, sizes_of-EncodesSizes}
 use Rattle.pv_laws_grammar.proofs.TextLines.{lines_from_relation, HasLines-lines_of}
 
 abbrev Reading : Type 0
 Reading = Result Listed ManifestFault
 
--- two fronts of one list that are as long are one
+-- two prefixes of a list with equal length are equal
 same_front : (a b c d : List Bytes) → a ++ b ≡ c ++ d → length a ≡ length c → (a ≡ c) × (b ≡ d)
 same_front [] b [] d e h = (refl, e)
 same_front [] b (y ∷ c) d e h = absurd (omega arith)
@@ -36,7 +36,7 @@ front_within (line ∷ body) following (l ∷ lines) (suc k) e h =
     let tails : lines ≡ body ++ following = cc in
     let more = front_within body following lines k tails (omega arith) in omega arith
 
-entry_not_schedule : (line : Bytes) (body : List Bytes) (e : Entry) → SpellsEntry line body e → is_schedule_line line ≡ false
+entry_not_schedule : (line : Bytes) (body : List Bytes) (e : Entry) → EncodesEntry line body e → is_schedule_line line ≡ false
 entry_not_schedule _ _ _ (of_directory path word h) = refl
 entry_not_schedule _ _ _ (of_file path word contents other h k) = refl
 entry_not_schedule _ _ _ (of_program path word body h few) = refl
@@ -55,14 +55,14 @@ module _ (in_bundle : Bool) where
   abbrev from_line : List Bytes → ℕ → ℕ → Reading
   from_line = entries_from in_bundle entry_of
 
-  -- the lines that belong to an entry are left out
+  -- the lines that belong to an entry are skipped
   left_out : (body following : List Bytes) (n : ℕ) → from_line (body ++ following) n (length body) ≡ from_line following (n + length body) 0
   left_out [] following n = let same : n ≡ n + 0 = omega arith in ap (λ k. from_line following k 0) same
   left_out (line ∷ body) following n = let same : suc n + length body ≡ n + suc (length body) = omega arith in left_out body following (suc n) ∙ ap (λ k. from_line following k 0) same
 
-  -- ---- what is found
+  -- ---- parsed lines
 
-  -- lines are listed after those that belong to the entry before
+  -- lines parse as a listing, after the lines that belong to the previous entry
   record Listing (lines : List Bytes) (n k : ℕ) (l : Listed) : Type 0 where
     body : List Bytes
     following : List Bytes
@@ -112,12 +112,12 @@ module _ (in_bundle : Bool) where
       let at : n ≡ n + 0 = omega arith in
       record { body = []; following = line ∷ lines; whole = refl; long = refl; lists = subst (λ m. Lists in_bundle m (line ∷ lines) l) at (lists_line line lines n l e (λ k q. ok_found lines (suc n) k q)) }
 
-  -- ---- what is listed is found
+  -- ---- a listing parses
 
   no_end_line : (line : Bytes) → is_schedule_line line ≡ false → (in_bundle && is_schedule_line line) ≡ false
   no_end_line line h = false_from_ne_true (in_bundle && is_schedule_line line) (λ is. let both = (and_parts in_bundle (is_schedule_line line) is).1 in absurd (cc))
 
-  past_entry : (line : Bytes) (body rest : List Bytes) (e : Entry) (n : ℕ) → SpellsEntry line body e → from_line (line ∷ body ++ rest) n 0 ≡ onto_listed n e (from_line rest (n + 1 + length body) 0)
+  past_entry : (line : Bytes) (body rest : List Bytes) (e : Entry) (n : ℕ) → EncodesEntry line body e → from_line (line ∷ body ++ rest) n 0 ≡ onto_listed n e (from_line rest (n + 1 + length body) 0)
   past_entry line body rest e n h =
       let at : suc n + length body ≡ n + 1 + length body = omega arith in
       cond-false (in_bundle && is_schedule_line line) (Ok (record { entries = []; following = body ++ rest })) (or_form n (entry_of line (body ++ rest)) (from_line (body ++ rest) (suc n))) (no_end_line line (entry_not_schedule line body e h))
@@ -127,10 +127,10 @@ module _ (in_bundle : Bool) where
   ok_again : (n : ℕ) (lines : List Bytes) (l : Listed) → Lists in_bundle n lines l → from_line lines n 0 ≡ Ok l
   ok_again _ _ _ (ends n is) = ap (λ b. at_end b n) is
   ok_again _ _ _ (at_schedule n rest is) = ap (λ b. cond (b && true) (Ok (record { entries = []; following = rest })) (or_form n (entry_of (codes "schedule") rest) (from_line rest (suc n)))) is
-  ok_again _ _ _ (entry n line body rest e others spells more) =
-      past_entry line body rest e n spells ∙ ap (onto_listed n e) (ok_again (n + 1 + length body) rest others more)
+  ok_again _ _ _ (entry n line body rest e others encodes more) =
+      past_entry line body rest e n encodes ∙ ap (onto_listed n e) (ok_again (n + 1 + length body) rest others more)
 
-  -- ---- the first line without a form
+  -- ---- the first line without its form
 
   record Missing (lines : List Bytes) (n k : ℕ) (f : ManifestFault) : Type 0 where
     body : List Bytes
@@ -157,7 +157,7 @@ module _ (in_bundle : Bool) where
     named = sym (let same : Form n ≡ f = cc in same);
     missing = no_entry n line lines
         (λ bundle schedule. let t : (in_bundle && is_schedule_line line) ≡ true = and_from in_bundle (is_schedule_line line) bundle ((bytes_eq-Decides line (codes "schedule")).1 schedule) in absurd (cc))
-        (λ body following e whole spells. let t : None ≡ Some (e, length body) = sym is ∙ ap (entry_of line) whole ∙ entry_again line body e spells following in absurd (cc));
+        (λ body following e whole encodes. let t : None ≡ Some (e, length body) = sym is ∙ ap (entry_of line) whole ∙ entry_again line body e encodes following in absurd (cc));
   }
   missing_entry line lines n f (Some t) no_end is e onward =
       let found = entry_found line lines t is in
@@ -188,7 +188,7 @@ module _ (in_bundle : Bool) where
       record { body = line ∷ more.body; following = more.following; whole = ap (λ ls. line ∷ ls) more.whole; long = ap suc more.long; at = more.at; named = more.named; missing = subst (λ m. HasNoForm in_bundle m more.following more.at) place more.missing }
   err_found (line ∷ lines) n zero f h e = at_start (line ∷ lines) n f (missing_line line lines n f e (λ k g. err_found lines (suc n) k g))
 
-  no_entry_of : (line : Bytes) (rest : List Bytes) (o : Option Taking) → entry_of line rest ≡ o → ((body following : List Bytes) (e : Entry) → rest ≡ body ++ following → SpellsEntry line body e → ⊥) → o ≡ None
+  no_entry_of : (line : Bytes) (rest : List Bytes) (o : Option Taking) → entry_of line rest ≡ o → ((body following : List Bytes) (e : Entry) → rest ≡ body ++ following → EncodesEntry line body e → ⊥) → o ≡ None
   no_entry_of line rest None is none = refl
   no_entry_of line rest (Some t) is none = let found = entry_found line rest t is in absurd (none found.0 found.1 t.0 found.2 found.4)
 
@@ -198,8 +198,8 @@ module _ (in_bundle : Bool) where
       cond-false (in_bundle && is_schedule_line line) (Ok (record { entries = []; following = rest })) (or_form n (entry_of line rest) (from_line rest (suc n)))
       (false_from_ne_true (in_bundle && is_schedule_line line) (λ is. let end = is_end_line line is in other end.0 end.1))
       ∙ ap (λ o. or_form n o (from_line rest (suc n))) (no_entry_of line rest (entry_of line rest) refl none)
-  err_again _ _ _ (further n m line body rest e spells more) =
-      past_entry line body rest e n spells ∙ ap (onto_listed n e) (err_again (n + 1 + length body) rest m more)
+  err_again _ _ _ (further n m line body rest e encodes more) =
+      past_entry line body rest e n encodes ∙ ap (onto_listed n e) (err_again (n + 1 + length body) rest m more)
 
 -- ---- sizes
 
@@ -223,7 +223,7 @@ are_sizes_again blocks inodes h =
 abbrev Whole : Type 0
 Whole = Result Manifest ManifestFault
 
--- what a reading of lines says, of a manifest or a fault
+-- the result of parsing lines: a manifest or an error
 module _ (in_bundle : Bool) where
   abbrev whole : List Bytes → Whole
   whole = manifest_by in_bundle entry_of
@@ -232,59 +232,59 @@ module _ (in_bundle : Bool) where
   with_listed blocks inodes l = record { blocks = blocks; inodes = inodes; listed = l }
 
   abbrev SoundWhole : List Bytes → Whole → Type 0
-  SoundWhole lines (Ok m) = (first : Bytes) × (rest : List Bytes) × (lines ≡ first ∷ rest) × SpellsSizes first m.blocks m.inodes × Lists in_bundle 2 rest m.listed × AreSizes m.blocks m.inodes
-  SoundWhole lines (Err Size) = (m : Manifest) × (first : Bytes) × (rest : List Bytes) × (lines ≡ first ∷ rest) × SpellsSizes first m.blocks m.inodes × Lists in_bundle 2 rest m.listed × ¬ (AreSizes m.blocks m.inodes)
+  SoundWhole lines (Ok m) = (first : Bytes) × (rest : List Bytes) × (lines ≡ first ∷ rest) × EncodesSizes first m.blocks m.inodes × Lists in_bundle 2 rest m.listed × AreSizes m.blocks m.inodes
+  SoundWhole lines (Err Size) = (m : Manifest) × (first : Bytes) × (rest : List Bytes) × (lines ≡ first ∷ rest) × EncodesSizes first m.blocks m.inodes × Lists in_bundle 2 rest m.listed × ¬ (AreSizes m.blocks m.inodes)
   SoundWhole lines (Err (Form n)) =
-      ((n ≡ 1) × ((first : Bytes) (rest : List Bytes) (blocks inodes : ℕ) → lines ≡ first ∷ rest → SpellsSizes first blocks inodes → ⊥))
-      ⊎ ((first : Bytes) × (rest : List Bytes) × (blocks inodes : ℕ) × (lines ≡ first ∷ rest) × SpellsSizes first blocks inodes × HasNoForm in_bundle 2 rest n)
+      ((n ≡ 1) × ((first : Bytes) (rest : List Bytes) (blocks inodes : ℕ) → lines ≡ first ∷ rest → EncodesSizes first blocks inodes → ⊥))
+      ⊎ ((first : Bytes) × (rest : List Bytes) × (blocks inodes : ℕ) × (lines ≡ first ∷ rest) × EncodesSizes first blocks inodes × HasNoForm in_bundle 2 rest n)
   SoundWhole lines (Err _) = ⊥
 
-  sizes_sound : (first : Bytes) (rest : List Bytes) (blocks inodes : ℕ) (l : Listed) → SpellsSizes first blocks inodes → Lists in_bundle 2 rest l → SoundWhole (first ∷ rest) (if_sizes blocks inodes l)
-  sizes_sound first rest blocks inodes l spells lists = cond_both (are_sizes blocks inodes) (Ok (with_listed blocks inodes l)) (Err Size) (SoundWhole (first ∷ rest))
-      (λ is. (first, rest, refl, spells, lists, are_sizes_found blocks inodes is))
-      (λ is. (with_listed blocks inodes l, first, rest, refl, spells, lists, λ sizes. let t = are_sizes_again blocks inodes sizes in absurd (cc)))
+  sizes_sound : (first : Bytes) (rest : List Bytes) (blocks inodes : ℕ) (l : Listed) → EncodesSizes first blocks inodes → Lists in_bundle 2 rest l → SoundWhole (first ∷ rest) (if_sizes blocks inodes l)
+  sizes_sound first rest blocks inodes l encodes lists = cond_both (are_sizes blocks inodes) (Ok (with_listed blocks inodes l)) (Err Size) (SoundWhole (first ∷ rest))
+      (λ is. (first, rest, refl, encodes, lists, are_sizes_found blocks inodes is))
+      (λ is. (with_listed blocks inodes l, first, rest, refl, encodes, lists, λ sizes. let t = are_sizes_again blocks inodes sizes in absurd (cc)))
 
-  entries_sound : (first : Bytes) (rest : List Bytes) (blocks inodes : ℕ) (r : Reading) → SpellsSizes first blocks inodes → entries_from in_bundle entry_of rest 2 0 ≡ r → SoundWhole (first ∷ rest) (with_entries (blocks, inodes) r)
-  entries_sound first rest blocks inodes (Ok l) spells is =
+  entries_sound : (first : Bytes) (rest : List Bytes) (blocks inodes : ℕ) (r : Reading) → EncodesSizes first blocks inodes → entries_from in_bundle entry_of rest 2 0 ≡ r → SoundWhole (first ∷ rest) (with_entries (blocks, inodes) r)
+  entries_sound first rest blocks inodes (Ok l) encodes is =
       let found = ok_found in_bundle rest 2 0 l (omega arith) is in
       let same = same_front [] rest found.body found.following found.whole (sym found.long) in
       let lists : Lists in_bundle 2 rest l = subst (λ ls. Lists in_bundle 2 ls l) (sym same.1) found.lists in
-      sizes_sound first rest blocks inodes l spells lists
-  entries_sound first rest blocks inodes (Err f) spells is =
+      sizes_sound first rest blocks inodes l encodes lists
+  entries_sound first rest blocks inodes (Err f) encodes is =
       let found = err_found in_bundle rest 2 0 f (omega arith) is in
       let same = same_front [] rest found.body found.following found.whole (sym found.long) in
       let missing : HasNoForm in_bundle 2 rest found.at = subst (λ ls. HasNoForm in_bundle 2 ls found.at) (sym same.1) found.missing in
-      subst (λ g. SoundWhole (first ∷ rest) (Err g)) (sym found.named) (inr (first, rest, blocks, inodes, refl, spells, missing))
+      subst (λ g. SoundWhole (first ∷ rest) (Err g)) (sym found.named) (inr (first, rest, blocks, inodes, refl, encodes, missing))
 
   first_sound : (first : Bytes) (rest : List Bytes) (o : Option (ℕ × ℕ)) → sizes_of first ≡ o → SoundWhole (first ∷ rest) (after_sizes o (entries_from in_bundle entry_of rest 2 0))
   first_sound first rest None is = inl (
     refl,
-    λ f r blocks inodes e spells.
+    λ f r blocks inodes e encodes.
         let same : first ≡ f = cc in
-        let t : None ≡ Some (blocks, inodes) = sym is ∙ ap sizes_of same ∙ sizes_of-SpellsSizes f blocks inodes spells in absurd (cc),
+        let t : None ≡ Some (blocks, inodes) = sym is ∙ ap sizes_of same ∙ sizes_of-EncodesSizes f blocks inodes encodes in absurd (cc),
   )
-  first_sound first rest (Some sizes) is = entries_sound first rest sizes.0 sizes.1 (entries_from in_bundle entry_of rest 2 0) (SpellsSizes-sizes_of first sizes is) refl
+  first_sound first rest (Some sizes) is = entries_sound first rest sizes.0 sizes.1 (entries_from in_bundle entry_of rest 2 0) (EncodesSizes-sizes_of first sizes is) refl
 
   sound : (lines : List Bytes) → SoundWhole lines (whole lines)
-  sound [] = inl (refl, λ first rest blocks inodes e spells. absurd (cc))
+  sound [] = inl (refl, λ first rest blocks inodes e encodes. absurd (cc))
   sound (first ∷ rest) = first_sound first rest (sizes_of first) refl
 
-  with_sizes : (first : Bytes) (rest : List Bytes) (blocks inodes : ℕ) → SpellsSizes first blocks inodes → whole (first ∷ rest) ≡ with_entries (blocks, inodes) (entries_from in_bundle entry_of rest 2 0)
-  with_sizes first rest blocks inodes h = ap (λ o. after_sizes o (entries_from in_bundle entry_of rest 2 0)) (sizes_of-SpellsSizes first blocks inodes h)
+  with_sizes : (first : Bytes) (rest : List Bytes) (blocks inodes : ℕ) → EncodesSizes first blocks inodes → whole (first ∷ rest) ≡ with_entries (blocks, inodes) (entries_from in_bundle entry_of rest 2 0)
+  with_sizes first rest blocks inodes h = ap (λ o. after_sizes o (entries_from in_bundle entry_of rest 2 0)) (sizes_of-EncodesSizes first blocks inodes h)
 
-  with_form : (first : Bytes) (rest : List Bytes) (m : Manifest) → SpellsSizes first m.blocks m.inodes → Lists in_bundle 2 rest m.listed → whole (first ∷ rest) ≡ if_sizes m.blocks m.inodes m.listed
+  with_form : (first : Bytes) (rest : List Bytes) (m : Manifest) → EncodesSizes first m.blocks m.inodes → Lists in_bundle 2 rest m.listed → whole (first ∷ rest) ≡ if_sizes m.blocks m.inodes m.listed
   with_form first rest m h lists = with_sizes first rest m.blocks m.inodes h ∙ ap (with_entries (m.blocks, m.inodes)) (ok_again in_bundle 2 rest m.listed lists)
 
   of_text : (bytes : Bytes) (lines : List Bytes) → HasLines bytes lines → whole (lines_of bytes) ≡ whole lines
   of_text bytes lines h = ap whole (lines_from_relation bytes lines h)
 
-  pub SpellsManifest-whole : (bytes : Bytes) (m : Manifest) → whole (lines_of bytes) ≡ Ok m → SpellsManifest in_bundle bytes m
-  SpellsManifest-whole bytes m e =
+  pub EncodesManifest-whole : (bytes : Bytes) (m : Manifest) → whole (lines_of bytes) ≡ Ok m → EncodesManifest in_bundle bytes m
+  EncodesManifest-whole bytes m e =
       let s = subst (SoundWhole (lines_of bytes)) e (sound (lines_of bytes)) in
       ((s.0, s.1, subst (HasLines bytes) s.2 (HasLines-lines_of bytes), s.3, s.4), s.5)
 
-  pub whole-SpellsManifest : (bytes : Bytes) (m : Manifest) → SpellsManifest in_bundle bytes m → whole (lines_of bytes) ≡ Ok m
-  whole-SpellsManifest bytes m h =
+  pub whole-EncodesManifest : (bytes : Bytes) (m : Manifest) → EncodesManifest in_bundle bytes m → whole (lines_of bytes) ≡ Ok m
+  whole-EncodesManifest bytes m h =
       let form = h.0 in
       of_text bytes (form.0 ∷ form.1) form.2
       ∙ with_form form.0 form.1 m form.3 form.4
@@ -304,7 +304,7 @@ module _ (in_bundle : Bool) where
       ∙ cond-false (are_sizes m.blocks m.inodes) (Ok m) (Err Size) (false_from_ne_true (are_sizes m.blocks m.inodes) (λ is. h.2 (are_sizes_found m.blocks m.inodes is)))
 
   form_sound : (bytes : Bytes) (n : ℕ) → SoundWhole (lines_of bytes) (Err (Form n)) → IsFirstWithoutForm in_bundle bytes n
-  form_sound bytes n (inl h) = inl (h.0, λ first rest blocks inodes lines spells. h.1 first rest blocks inodes (lines_from_relation bytes (first ∷ rest) lines) spells)
+  form_sound bytes n (inl h) = inl (h.0, λ first rest blocks inodes lines encodes. h.1 first rest blocks inodes (lines_from_relation bytes (first ∷ rest) lines) encodes)
   form_sound bytes n (inr h) = inr (h.0, h.1, h.2, h.3, subst (HasLines bytes) h.4 (HasLines-lines_of bytes), h.5, h.6)
 
   pub IsFirstWithoutForm-whole : (bytes : Bytes) (n : ℕ) → whole (lines_of bytes) ≡ Err (Form n) → IsFirstWithoutForm in_bundle bytes n
@@ -316,7 +316,7 @@ module _ (in_bundle : Bool) where
     where
       by_sizes : (o : Option (ℕ × ℕ)) → sizes_of first ≡ o → after_sizes o (entries_from in_bundle entry_of rest 2 0) ≡ Err (Form 1)
       by_sizes None at = refl
-      by_sizes (Some sizes) at = absurd (none first rest sizes.0 sizes.1 (subst (HasLines bytes) is (HasLines-lines_of bytes)) (SpellsSizes-sizes_of first sizes at))
+      by_sizes (Some sizes) at = absurd (none first rest sizes.0 sizes.1 (subst (HasLines bytes) is (HasLines-lines_of bytes)) (EncodesSizes-sizes_of first sizes at))
 
   pub whole-IsFirstWithoutForm : (bytes : Bytes) (n : ℕ) → IsFirstWithoutForm in_bundle bytes n → whole (lines_of bytes) ≡ Err (Form n)
   whole-IsFirstWithoutForm bytes n (inl h) = no_sizes bytes (lines_of bytes) refl h.1 ∙ ap (λ k. Err (Form k)) (sym h.0)
@@ -325,7 +325,7 @@ module _ (in_bundle : Bool) where
       ∙ with_sizes h.0 h.1 h.2 h.3 h.5
       ∙ ap (with_entries (h.2, h.3)) (err_again in_bundle 2 h.1 n h.6)
 
-  -- no other fault is told of a text
+  -- a text gives no other error
   only_these : (lines : List Bytes) (f : ManifestFault) → SoundWhole lines (Err f) → (f ≡ Size) ⊎ ((n : ℕ) × (f ≡ Form n))
   only_these lines Size s = inl refl
   only_these lines (Form n) s = inr (n, refl)

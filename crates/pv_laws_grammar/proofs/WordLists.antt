@@ -1,4 +1,4 @@
--- One word or text, and two, after a space each: for lines that are no instructions.
+-- One or two words or quoted texts, each after a space, in lines that are not instructions.
 use Rattle.std.proofs.Common.{◌≡◌, [], ◌∷◌, ◌++◌, None, Some, ap, sym, ◌∙◌, refl, append-nil}
 use Rattle.std.specs.Prelude.{option_map}
 use Rattle.pv_model.specs.Bytes.{Bytes}

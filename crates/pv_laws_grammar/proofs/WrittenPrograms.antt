@@ -1,4 +1,4 @@
--- What is written for a program spells it.
+-- The text written for a program encodes it.
 use Rattle.std.proofs.Common.{◌≡◌, inl, ℕ, ◌+◌, ◌/◌, ◌%◌, ◌^◌, ◌<◌, ◌≤◌, ℤ, pos, negsuc, Bool, true, false, not, ◌&&◌, ◌==◌, nat_le, nat_lt, List, [], ◌∷◌, ◌++◌, length, map, Option, None, Some, ap, sym, ◌∙◌, refl, subst, arith, leb-true}
 use Rattle.std.specs.Prelude.{flat_map, codes}
 use Rattle.std.specs.Fmt.{decimal, signed_decimal}
@@ -17,55 +17,55 @@ use Rattle.pv_model.specs.declared.open_flags.Mode.{Mode}
 use Rattle.pv_model.specs.declared.open_flags.Mode.TheVariants.{Read, Write, ReadWrite}
 use Rattle.pv_model.specs.declared.open_flags.OpenFlags.{OpenFlags}
 use Rattle.pv_model.specs.Bytes.{Bytes}
-use Rattle.pv_model.specs.Grammar.Forms.{Argument, operand, register, number, line, place, text, text_or_null, flags, whence, origin, form_of, Spells, SpellsArguments, SpellsLine}
+use Rattle.pv_model.specs.Grammar.Forms.{Argument, operand, register, number, line, place, text, text_or_null, flags, whence, origin, form_of, Encodes, EncodesArguments, EncodesLine}
 use Rattle.pv_model.specs.Grammar.Lines.{is_digit}
-use Rattle.pv_model.specs.Grammar.Spelling.{IsNumber, SpellsOperand, SpellsOrigin, SpellsTextOrNull}
-use Rattle.pv_model.specs.Grammar.Texts.{IsLine, ended, SpellLines, SpellsProgram}
+use Rattle.pv_model.specs.Grammar.Encoding.{IsNumber, EncodesOperand, EncodesOrigin, EncodesTextOrNull}
+use Rattle.pv_model.specs.Grammar.Texts.{IsLine, ended, EncodeLines, EncodesProgram}
 use Rattle.pv_model.specs.State.{Program}
 use Rattle.pv_model.specs.Trace.{is_plain, hex_digit, hex_byte, quote_byte, quote, quote_or_null, mode_text, flag_text, flags_text, whence_text}
 use Rattle.pv_laws_grammar.specs.Written.{written_register, written_operand, written_origin, written, written_line, written_program, IsOperand, IsOrigin, IsTextOrNull, IsArgument, IsProgram}
 use Rattle.pv_laws_grammar.proofs.Decimals.{Decimal-decimal, digits_all, digit_bounds}
 use Rattle.pv_laws_grammar.proofs.FlagWords.{after_mode, after_append, after_create, after_truncate, after_exclusive, after_no_follow, after_directory, flags_text-parts}
-use Rattle.pv_laws_grammar.proofs.ShortestForm.{SpellsText-quote}
+use Rattle.pv_laws_grammar.proofs.ShortestForm.{EncodesText-quote}
 
--- ---- arguments in their range are spelled
+-- ---- arguments in range are encoded
 
-spells_operand : (o : Operand) → IsOperand o → SpellsOperand o (written_operand o)
-spells_operand (Number n) h = (h, refl)
-spells_operand (Register r) h = (h, refl)
+encodes_operand : (o : Operand) → IsOperand o → EncodesOperand o (written_operand o)
+encodes_operand (Number n) h = (h, refl)
+encodes_operand (Register r) h = (h, refl)
 
-spells_origin : (o : Origin) → IsOrigin o → SpellsOrigin o (written_origin o)
-spells_origin WorkingDirectory h = refl
-spells_origin (Descriptor d) h = spells_operand d h
+encodes_origin : (o : Origin) → IsOrigin o → EncodesOrigin o (written_origin o)
+encodes_origin WorkingDirectory h = refl
+encodes_origin (Descriptor d) h = encodes_operand d h
 
-spells_text_or_null : (value : Option Bytes) → IsTextOrNull value → SpellsTextOrNull value (quote_or_null value)
-spells_text_or_null None h = refl
-spells_text_or_null (Some value) h = SpellsText-quote value h.0 h.1
+encodes_text_or_null : (value : Option Bytes) → IsTextOrNull value → EncodesTextOrNull value (quote_or_null value)
+encodes_text_or_null None h = refl
+encodes_text_or_null (Some value) h = EncodesText-quote value h.0 h.1
 
-spells_written : (lines : ℕ) → lines ≤ 256 → (a : Argument) → IsArgument lines a → Spells lines a (written a)
-spells_written lines few (operand value) h = spells_operand value h
-spells_written lines few (register value) h = (h, refl)
-spells_written lines few (number value) h = (h, refl)
-spells_written lines few (line value) h = let high = h.1 in (h.0, h.1, (omega arith, refl))
-spells_written lines few (place value) h = (h, (omega arith, refl))
-spells_written lines few (text value) h = SpellsText-quote value h.0 h.1
-spells_written lines few (text_or_null value) h = spells_text_or_null value h
-spells_written lines few (flags value) h = refl
-spells_written lines few (whence value) h = refl
-spells_written lines few (origin value) h = spells_origin value h
+encodes_written : (lines : ℕ) → lines ≤ 256 → (a : Argument) → IsArgument lines a → Encodes lines a (written a)
+encodes_written lines few (operand value) h = encodes_operand value h
+encodes_written lines few (register value) h = (h, refl)
+encodes_written lines few (number value) h = (h, refl)
+encodes_written lines few (line value) h = let high = h.1 in (h.0, h.1, (omega arith, refl))
+encodes_written lines few (place value) h = (h, (omega arith, refl))
+encodes_written lines few (text value) h = EncodesText-quote value h.0 h.1
+encodes_written lines few (text_or_null value) h = encodes_text_or_null value h
+encodes_written lines few (flags value) h = refl
+encodes_written lines few (whence value) h = refl
+encodes_written lines few (origin value) h = encodes_origin value h
 
-spells_arguments : (lines : ℕ) → lines ≤ 256 → (arguments : List Argument) → AllByRecursion (IsArgument lines) arguments → SpellsArguments lines arguments (flat_map (λ a. 32 ∷ written a) arguments)
-spells_arguments lines few [] h = refl
-spells_arguments lines few (a ∷ others) h = (written a, flat_map (λ b. 32 ∷ written b) others, spells_written lines few a h.0, spells_arguments lines few others h.1, refl)
+encodes_arguments : (lines : ℕ) → lines ≤ 256 → (arguments : List Argument) → AllByRecursion (IsArgument lines) arguments → EncodesArguments lines arguments (flat_map (λ a. 32 ∷ written a) arguments)
+encodes_arguments lines few [] h = refl
+encodes_arguments lines few (a ∷ others) h = (written a, flat_map (λ b. 32 ∷ written b) others, encodes_written lines few a h.0, encodes_arguments lines few others h.1, refl)
 
-spells_line : (lines : ℕ) → lines ≤ 256 → (i : Instruction) → AllByRecursion (IsArgument lines) (form_of i).1 → SpellsLine lines (written_line i) i
-spells_line lines few i h = (flat_map (λ a. 32 ∷ written a) (form_of i).1, spells_arguments lines few (form_of i).1 h, refl)
+encodes_line : (lines : ℕ) → lines ≤ 256 → (i : Instruction) → AllByRecursion (IsArgument lines) (form_of i).1 → EncodesLine lines (written_line i) i
+encodes_line lines few i h = (flat_map (λ a. 32 ∷ written a) (form_of i).1, encodes_arguments lines few (form_of i).1 h, refl)
 
-spell_lines : (lines : ℕ) → lines ≤ 256 → (program : Program) → AllByRecursion (λ i. AllByRecursion (IsArgument lines) (form_of i).1) program → SpellLines lines (map written_line program) program
-spell_lines lines few [] h = tt
-spell_lines lines few (i ∷ program) h = (spells_line lines few i h.0, spell_lines lines few program h.1)
+encode_lines : (lines : ℕ) → lines ≤ 256 → (program : Program) → AllByRecursion (λ i. AllByRecursion (IsArgument lines) (form_of i).1) program → EncodeLines lines (map written_line program) program
+encode_lines lines few [] h = tt
+encode_lines lines few (i ∷ program) h = (encodes_line lines few i h.0, encode_lines lines few program h.1)
 
--- ---- what is written for an argument has no LF
+-- ---- the text written for an argument contains no LF
 
 abbrev clear : Bytes → Bool
 clear bs = list_all (λ b. not (b == 10)) bs
@@ -198,11 +198,11 @@ map_length : (program : Program) → length (map written_line program) ≡ lengt
 map_length [] = refl
 map_length (i ∷ program) = let rest = map_length program in omega arith
 
-pub SpellsProgram-written : (program : Program) → IsProgram program → SpellsProgram (written_program program) program
-SpellsProgram-written program h =
+pub EncodesProgram-written : (program : Program) → IsProgram program → EncodesProgram (written_program program) program
+EncodesProgram-written program h =
     let few = h.0 in
     let count = map_length program in
     let lines = are_lines (length program) few program h.1 in
-    let spells : SpellLines (length (map written_line program)) (map written_line program) program =
-    subst (λ n. SpellLines n (map written_line program) program) (sym count) (spell_lines (length program) few program h.1) in
-    (map written_line program, (lines, inl (ended_lines program)), omega arith, spells)
+    let encodes : EncodeLines (length (map written_line program)) (map written_line program) program =
+    subst (λ n. EncodeLines n (map written_line program) program) (sym count) (encode_lines (length program) few program h.1) in
+    (map written_line program, (lines, inl (ended_lines program)), omega arith, encodes)

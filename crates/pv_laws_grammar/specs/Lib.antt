@@ -1,1 +1,4 @@
 pub mod Written
+pub mod Accepted
+pub mod Labels
+pub mod Comments

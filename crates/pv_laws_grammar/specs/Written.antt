@@ -1,4 +1,4 @@
--- One text for each program: what is written for its instructions.
+-- The canonical text of a program: the text written for its instructions.
 use Rattle.std.specs.Prelude.{ℕ, ◌<◌, ◌≤◌, ◌∷◌, ◌++◌, length, flat_map, codes, Option, None, Some}
 use Rattle.std.specs.Fmt.{decimal, signed_decimal}
 use Rattle.std.specs.List.{AllByRecursion}
@@ -11,7 +11,7 @@ use Rattle.pv_model.specs.declared.limits.TheConstants.{BUFFER, REGISTERS, TEXT}
 use Rattle.pv_model.specs.Bytes.{Bytes}
 use Rattle.pv_model.specs.Grammar.Forms.{Argument, operand, register, number, line, place, text, text_or_null, flags, whence, origin, form_of}
 use Rattle.pv_model.specs.Grammar.Manifests.{with_line_end}
-use Rattle.pv_model.specs.Grammar.Spelling.{IsNumber}
+use Rattle.pv_model.specs.Grammar.Encoding.{IsNumber}
 use Rattle.pv_model.specs.State.{Program}
 use Rattle.pv_model.specs.Trace.{quote, quote_or_null, flags_text, whence_text}
 
@@ -26,7 +26,6 @@ abbrev pub written_origin : Origin → Bytes
 written_origin WorkingDirectory = codes "cwd"
 written_origin (Descriptor d) = written_operand d
 
--- an argument
 abbrev pub written : Argument → Bytes
 written (operand value) = written_operand value
 written (register value) = written_register value
@@ -39,11 +38,9 @@ written (flags value) = flags_text value
 written (whence value) = whence_text value
 written (origin value) = written_origin value
 
--- the line of an instruction
 abbrev pub written_line : Instruction → Bytes
 written_line i = (form_of i).0 ++ flat_map (λ a. 32 ∷ written a) (form_of i).1
 
--- the lines of a program
 abbrev pub written_program : Program → Bytes
 written_program program = flat_map (λ i. with_line_end (written_line i)) program
 
@@ -55,7 +52,7 @@ abbrev pub IsOrigin : Origin → Type 0
 IsOrigin WorkingDirectory = Unit {0}
 IsOrigin (Descriptor d) = IsOperand d
 
--- a text's bytes are not 0, and at most 1,100
+-- a text has at most 1,100 bytes, none of which is 0
 abbrev pub IsText : Bytes → Type 0
 IsText value = AllByRecursion (λ b. (0 < b) × (b < 256)) value × (length value ≤ TEXT)
 
@@ -63,7 +60,7 @@ abbrev pub IsTextOrNull : Option Bytes → Type 0
 IsTextOrNull None = Unit {0}
 IsTextOrNull (Some value) = IsText value
 
--- an argument is in its range, in a program of so many lines
+-- an argument is in its range, in a program with a number of lines
 abbrev pub IsArgument : ℕ → Argument → Type 0
 IsArgument lines (operand value) = IsOperand value
 IsArgument lines (register value) = value < REGISTERS
@@ -76,6 +73,6 @@ IsArgument lines (flags value) = Unit {0}
 IsArgument lines (whence value) = Unit {0}
 IsArgument lines (origin value) = IsOrigin value
 
--- a program is no longer than 256 lines, and its arguments are in their ranges
+-- a program has at most 256 lines, and its arguments are in their ranges
 abbrev pub IsProgram : Program → Type 0
 IsProgram program = (length program ≤ 256) × AllByRecursion (λ i. AllByRecursion (IsArgument (length program)) (form_of i).1) program

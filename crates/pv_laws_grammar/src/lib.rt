@@ -1,17 +1,18 @@
-//! Laws of the grammars: what the functions on lists of `pv_model` read is what its relations between bytes and values say, and
-//! nothing else is.
+//! Laws of the text formats: the parsing functions of `pv_model` agree with its relations between bytes and values.
 //!
-//! Each function has an empty body: its contract is the law, which the check proves. So what a text spells is said twice, as
-//! the readers compute it and as the manual has it, and both say the same:
+//! Each format is defined twice in `pv_model`: by functions, which compute, and by relations, which read like the
+//! manual. The laws state that both accept the same texts with the same meaning. Each law is a function with an empty
+//! body whose contract is the statement.
 //!
-//! - `words`: numbers, registers, operands, flags, and texts in quotation marks.
-//! - `lines`: instructions, with their arguments.
-//! - `programs`, `schedules`: whole texts, and the least line that is at fault.
-//! - `manifests`: manifests and bundles, their entries, and the tree that these make.
+//! - `words`: numbers, registers, operands, flags and quoted texts. `lines`: one line of a program.
+//! - `programs`, `schedules`: whole texts, and the first invalid line.
+//! - `manifests`: manifests and bundles, their entries, and the tree that the entries make.
+//! - `sources`: the bundle or manifest that a source denotes.
 #![tactic(auto)]
 
 pub mod lines;
 pub mod manifests;
 pub mod programs;
 pub mod schedules;
+pub mod sources;
 pub mod words;

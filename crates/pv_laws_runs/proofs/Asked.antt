@@ -1,16 +1,15 @@
--- What a run is asked, check by check, is what the relations of the formats say.
+-- The checks of a run, one by one, agree with the relations of the formats.
 use Rattle.std.proofs.Common.{◌≡◌, ◌∙◌, List, true, Some, Result, Ok, Err, refl, ap, sym, subst}
 use Rattle.std.specs.Result.{result_ok}
 use Rattle.pv_model.specs.declared.kernel_fault.BootFault.{BootFault}
 use Rattle.pv_model.specs.declared.run_fault.RunFault.{RunFault}
 use Rattle.pv_model.specs.Bytes.{Bytes}
 use Rattle.pv_model.specs.Grammar.Applied.{AppliesAll}
-use Rattle.pv_model.specs.Grammar.Entries.{SpellsManifest}
+use Rattle.pv_model.specs.Grammar.Entries.{EncodesManifest}
 use Rattle.pv_model.specs.Grammar.Lines.{lines_of}
 use Rattle.pv_model.specs.Grammar.Manifests.{Manifest, data_blocks, read_bundle, tree_of}
 use Rattle.pv_model.specs.Grammar.Programs.{program_of}
 use Rattle.pv_model.specs.Grammar.Schedules.{read_schedule, schedule_of_lines}
-use Rattle.pv_model.specs.Grammar.Texts.{SpellsSchedule}
 use Rattle.pv_model.specs.Image.{IsImageOf}
 use Rattle.pv_model.specs.Manifest.{empty_tree}
 use Rattle.pv_model.specs.Mount.{mounted}
@@ -20,17 +19,17 @@ use Rattle.pv_model.specs.State.{Program, State, first_state}
 use Rattle.pv_model.specs.Step.{Schedule, boot}
 use Rattle.pv_model.specs.Tree.{Tree}
 use Rattle.pv_laws_grammar.proofs.AppliedEntries.{AppliesAll-tree_of, tree_of-AppliesAll}
-use Rattle.pv_laws_grammar.proofs.WholeManifests.{SpellsManifest-whole, whole-SpellsManifest}
-use Rattle.pv_laws_grammar.proofs.WholeSchedules.{SpellsSchedule-read, read-SpellsSchedule, schedule_again, schedule_found}
-use Rattle.pv_laws_images.proofs.Starts.{starts}
-use Rattle.pv_laws_images.proofs.Back.{image-mounted}
-use Rattle.pv_laws_images.proofs.Images.{mounted-image}
+use Rattle.pv_laws_grammar.proofs.WholeManifests.{EncodesManifest-whole, whole-EncodesManifest}
+use Rattle.pv_laws_grammar.proofs.WholeSchedules.{EncodesSchedule-read, read-EncodesSchedule, schedule_again, schedule_found}
+use Rattle.pv_laws_trees.proofs.Starts.{starts}
+use Rattle.pv_laws_trees.proofs.Back.{image-mounted}
+use Rattle.pv_laws_trees.proofs.Images.{mounted-image}
 use Rattle.pv_laws_runs.specs.Asked.{AsksOfBundle, AsksOfImage}
 use Rattle.pv_laws_runs.proofs.Started.{not_refused, state_or}
 
--- ---- the machine's first state
+-- ---- the first state of the machine
 
--- a machine stands on the tree on which it was booted
+-- a booted machine has the tree on which it was booted
 tree-by : (t : Tree) (s : State) (r : Result Program BootFault) → and_then (λ (f : BootFault). f) r (λ (program : Program). Ok (first_state t program)) ≡ Ok s → s.tree ≡ t
 tree-by t s (Ok program) is = cc is
 tree-by t s (Err fault) is = cc is
@@ -39,7 +38,7 @@ booted-tree : (t : Tree) (s : State) → booted t ≡ Ok s → s.tree ≡ t
 unfolding booted
 booted-tree t s is = tree-by t s (program_in (init_of t)) is
 
--- a machine that was booted starts by the programs that bytes spell
+-- a machine that is booted starts with the program that bytes parse as
 pub boots : (t : Tree) (s : State) → booted t ≡ Ok s → boot program_of s.tree ≡ Some s
 boots t s is = ap (λ tree. boot program_of tree) (booted-tree t s is) ∙ (sym (starts t) ∙ ap result_ok is)
 
@@ -47,18 +46,18 @@ ok-of : (s : State) (r : Result State BootFault) → result_ok r ≡ Some s → 
 ok-of s (Ok t) is = let same : t ≡ s = cc is in ap Ok same
 ok-of s (Err fault) is = cc is
 
--- and one that starts so was booted
+-- conversely, a machine that starts in this way is booted
 boots-booted : (t : Tree) (s : State) → boot program_of t ≡ Some s → booted t ≡ Ok s
 boots-booted t s is = ok-of s (booted t) (starts t ∙ is)
 
--- ---- on a tree: the schedule, and then the first program
+-- ---- on a tree: the schedule, then the first program
 
 abbrev schedule_or : Schedule → Result Started RunFault → Schedule
 schedule_or s (Ok started) = started.schedule
 schedule_or s (Err fault) = s
 
 module _ (t : Tree) (lines : List Bytes) (it : Started) where
-  started-by : started_on t lines ≡ Ok it → (schedule_of_lines lines ≡ Ok it.schedule) × (booted t ≡ Ok it.state)
+  pub started-by : started_on t lines ≡ Ok it → (schedule_of_lines lines ≡ Ok it.schedule) × (booted t ≡ Ok it.state)
   unfolding started_on
   started-by is =
       let given = not_refused of_schedule (λ (schedule : Schedule). and_then of_boot (booted t) (λ (state : State). Ok (record { state = state; schedule = schedule }))) it (schedule_of_lines lines) is in
@@ -82,25 +81,25 @@ module _ (image turns : Bytes) (it : Started) where
       record {
         is_image = subst (IsImageOf image) (sym (booted-tree at.0 it.state by.1)) (mounted-image image at.0 at.1);
         boots = boots at.0 it.state by.1;
-        spelled = SpellsSchedule-read turns it.schedule by.0;
+        encoded = EncodesSchedule-read turns it.schedule by.0;
       }
 
   pub asks-image : AsksOfImage image turns it → image_started image turns ≡ Ok it
   unfolding image_started read_schedule
   asks-image asks =
       let held = image-mounted image it.state.tree asks.is_image in
-      rw held (started-whole it.state.tree (lines_of turns) it (read-SpellsSchedule turns it.schedule asks.spelled) (boots-booted it.state.tree it.state asks.boots))
+      rw held (started-whole it.state.tree (lines_of turns) it (read-EncodesSchedule turns it.schedule asks.encoded) (boots-booted it.state.tree it.state asks.boots))
 
 -- ---- of a bundle
 
 module _ (bytes : Bytes) where
-  bundle-spelled : (m : Manifest) → read_bundle bytes ≡ Ok m → SpellsManifest true bytes m
+  bundle-encoded : (m : Manifest) → read_bundle bytes ≡ Ok m → EncodesManifest true bytes m
   unfolding read_bundle
-  bundle-spelled m is = SpellsManifest-whole true bytes m is
+  bundle-encoded m is = EncodesManifest-whole true bytes m is
 
-  spelled-bundle : (m : Manifest) → SpellsManifest true bytes m → read_bundle bytes ≡ Ok m
+  encoded-bundle : (m : Manifest) → EncodesManifest true bytes m → read_bundle bytes ≡ Ok m
   unfolding read_bundle
-  spelled-bundle m spelled = whole-SpellsManifest true bytes m spelled
+  encoded-bundle m encoded = whole-EncodesManifest true bytes m encoded
 
   module _ (it : Started) where
     pub bundle-asks : bundle_started bytes ≡ Ok it → AsksOfBundle bytes it
@@ -112,16 +111,16 @@ module _ (bytes : Bytes) where
         let by = started-by made.0 m.listed.following it made.2 in
         record {
           manifest = m;
-          is_manifest = bundle-spelled m read.1;
+          is_manifest = bundle-encoded m read.1;
           applied = subst (AppliesAll (empty_tree (data_blocks m.blocks m.inodes) m.inodes) m.listed.entries) (sym (booted-tree made.0 it.state by.1)) (AppliesAll-tree_of m made.0 made.1);
           boots = boots made.0 it.state by.1;
-          spelled = schedule_found m.listed.following it.schedule by.0;
+          encoded = schedule_found m.listed.following it.schedule by.0;
         }
 
     pub asks-bundle : AsksOfBundle bytes it → bundle_started bytes ≡ Ok it
     unfolding bundle_started
     asks-bundle asks =
         let m = asks.manifest in
-        let read = spelled-bundle m asks.is_manifest in
+        let read = encoded-bundle m asks.is_manifest in
         let made = tree_of-AppliesAll m it.state.tree asks.applied in
-        rw (read, made) (started-whole it.state.tree m.listed.following it (schedule_again m.listed.following it.schedule asks.spelled) (boots-booted it.state.tree it.state asks.boots))
+        rw (read, made) (started-whole it.state.tree m.listed.following it (schedule_again m.listed.following it.schedule asks.encoded) (boots-booted it.state.tree it.state asks.boots))

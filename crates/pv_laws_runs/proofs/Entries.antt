@@ -1,13 +1,13 @@
--- What the lines of a manifest list.
+-- The entries that the lines of a manifest list.
 use Rattle.std.proofs.Common.{◌≡◌, ℕ, ◌+◌, ◌≤◌, Bool, true, false, not, ◌&&◌, ◌==◌, nat_le, List, [], ◌∷◌, ◌++◌, length, filter, Some, refl, ap, sym, subst, ◌∙◌, ⊎_elim, arith, cond}
 use Rattle.std.specs.List.{list_all}
 use Rattle.std.proofs.lemmas.Bool.{and_parts, and_from, le-leb}
 use Rattle.std.proofs.lemmas.List.Folds.{list_all-append}
 use Rattle.pv_model.specs.declared.version.Version.TheVariants.{V1}
 use Rattle.pv_model.specs.Bytes.{Bytes, is_empty, onto_first}
-use Rattle.pv_model.specs.Grammar.Entries.{SpellsPath, SpellsEntry, of_directory, of_file, of_program, of_link, of_name, Lists, at_end, at_schedule, entry}
+use Rattle.pv_model.specs.Grammar.Entries.{EncodesPath, EncodesEntry, of_directory, of_file, of_program, of_link, of_name, Lists, at_end, at_schedule, entry}
 use Rattle.pv_model.specs.Grammar.Manifests.{is_manifest_path, with_line_end, Listed}
-use Rattle.pv_model.specs.Grammar.Spelling.{SpellsText}
+use Rattle.pv_model.specs.Grammar.Encoding.{EncodesText}
 use Rattle.pv_model.specs.Grammar.Texts.{HasLines, ended}
 use Rattle.pv_model.specs.Manifest.{Entry, make, further_name}
 use Rattle.pv_model.specs.Tree.{Node, link_node, entries_of, is_name, is_node}
@@ -15,7 +15,7 @@ use Rattle.pv_model.specs.Walk.{split_slashes, components}
 use Rattle.pv_laws_grammar.proofs.EntryPaths.{is_manifest_path-IsEntryPath}
 use Rattle.pv_laws_states.specs.States.{is_byte, are_bytes, is_text_byte, has_bytes}
 use Rattle.pv_laws_trees.proofs.Entries.{list_all-filter}
-use Rattle.pv_laws_runs.proofs.Ranges.{text-spelled}
+use Rattle.pv_laws_runs.proofs.Ranges.{text-encoded}
 
 -- ---- bytes
 
@@ -24,17 +24,17 @@ list_all-weaker p q weaker [] all = refl
 list_all-weaker p q weaker (x ∷ xs) all =
     let parts = and_parts (p x) (list_all p xs) all in and_from (q x) (list_all q xs) (weaker x parts.0) (list_all-weaker p q weaker xs parts.1)
 
-text-bytes : (value word : Bytes) → SpellsText value word → are_bytes value ≡ true
+text-bytes : (value word : Bytes) → EncodesText value word → are_bytes value ≡ true
 text-bytes value word is =
     list_all-weaker is_text_byte is_byte (λ b good. (and_parts (not (b == 0)) (is_byte b) good).1) value
-    (and_parts (nat_le (length value) 1100) (list_all is_text_byte value) (text-spelled value word is)).1
+    (and_parts (nat_le (length value) 1100) (list_all is_text_byte value) (text-encoded value word is)).1
 
-text-no_zero : (value word : Bytes) → SpellsText value word → list_all (λ b. not (b == 0)) value ≡ true
+text-no_zero : (value word : Bytes) → EncodesText value word → list_all (λ b. not (b == 0)) value ≡ true
 text-no_zero value word is =
     list_all-weaker is_text_byte (λ b. not (b == 0)) (λ b good. (and_parts (not (b == 0)) (is_byte b) good).0) value
-    (and_parts (nat_le (length value) 1100) (list_all is_text_byte value) (text-spelled value word is)).1
+    (and_parts (nat_le (length value) 1100) (list_all is_text_byte value) (text-encoded value word is)).1
 
--- the lines of bytes are bytes
+-- the lines of a text of bytes are bytes
 pub join-bytes : (a b : Bytes) → are_bytes a ≡ true → are_bytes b ≡ true → are_bytes (a ++ b) ≡ true
 join-bytes a b first second = list_all-append is_byte a b ∙ and_from (are_bytes a) (are_bytes b) first second
 
@@ -65,7 +65,7 @@ lines-bytes bytes lines has all =
 
 -- ---- the names of a path
 
--- a name that an entry of a tree may have
+-- a valid name of an entry, consisting of bytes
 abbrev pub is_good_name : Bytes → Bool
 is_good_name name = is_name V1 name && are_bytes name
 
@@ -96,18 +96,17 @@ path-names (b ∷ bs) is all =
     subst (λ t. list_all is_good_name (filter (λ component. not (is_empty component)) (cond t ([] ∷ split_slashes bs) (onto_first b (split_slashes bs)))) ≡ true) (sym parts.0)
     (list_all-filter is_good_name (λ component. not (is_empty component)) (split_slashes bs) good)
 
-spelled-names : (path word : Bytes) → SpellsPath path word → list_all is_good_name (components path) ≡ true
-spelled-names path word is = path-names path (is_manifest_path-IsEntryPath path is.0) (text-bytes path word is.1)
+encoded-names : (path word : Bytes) → EncodesPath path word → list_all is_good_name (components path) ≡ true
+encoded-names path word is = path-names path (is_manifest_path-IsEntryPath path is.0) (text-bytes path word is.1)
 
 -- ---- entries
 
--- a node that a manifest may make
 pub record IsNew (node : Node) : Type 0 where
   pub is : is_node V1 node ≡ true
   pub bytes : has_bytes node ≡ true
   pub bare : entries_of (Some node) ≡ []
 
--- an entry with names that may stand in a tree, and a node that may
+-- an entry whose names and node a tree may have
 abbrev pub IsGoodEntry : Entry → Type 0
 IsGoodEntry (make path node) = (list_all is_good_name (components path) ≡ true) × IsNew node
 IsGoodEntry (further_name path source) = list_all is_good_name (components path) ≡ true
@@ -120,7 +119,7 @@ not_empty : (text : Bytes) → 1 ≤ length text → is_empty text ≡ false
 not_empty [] some = absurd (omega arith)
 not_empty (b ∷ bs) some = refl
 
-link-good : (text word : Bytes) → SpellsText text word → 1 ≤ length text → length text ≤ 1023 → IsNew (link_node text)
+link-good : (text word : Bytes) → EncodesText text word → 1 ≤ length text → length text ≤ 1023 → IsNew (link_node text)
 link-good text word is some few = record {
   is = and_from (not (is_empty text) && nat_le (length text) 1023) (list_all (λ b. not (b == 0)) text)
       (and_from (not (is_empty text)) (nat_le (length text) 1023) (ap not (not_empty text some)) (le-leb (length text) 1023 few)) (text-no_zero text word is);
@@ -128,12 +127,12 @@ link-good text word is some few = record {
   bare = refl;
 }
 
-spelled-good : (line : Bytes) (body : List Bytes) (e : Entry) → SpellsEntry line body e → list_all are_bytes body ≡ true → IsGoodEntry e
-spelled-good _ _ _ (of_directory path word is) all = (spelled-names path word is, record { is = refl; bytes = refl; bare = refl })
-spelled-good _ _ _ (of_file path word contents other is has) all = (spelled-names path word is, record { is = refl; bytes = text-bytes contents other has; bare = refl })
-spelled-good _ _ _ (of_program path word body is few) all = (spelled-names path word is, record { is = refl; bytes = ended-bytes body all; bare = refl })
-spelled-good _ _ _ (of_link path word text other is has some few) all = (spelled-names path word is, link-good text other has some few)
-spelled-good _ _ _ (of_name path word source other is has) all = spelled-names path word is
+encoded-good : (line : Bytes) (body : List Bytes) (e : Entry) → EncodesEntry line body e → list_all are_bytes body ≡ true → IsGoodEntry e
+encoded-good _ _ _ (of_directory path word is) all = (encoded-names path word is, record { is = refl; bytes = refl; bare = refl })
+encoded-good _ _ _ (of_file path word contents other is has) all = (encoded-names path word is, record { is = refl; bytes = text-bytes contents other has; bare = refl })
+encoded-good _ _ _ (of_program path word body is few) all = (encoded-names path word is, record { is = refl; bytes = ended-bytes body all; bare = refl })
+encoded-good _ _ _ (of_link path word text other is has some few) all = (encoded-names path word is, link-good text other has some few)
+encoded-good _ _ _ (of_name path word source other is has) all = encoded-names path word is
 
 pub listed-good : (in_bundle : Bool) (n : ℕ) (lines : List Bytes) (l : Listed) → Lists in_bundle n lines l → list_all are_bytes lines ≡ true → AreGoodEntries l.entries
 listed-good in_bundle _ _ _ (at_end n alone) all = tt
@@ -141,4 +140,4 @@ listed-good in_bundle _ _ _ (at_schedule n rest bundle) all = tt
 listed-good in_bundle _ _ _ (entry n line body rest e others is more) all =
     let parts = and_parts (are_bytes line) (list_all are_bytes (body ++ rest)) all in
     let inner = and_parts (list_all are_bytes body) (list_all are_bytes rest) (sym (list_all-append are_bytes body rest) ∙ parts.1) in
-    (spelled-good line body e is inner.0, listed-good in_bundle (n + 1 + length body) rest others more inner.1)
+    (encoded-good line body e is inner.0, listed-good in_bundle (n + 1 + length body) rest others more inner.1)

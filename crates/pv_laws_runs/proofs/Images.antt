@@ -1,4 +1,4 @@
--- The tree of an image is one to start with.
+-- The tree of an image is a valid first tree.
 use Rattle.std.proofs.Common.{◌≡◌, ◌≢◌, ℕ, suc, ◌+◌, ◌*◌, ◌<◌, ◌≤◌, Bool, true, false, ◌==◌, nat_le, nat_lt, List, [], ◌∷◌, ◌++◌, map, filter, flat_map, take, drop, length, sum_by, cond, Option, None, Some, is_some, IsPermutation, refl, ap, sym, ◌∙◌, arith, ⊎_elim}
 use Rattle.std.specs.List.{list_any, list_all}
 use Rattle.std.proofs.lemmas.Bool.{and_parts, and_from, or_parts, or_from, le-leb, le-ltb, cases_Bool}
@@ -15,9 +15,9 @@ use Rattle.pv_model.specs.Numbered.{Numbered, at_number, present, numbered_from,
 use Rattle.pv_model.specs.Room.{node_length, need, greatest_length, fits, is_too_long}
 use Rattle.pv_model.specs.Tree.{Entries, Node, directory_node, file_node, link_node, Tree, root, node_at, entries_of, names_in, named_numbers}
 use Rattle.pv_laws_states.specs.States.{is_byte, are_bytes, has_bytes, IsFirstTree}
-use Rattle.pv_laws_images.proofs.Held.{node-held}
-use Rattle.pv_laws_images.proofs.Inodes.{need-used}
-use Rattle.pv_laws_images.proofs.Ranges.{each_weaker, distinct-within}
+use Rattle.pv_laws_trees.proofs.Held.{node-held}
+use Rattle.pv_laws_trees.proofs.Inodes.{need-used}
+use Rattle.pv_laws_trees.proofs.Ranges.{each_weaker, distinct-within}
 use Rattle.pv_laws_runs.proofs.Entries.{join-bytes, split-bytes}
 
 -- ---- bytes
@@ -42,7 +42,7 @@ named_by_bytes es = list_all (λ (e : Bytes × ℕ). are_bytes e.0) es
 
 slot-bytes : (v : Version) (slot name : Bytes) (n : ℕ) → IsSlot v slot name n → are_bytes slot ≡ true → are_bytes name ≡ true
 slot-bytes v slot name n is all =
-    let front = (split-bytes (is.number ++ length name ∷ is.unread ∷ name) is.left (ap are_bytes (sym is.is_spelled) ∙ all)).0 in
+    let front = (split-bytes (is.number ++ length name ∷ is.unread ∷ name) is.left (ap are_bytes (sym is.is_encoded) ∙ all)).0 in
     let back = (split-bytes is.number (length name ∷ is.unread ∷ name) front).1 in
     let a = and_parts (is_byte (length name)) (are_bytes (is.unread ∷ name)) back in
     (and_parts (is_byte is.unread) (are_bytes name) a.1).1
@@ -64,7 +64,7 @@ held-bytes v bytes n (link_node text) is all = ap are_bytes (sym is) ∙ content
 
 -- ---- names
 
--- what is not among the numbers of entries has no name
+-- a number that no entry contains has no name
 unnamed_in : (n d : ℕ) (es : Entries) → among (map (λ e. e.1) es) n ≡ false → names_in n es d ≡ []
 unnamed_in n d [] none = refl
 unnamed_in n d (e ∷ es) none =

@@ -1,4 +1,4 @@
--- What bytes spell as a program is in its ranges.
+-- A parsed program is in range.
 use Rattle.std.proofs.Common.{◌≡◌, ℕ, suc, ℤ, pos, negsuc, ◌≤◌, ◌<◌, Bool, true, false, not, ◌&&◌, ◌==◌, nat_le, nat_lt, List, [], ◌∷◌, length, Option, None, Some, refl, ap, sym, ◌∙◌, arith}
 use Rattle.std.specs.List.{list_all}
 use Rattle.std.proofs.lemmas.Bool.{and_parts, and_from, le-leb, lt-ltb, leb-true, ne_eqb}
@@ -9,18 +9,18 @@ use Rattle.pv_model.specs.declared.instruction.Operand.TheVariants.{Number, Regi
 use Rattle.pv_model.specs.declared.instruction.Origin.{Origin}
 use Rattle.pv_model.specs.declared.instruction.Origin.TheVariants.{WorkingDirectory, Descriptor}
 use Rattle.pv_model.specs.Bytes.{Bytes}
-use Rattle.pv_model.specs.Grammar.Forms.{Argument, operand, register, number, line, place, text, text_or_null, flags, whence, origin, form_of, Spells, SpellsArguments}
+use Rattle.pv_model.specs.Grammar.Forms.{Argument, operand, register, number, line, place, text, text_or_null, flags, whence, origin, form_of, Encodes, EncodesArguments}
 use Rattle.pv_model.specs.Grammar.Programs.{program_of}
-use Rattle.pv_model.specs.Grammar.Spelling.{IsNumber, SpellsOperand, SpellsOrigin, SpellsText, SpellsTextOrNull, SpellsBytes, nothing, plain, escaped}
-use Rattle.pv_model.specs.Grammar.Texts.{SpellLines, SpellsProgram}
+use Rattle.pv_model.specs.Grammar.Encoding.{IsNumber, EncodesOperand, EncodesOrigin, EncodesText, EncodesTextOrNull, EncodesBytes, nothing, plain, escaped}
+use Rattle.pv_model.specs.Grammar.Texts.{EncodeLines, EncodesProgram}
 use Rattle.pv_model.specs.State.{Program}
 use Rattle.pv_model.specs.Trace.{is_plain}
-use Rattle.pv_laws_grammar.proofs.WholePrograms.{SpellsProgram-program_of}
-use Rattle.pv_laws_states.specs.States.{is_word, is_byte, is_text_byte, is_text, is_text_or_none, is_operand, is_origin, is_target_line, is_instruction, is_program, SpellsPrograms}
+use Rattle.pv_laws_grammar.proofs.WholePrograms.{EncodesProgram-program_of}
+use Rattle.pv_laws_states.specs.States.{is_word, is_byte, is_text_byte, is_text, is_text_or_none, is_operand, is_origin, is_target_line, is_instruction, is_program, EncodesPrograms}
 
 -- ---- arguments
 
--- an argument is in its range, in a program of so many lines
+-- an argument is in its range, in a program with a number of lines
 abbrev is_argument : ℕ → Argument → Bool
 is_argument lines (operand value) = is_operand value
 is_argument lines (register value) = nat_lt value 8
@@ -37,13 +37,13 @@ word-number : (n : ℤ) → IsNumber n → is_word n ≡ true
 word-number (pos n) small = le-leb n 2147483647 small
 word-number (negsuc n) small = le-leb n 2147483647 small
 
-operand-spelled : (value : Operand) (word : Bytes) → SpellsOperand value word → is_operand value ≡ true
-operand-spelled (Number n) word is = word-number n is.0
-operand-spelled (Register r) word is = lt-ltb r 8 is.0
+operand-encoded : (value : Operand) (word : Bytes) → EncodesOperand value word → is_operand value ≡ true
+operand-encoded (Number n) word is = word-number n is.0
+operand-encoded (Register r) word is = lt-ltb r 8 is.0
 
-origin-spelled : (value : Origin) (word : Bytes) → SpellsOrigin value word → is_origin value ≡ true
-origin-spelled WorkingDirectory word is = refl
-origin-spelled (Descriptor d) word is = operand-spelled d word is
+origin-encoded : (value : Origin) (word : Bytes) → EncodesOrigin value word → is_origin value ≡ true
+origin-encoded WorkingDirectory word is = refl
+origin-encoded (Descriptor d) word is = operand-encoded d word is
 
 text_byte-from : (b : ℕ) → 0 < b → b < 256 → is_text_byte b ≡ true
 text_byte-from b above below =
@@ -56,35 +56,35 @@ plain-text_byte b is =
     let high = leb-true b 126 range.1 in
     text_byte-from b (omega arith) (omega arith)
 
-bytes-spelled : (value spelled : Bytes) → SpellsBytes value spelled → list_all is_text_byte value ≡ true
-bytes-spelled _ _ nothing = refl
-bytes-spelled _ _ (plain b value spelled is rest) = and_from (is_text_byte b) (list_all is_text_byte value) (plain-text_byte b is) (bytes-spelled value spelled rest)
-bytes-spelled _ _ (escaped b value spelled above below rest) =
-    and_from (is_text_byte b) (list_all is_text_byte value) (text_byte-from b above below) (bytes-spelled value spelled rest)
+bytes-encoded : (value encoded : Bytes) → EncodesBytes value encoded → list_all is_text_byte value ≡ true
+bytes-encoded _ _ nothing = refl
+bytes-encoded _ _ (plain b value encoded is rest) = and_from (is_text_byte b) (list_all is_text_byte value) (plain-text_byte b is) (bytes-encoded value encoded rest)
+bytes-encoded _ _ (escaped b value encoded above below rest) =
+    and_from (is_text_byte b) (list_all is_text_byte value) (text_byte-from b above below) (bytes-encoded value encoded rest)
 
-pub text-spelled : (value word : Bytes) → SpellsText value word → is_text value ≡ true
-text-spelled value word is = and_from (nat_le (length value) 1100) (list_all is_text_byte value) (le-leb (length value) 1100 is.2) (bytes-spelled value is.0 is.1)
+pub text-encoded : (value word : Bytes) → EncodesText value word → is_text value ≡ true
+text-encoded value word is = and_from (nat_le (length value) 1100) (list_all is_text_byte value) (le-leb (length value) 1100 is.2) (bytes-encoded value is.0 is.1)
 
-text_or_null-spelled : (value : Option Bytes) (word : Bytes) → SpellsTextOrNull value word → is_text_or_none value ≡ true
-text_or_null-spelled None word is = refl
-text_or_null-spelled (Some value) word is = text-spelled value word is
+text_or_null-encoded : (value : Option Bytes) (word : Bytes) → EncodesTextOrNull value word → is_text_or_none value ≡ true
+text_or_null-encoded None word is = refl
+text_or_null-encoded (Some value) word is = text-encoded value word is
 
-argument-spelled : (lines : ℕ) (a : Argument) (word : Bytes) → Spells lines a word → is_argument lines a ≡ true
-argument-spelled lines (operand value) word is = operand-spelled value word is
-argument-spelled lines (register value) word is = lt-ltb value 8 is.0
-argument-spelled lines (number value) word is = word-number value is.0
-argument-spelled lines (line value) word is = and_from (nat_le 1 value) (nat_le value lines) (le-leb 1 value is.0) (le-leb value lines is.1)
-argument-spelled lines (place value) word is = lt-ltb value 4096 is.0
-argument-spelled lines (text value) word is = text-spelled value word is
-argument-spelled lines (text_or_null value) word is = text_or_null-spelled value word is
-argument-spelled lines (flags value) word is = refl
-argument-spelled lines (whence value) word is = refl
-argument-spelled lines (origin value) word is = origin-spelled value word is
+argument-encoded : (lines : ℕ) (a : Argument) (word : Bytes) → Encodes lines a word → is_argument lines a ≡ true
+argument-encoded lines (operand value) word is = operand-encoded value word is
+argument-encoded lines (register value) word is = lt-ltb value 8 is.0
+argument-encoded lines (number value) word is = word-number value is.0
+argument-encoded lines (line value) word is = and_from (nat_le 1 value) (nat_le value lines) (le-leb 1 value is.0) (le-leb value lines is.1)
+argument-encoded lines (place value) word is = lt-ltb value 4096 is.0
+argument-encoded lines (text value) word is = text-encoded value word is
+argument-encoded lines (text_or_null value) word is = text_or_null-encoded value word is
+argument-encoded lines (flags value) word is = refl
+argument-encoded lines (whence value) word is = refl
+argument-encoded lines (origin value) word is = origin-encoded value word is
 
-arguments-spelled : (lines : ℕ) (arguments : List Argument) (bytes : Bytes) → SpellsArguments lines arguments bytes → list_all (is_argument lines) arguments ≡ true
-arguments-spelled lines [] bytes is = refl
-arguments-spelled lines (a ∷ others) bytes is =
-    and_from (is_argument lines a) (list_all (is_argument lines) others) (argument-spelled lines a is.0 is.2) (arguments-spelled lines others is.1 is.3)
+arguments-encoded : (lines : ℕ) (arguments : List Argument) (bytes : Bytes) → EncodesArguments lines arguments bytes → list_all (is_argument lines) arguments ≡ true
+arguments-encoded lines [] bytes is = refl
+arguments-encoded lines (a ∷ others) bytes is =
+    and_from (is_argument lines a) (list_all (is_argument lines) others) (argument-encoded lines a is.0 is.2) (arguments-encoded lines others is.1 is.3)
 
 -- ---- lines
 
@@ -135,22 +135,22 @@ instruction-ranges lines (Line.Rename path new) is = two (is_text path) (is_text
 instruction-ranges lines (Line.Link path new) is = two (is_text path) (is_text new) is
 instruction-ranges lines (Line.Symlink value path) is = two (is_text value) (is_text path) is
 
-lines-spelled : (count : ℕ) (lines : List Bytes) (program : Program) → SpellLines count lines program → (length lines ≡ length program) × (list_all (is_instruction count) program ≡ true)
-lines-spelled count [] [] is = (refl, refl)
-lines-spelled count (l ∷ ls) (i ∷ program) is =
-    let rest = lines-spelled count ls program is.1 in
-    (ap suc rest.0, and_from (is_instruction count i) (list_all (is_instruction count) program) (instruction-ranges count i (arguments-spelled count (form_of i).1 is.0.0 is.0.1)) rest.1)
-lines-spelled count [] (i ∷ program) is = absurd is
-lines-spelled count (l ∷ ls) [] is = absurd is
+lines-encoded : (count : ℕ) (lines : List Bytes) (program : Program) → EncodeLines count lines program → (length lines ≡ length program) × (list_all (is_instruction count) program ≡ true)
+lines-encoded count [] [] is = (refl, refl)
+lines-encoded count (l ∷ ls) (i ∷ program) is =
+    let rest = lines-encoded count ls program is.1 in
+    (ap suc rest.0, and_from (is_instruction count i) (list_all (is_instruction count) program) (instruction-ranges count i (arguments-encoded count (form_of i).1 is.0.0 is.0.1)) rest.1)
+lines-encoded count [] (i ∷ program) is = absurd is
+lines-encoded count (l ∷ ls) [] is = absurd is
 
 -- ---- programs
 
-program-spelled : (bytes : Bytes) (program : Program) → SpellsProgram bytes program → is_program program ≡ true
-program-spelled bytes program is =
-    let parts = lines-spelled (length is.0) is.0 program is.3 in
+program-encoded : (bytes : Bytes) (program : Program) → EncodesProgram bytes program → is_program program ≡ true
+program-encoded bytes program is =
+    let parts = lines-encoded (length is.0) is.0 program is.3 in
     and_from (nat_le (length program) 256) (list_all (is_instruction (length program)) program)
     (le-leb (length program) 256 (Rattle.std.proofs.Common.subst (λ n. n ≤ 256) parts.0 is.2))
     (Rattle.std.proofs.Common.subst (λ n. list_all (is_instruction n) program ≡ true) parts.0 parts.1)
 
-pub program_of-spells : SpellsPrograms program_of
-program_of-spells = record { spells = λ bytes program is. program-spelled bytes program (SpellsProgram-program_of bytes program is) }
+pub program_of-encodes : EncodesPrograms program_of
+program_of-encodes = record { encodes = λ bytes program is. program-encoded bytes program (EncodesProgram-program_of bytes program is) }

@@ -1,4 +1,4 @@
--- A run after which files are sealed and frozen, by computing.
+-- A run after which files are sealed and frozen, by computation.
 use Rattle.std.proofs.Common.{[], ◌∷◌, refl, inl}
 use Rattle.pv_model.specs.Grammar.Arguments.{text_at, flags_of}
 use Rattle.pv_model.specs.Grammar.Instructions.{instruction_by}

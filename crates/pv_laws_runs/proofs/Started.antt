@@ -1,4 +1,4 @@
--- What a run starts from is a state that the laws of runs speak of.
+-- A run starts in a state that satisfies the premises of the laws of runs.
 use Rattle.std.proofs.Common.{◌≡◌, true, inl, inr, [], List, Some, Result, Ok, Err, refl, ap, sym, ◌∙◌}
 use Rattle.std.specs.Result.{result_ok}
 use Rattle.pv_model.specs.declared.run_fault.RunFault.{RunFault}
@@ -14,12 +14,12 @@ use Rattle.pv_model.specs.State.{State}
 use Rattle.pv_model.specs.Step.{Schedule, boot}
 use Rattle.pv_model.specs.Tree.{Tree}
 use Rattle.pv_laws_states.specs.States.{are_bytes}
-use Rattle.pv_laws_images.proofs.Starts.{starts}
-use Rattle.pv_laws_images.proofs.Images.{mounted-image}
+use Rattle.pv_laws_trees.proofs.Starts.{starts}
+use Rattle.pv_laws_trees.proofs.Images.{mounted-image}
 use Rattle.pv_laws_runs.specs.Runs.{IsReachedFrom}
 use Rattle.pv_laws_runs.specs.Starts.{GivesTree}
 
--- what stands after a step that is not refused
+-- the result after a step that succeeds
 module _ {A B E F : Type 0} (fault_of : E → F) (next : A → Result B F) (b : B) where
   pub not_refused : (r : Result A E) → and_then fault_of r next ≡ Ok b → (a : A) × (r ≡ Ok a) × (next a ≡ Ok b)
   not_refused (Ok a) is = (a, refl, is)
@@ -37,7 +37,7 @@ started-boots t lines started is =
     let same : at.0 ≡ started.state = ap (state_or at.0) at.2 in
     sym (starts t) ∙ ap result_ok at.1 ∙ ap (λ (s : State). Some s) same
 
--- the first state, after no step
+-- the first state is reached by no step
 at_start : (bytes : Bytes) (t : Tree) (s : State) → GivesTree bytes t → boot program_of t ≡ Some s → IsReachedFrom bytes s
 at_start bytes t s given boots = record { tree = t; given = given; first = s; boots = boots; pids = []; reaches = refl }
 

@@ -1,31 +1,31 @@
--- What a run is asked, by the relations of the formats.
+-- The checks of a run, in terms of the relations of the formats.
 use Rattle.std.specs.Prelude.{◌≡◌, ◌↔◌, true, Some, Ok}
 use Rattle.pv_model.specs.Bytes.{Bytes}
 use Rattle.pv_model.specs.Grammar.Applied.{AppliesAll}
-use Rattle.pv_model.specs.Grammar.Entries.{SpellsManifest}
+use Rattle.pv_model.specs.Grammar.Entries.{EncodesManifest}
 use Rattle.pv_model.specs.Grammar.Manifests.{Manifest, data_blocks}
 use Rattle.pv_model.specs.Grammar.Programs.{program_of}
-use Rattle.pv_model.specs.Grammar.Texts.{SpellSchedule, SpellsSchedule}
+use Rattle.pv_model.specs.Grammar.Texts.{EncodeSchedule, EncodesSchedule}
 use Rattle.pv_model.specs.Image.{IsImageOf}
 use Rattle.pv_model.specs.Manifest.{empty_tree}
 use Rattle.pv_model.specs.Start.{Started, bundle_started, image_started}
 use Rattle.pv_model.specs.Step.{boot}
 
--- a run on an image: the bytes are an image of a tree on which the machine boots, and the text spells the schedule
+-- the bytes are an image of a tree on which the machine boots, and the text encodes the schedule
 pub record AsksOfImage (image turns : Bytes) (it : Started) : Type 0 where
   pub is_image : IsImageOf image it.state.tree
   pub boots : boot program_of it.state.tree ≡ Some it.state
-  pub spelled : SpellsSchedule turns it.schedule
+  pub encoded : EncodesSchedule turns it.schedule
 
--- a bundle's run: the manifest's entries make a tree on which the machine boots, and the lines after it spell the schedule
+-- the manifest's entries make a tree on which the machine boots, and the lines after the manifest encode the schedule
 pub record AsksOfBundle (bytes : Bytes) (it : Started) : Type 0 where
   pub manifest : Manifest
-  pub is_manifest : SpellsManifest true bytes manifest
+  pub is_manifest : EncodesManifest true bytes manifest
   pub applied : AppliesAll (empty_tree (data_blocks manifest.blocks manifest.inodes) manifest.inodes) manifest.listed.entries it.state.tree
   pub boots : boot program_of it.state.tree ≡ Some it.state
-  pub spelled : SpellSchedule manifest.listed.following it.schedule
+  pub encoded : EncodeSchedule manifest.listed.following it.schedule
 
--- the checks of a run, in their order, find just that
+-- the checks of a run succeed if and only if these conditions hold
 abbrev pub ImagesAreAsked : Type 0
 ImagesAreAsked = (image turns : Bytes) (it : Started) → (image_started image turns ≡ Ok it) ↔ AsksOfImage image turns it
 

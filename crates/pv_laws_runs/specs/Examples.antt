@@ -1,4 +1,5 @@
--- A run after which one file is sealed, and changed by the next steps, and another is frozen: so the laws of secrets speak of something.
+-- A run after which one file is sealed and then changed, and another is frozen. It shows that the laws of secrecy are
+-- not vacuous.
 use Rattle.std.specs.Prelude.{◌≡◌, ℕ, true, false, IsFalse, List, [], ◌∷◌, flat_map, codes, pos, Some, None}
 use Rattle.pv_model.specs.declared.instruction.Instruction.TheVariants.{Open, Read, Write, Unveil, Pledge}
 use Rattle.pv_model.specs.declared.instruction.Operand.TheVariants.{Number}
@@ -14,7 +15,7 @@ use Rattle.pv_model.specs.State.{Program, State, first_state}
 use Rattle.pv_model.specs.Step.{run}
 use Rattle.pv_model.specs.Touch.{file_bytes}
 use Rattle.pv_model.specs.Tree.{Tree, directory_node, file_node}
-use Rattle.pv_laws_secrecy.specs.Sealing.{IsSealedFile, IsFrozenFile}
+use Rattle.pv_laws_access.specs.Sealing.{IsSealedFile, IsFrozenFile}
 use Rattle.pv_laws_runs.specs.Runs.{IsReachedFrom}
 
 abbrev pub lines : List Bytes

@@ -7,12 +7,12 @@ use Rattle.pv_model.specs.State.{Process, State, process_at}
 use Rattle.pv_model.specs.Step.{boot, step, run}
 use Rattle.pv_model.specs.Touch.{file_bytes, IsJustified}
 use Rattle.pv_model.specs.Tree.{Tree}
-use Rattle.pv_laws_states.specs.States.{are_bytes, IsWhole}
+use Rattle.pv_laws_states.specs.States.{are_bytes, IsValid}
 use Rattle.pv_laws_access.specs.Growth.{MayDoNoMore, IsLeftAlone, StaysInImage}
-use Rattle.pv_laws_secrecy.specs.Sealing.{IsSealedFile, IsFrozenFile, IsLeftFrozen, TellsNothing}
+use Rattle.pv_laws_access.specs.Sealing.{IsSealedFile, IsFrozenFile, IsLeftFrozen, WritesNothing}
 use Rattle.pv_laws_runs.specs.Starts.{GivesTree}
 
--- a state that a run reaches, whoever's steps it has, from the first one of the tree that bytes give
+-- a state that a run reaches, with steps of any processes, from the first state of the tree that the bytes give
 pub record IsReachedFrom (bytes : Bytes) (s : State) : Type 0 where
   pub tree : Tree
   pub given : GivesTree bytes tree
@@ -21,33 +21,34 @@ pub record IsReachedFrom (bytes : Bytes) (s : State) : Type 0 where
   pub pids : List ℕ
   pub reaches : (run program_of pids first).final ≡ s
 
--- every such state is whole
-abbrev pub ReachedIsWhole : Type 0
-ReachedIsWhole = (bytes : Bytes) (s : State) → IsReachedFrom bytes s → IsWhole s
+abbrev pub ReachedIsValid : Type 0
+ReachedIsValid = (bytes : Bytes) (s : State) → IsReachedFrom bytes s → IsValid s
 
--- each touch of the next step is justified, whoever makes it
+-- each touch of the next step of any process is justified
 abbrev pub RunsAreJust : Type 0
 RunsAreJust = (bytes : Bytes) (s : State) (pid : ℕ) → IsReachedFrom bytes s → IsJustified program_of s pid
 
--- on from such a state, a process that stays live in one program image loses no restraint, whoever's steps are between its own
+-- from such a state on, a process that stays live in one program image loses no restraint, whatever steps other
+-- processes make
 abbrev pub RunsNeverLoosen : Type 0
 RunsNeverLoosen =
     (bytes : Bytes) (s : State) (pid : ℕ) (pids : List ℕ) (p q : Process) → IsReachedFrom bytes s
     → process_at s pid ≡ Some p → StaysInImage program_of pid pids s → process_at (run program_of pids s).final pid ≡ Some q → MayDoNoMore p q
 
--- and a step of another leaves it live, and all of it as it was but its parent
+-- a step of another process leaves a process live, and changes nothing of it but its parent
 abbrev pub RunsKeepOthers : Type 0
 RunsKeepOthers =
     (bytes : Bytes) (s : State) (pid other : ℕ) (p : Process) → IsReachedFrom bytes s → other ≢ pid → process_at s other ≡ Some p
     → (q : Process) × (process_at (step program_of s pid).after other ≡ Some q) × IsLeftAlone p q
 
--- on from such a state where a file is sealed, it stays so, and other bytes in it, as many, change no line, and at the end nothing but these bytes
-abbrev pub SealedTellsNothing : Type 0
-SealedTellsNothing =
+-- from such a state on, a sealed file stays sealed; other bytes of equal length in it change no line, and only
+-- themselves in the final state
+abbrev pub SealedReportsNothing : Type 0
+SealedReportsNothing =
     (bytes : Bytes) (s : State) (pids : List ℕ) (f : ℕ) (hidden : Bytes) → IsReachedFrom bytes s → IsSealedFile s f → length hidden ≡ length (file_bytes s f)
-    → TellsNothing program_of s pids f hidden
+    → WritesNothing program_of s pids f hidden
 
--- and where it is frozen, it stays so, and its bytes stay as they are
+-- from such a state on, a frozen file stays frozen, with the same bytes
 abbrev pub FrozenIsLeft : Type 0
 FrozenIsLeft =
     (bytes : Bytes) (s : State) (pids : List ℕ) (f : ℕ) → IsReachedFrom bytes s → IsFrozenFile s f → IsLeftFrozen f s (run program_of pids s).final
@@ -56,10 +57,10 @@ FrozenIsLeft =
 abbrev pub AcceptedImagesStart : Type 0
 AcceptedImagesStart = (image : Bytes) (accepted : IsAccepted image) → IsTrue (are_bytes image) → IsReachedFrom image accepted.state
 
--- and so does a run on an image
+-- a run on an image starts in such a state
 abbrev pub ImagesStart : Type 0
 ImagesStart = (image schedule : Bytes) (started : Started) → IsTrue (are_bytes image) → image_started image schedule ≡ Ok started → IsReachedFrom image started.state
 
--- or of a bundle
+-- a run of a bundle starts in such a state
 abbrev pub BundlesStart : Type 0
 BundlesStart = (bytes : Bytes) (started : Started) → IsTrue (are_bytes bytes) → bundle_started bytes ≡ Ok started → IsReachedFrom bytes started.state

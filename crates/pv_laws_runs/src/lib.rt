@@ -1,13 +1,16 @@
-//! The laws of the machine, of every run that an accepted input starts.
+//! Laws of every run that an accepted image or bundle starts.
 //!
-//! Each function has an empty body: its contract is the law, which the check proves.
+//! The laws of other crates have premises, such as a valid state. This crate proves that every accepted input satisfies
+//! them. Each law is a function with an empty body whose contract is the statement.
 //!
-//! - `starts`: what bytes spell, the tree of a manifest or of an image, and the state in which a machine starts meet the premises of the laws
-//!   of states.
-//! - `runs`: what holds along every run from there, whoever's steps it has.
-//! - `examples`: a run with a sealed and a frozen file.
+//! - `starts`: parsed programs, the tree of a manifest or an image, and the state in which a machine starts satisfy the
+//!   premises.
+//! - `runs`: the security laws along every run from there, with the steps of any processes in any order.
+//! - `turns`: the schedules of the answer `turns`, from there.
+//! - `examples`: a run with a sealed file and a frozen file.
 #![tactic(auto)]
 
 pub mod examples;
 pub mod runs;
 pub mod starts;
+pub mod turns;

@@ -1,52 +1,52 @@
 //! Laws of every run that an accepted input starts.
 
-ghost use Rattle.pv_laws_runs.specs.Runs.{ReachedIsWhole, RunsAreJust, RunsNeverLoosen, RunsKeepOthers, SealedTellsNothing, FrozenIsLeft, AcceptedImagesStart, ImagesStart, BundlesStart};
+ghost use Rattle.pv_laws_runs.specs.Runs.{ReachedIsValid, RunsAreJust, RunsNeverLoosen, RunsKeepOthers, SealedReportsNothing, FrozenIsLeft, AcceptedImagesStart, ImagesStart, BundlesStart};
 
-/// An accepted image starts in a state of these laws.
+/// An accepted image starts in a state that satisfies the premises of these laws.
 pub fn accepted_images_start()
     ensures { AcceptedImagesStart }
 {}
 
-/// A run on an image, that is one to start, starts in a state of these laws.
+/// A run on an image whose checks succeed starts in such a state.
 pub fn images_start()
     ensures { ImagesStart }
 {}
 
-/// So does the run of a bundle.
+/// A run of a bundle whose checks succeed starts in such a state.
 pub fn bundles_start()
     ensures { BundlesStart }
 {}
 
-/// Invariant: every state that a run reaches is whole.
+/// Invariant: every state that a run reaches is valid.
 pub fn reached_is_whole()
-    ensures { ReachedIsWhole }
+    ensures { ReachedIsValid }
 {}
 
-/// Complete mediation: each touch of each step is justified by the promises held and by a place that the table allows or a
-/// descriptor of the process.
+/// Complete mediation: each touch of each step is justified by the promises that the process has, and by a place that
+/// its table allows or a descriptor of the process.
 pub fn runs_are_just()
     ensures { RunsAreJust }
 {}
 
-/// Monotonicity of privilege: a process that stays live in one program image loses no restraint, whoever's steps are between its
-/// own: see `pv_laws_access::growth`.
+/// Monotonicity of privilege: while a process stays live in one program image, it loses no restraint, whichever
+/// processes make the steps in between. See `pv_laws_access::growth`.
 pub fn runs_never_loosen()
     ensures { RunsNeverLoosen }
 {}
 
-/// Noninterference, of what steps leave: a step of another process leaves a live process live, and all of it as it was but its
-/// parent.
+/// Noninterference in the state: a step of another process leaves a live process live, and changes nothing of it but
+/// its parent.
 pub fn runs_keep_others()
     ensures { RunsKeepOthers }
 {}
 
-/// Confidentiality: on from every state that a run reaches where a file is sealed, it stays sealed, and other bytes in it, as
-/// many, change no byte of the text, and at the end nothing but these bytes.
-pub fn sealed_tells_nothing()
-    ensures { SealedTellsNothing }
+/// Confidentiality: from every reachable state in which a file is sealed, it stays sealed, and replacing its bytes by
+/// others of equal length changes no byte of the trace, and nothing in the final state but these bytes.
+pub fn sealed_reports_nothing()
+    ensures { SealedReportsNothing }
 {}
 
-/// Integrity: on from every state that a run reaches where a file is frozen, it stays frozen, with the same bytes.
+/// Integrity: from every reachable state in which a file is frozen, it stays frozen, and its bytes stay the same.
 pub fn frozen_is_left()
     ensures { FrozenIsLeft }
 {}

@@ -1,4 +1,4 @@
--- A step's text does not depend on the registers and the buffer of another process.
+-- The lines of a step do not depend on the registers and the buffer of another process.
 use Rattle.std.proofs.Common.{◌≡◌, ℕ, zero, suc, ℤ, pos, Bool, true, false, cond, not, ◌&&◌, ◌||◌, ◌==◌, if◌then◌else◌, nat_le, nat_lt, List, [], ◌∷◌, ◌++◌, map, filter, length, Option, None, Some, is_some, refl, ap, sym, subst, ◌∙◌, ◌+ℤ◌, take, option_map, ap₂, is_none}
 use Rattle.pv_model.specs.Attempt.{Attempt, refused, ◌>>=◌, ◌>>◌, refuse_if, demand}
 use Rattle.pv_model.specs.Bytes.{Bytes, is_empty}
@@ -7,7 +7,7 @@ use Rattle.pv_model.specs.Calls.Paths.{link_text, chdir, stat_at, readlink, same
 use Rattle.pv_model.specs.Calls.Processes.{execve, with_program, executable_bytes}
 use Rattle.pv_model.specs.Calls.Restraints.{asked_promises, unless_refused, add_target, refuse_if_locked, pledge, unveil}
 use Rattle.pv_model.specs.Effect.{Effect, answers, answers_bytes, returns, returns_bytes, ends, waits, walk_from, judge_for, node_of, descriptor_at, open_file, status, bytes_of, with_room, name_of, resize, start_directory}
-use Rattle.pv_model.specs.Held.{trim}
+use Rattle.pv_model.specs.Held.{collect}
 use Rattle.pv_model.specs.Needs.{permissions_of_open}
 use Rattle.pv_model.specs.Numbered.{with_number, least_free}
 use Rattle.pv_model.specs.Perms.{permission_r, permission_x, read_permissions, permission_c}
@@ -57,7 +57,7 @@ use Rattle.pv_laws_states.proofs.Processes.{process_at-same}
 use Rattle.pv_laws_states.proofs.Rests
 use Rattle.pv_model.specs.Walks.{from_here, follow_of}
 
--- the children of a process, in lists that are alike
+-- the children of a process, in similar lists
 alike-children : (pid n : ℕ) (xs ys : List (ℕ × ProcessRecord)) → AreAlikeBut pid xs ys
     → (statuses (filter (λ r. parent_of r.1 == n) xs) ≡ statuses (filter (λ r. parent_of r.1 == n) ys)) × (is_empty (filter (λ r. parent_of r.1 == n) xs) ≡ is_empty (filter (λ r. parent_of r.1 == n) ys))
 alike-children pid n [] [] is = (refl, refl)
@@ -144,11 +144,11 @@ module _ (s : State) (pid : ℕ) (me : Process) (qs : List (ℕ × ProcessRecord
   same-pledge promises execpromises =
       alike-bind pid (asked_promises promises) (Rests.pledge_1 other pid me execpromises) (Rests.pledge_1 s pid me execpromises) (λ asked.
       alike-bind pid (asked_promises execpromises) (Rests.pledge_2 other pid me asked) (Rests.pledge_2 s pid me asked) (λ exec_asked.
-      alike-bind pid (unless_refused (narrow_promises (is_lenient me.promises) me.promises asked)) (Rests.pledge_3 other pid me exec_asked) (Rests.pledge_3 s pid me exec_asked) (λ kept.
+      alike-bind pid (unless_refused (narrow_promises (is_lenient me.promises) me.promises asked)) (Rests.pledge_3 other pid me exec_asked) (Rests.pledge_3 s pid me exec_asked) (λ preserved.
       alike-bind pid (unless_refused (narrow_promises (is_lenient me.promises) me.execpromises exec_asked))
-      (λ exec_kept. answers (with_process other pid (record me { promises = kept; execpromises = exec_kept })) 0)
-      (λ exec_kept. answers (with_process s pid (record me { promises = kept; execpromises = exec_kept })) 0)
-      (λ exec_kept. (refl, refl, put-same (record me { promises = kept; execpromises = exec_kept }))))))
+      (λ exec_preserved. answers (with_process other pid (record me { promises = preserved; execpromises = exec_preserved })) 0)
+      (λ exec_preserved. answers (with_process s pid (record me { promises = preserved; execpromises = exec_preserved })) 0)
+      (λ exec_preserved. (refl, refl, put-same (record me { promises = preserved; execpromises = exec_preserved }))))))
 
   same-unveil : (path permissions : Option Bytes) → Alike pid (unveil other pid me path permissions) (unveil s pid me path permissions)
   same-unveil None None = (refl, refl, put-same (record me { locked = true }))
@@ -381,9 +381,9 @@ module _ (s : State) (pid : ℕ) (me : Process) (qs : List (ℕ × ProcessRecord
   same-effect program_of (TheCall.Rmdir path) = same-rmdir path
   same-effect program_of (TheCall.Rename path new) = same-rename path new
 
--- ---- the lines
+-- ---- the lines of a step
 
-pub record IsToldAlike (pid : ℕ) (a b : Answered) : Type 0 where
+pub record IsReportedAlike (pid : ℕ) (a b : Answered) : Type 0 where
   pub outcome : a.outcome ≡ b.outcome
   pub walks : a.walks ≡ b.walks
   pub buffer : (n len : ℕ) → b.outcome ≡ TheOutcome.Text (record { value = n; len = len }) → process_at a.after pid ≡ process_at b.after pid
@@ -398,21 +398,21 @@ update-same x y pid f same = changed x ∙ ap (Rattle.std.specs.Prelude.option_m
         by None none = none
         by (Some p) there = process_at-same z pid (f p)
 
-told-done : (b c x y s t : State) (pid : ℕ) (me : Process) (w : ℕ) (r : Reply) → process_at x pid ≡ process_at y pid
-    → IsToldAlike pid (answer_by_reply b s pid me w r x) (answer_by_reply c t pid me w r y)
-unfolding trim
-told-done b c x y s t pid me w (returns n) same = record { outcome = refl; walks = refl; buffer = λ m len is. cc }
-told-done b c x y s t pid me w (returns_bytes n bytes) same = record { outcome = refl; walks = refl; buffer = λ m len is. update-same x y pid (λ p. with_front bytes (with_result p (pos n) 0)) same }
-told-done b c x y s t pid me w (ends status) same = record { outcome = refl; walks = refl; buffer = λ m len is. cc }
-told-done b c x y s t pid me w waits same = record { outcome = refl; walks = refl; buffer = λ m len is. cc }
+reported-done : (b c x y s t : State) (pid : ℕ) (me : Process) (w : ℕ) (r : Reply) → process_at x pid ≡ process_at y pid
+    → IsReportedAlike pid (answer_by_reply b s pid me w r x) (answer_by_reply c t pid me w r y)
+unfolding collect
+reported-done b c x y s t pid me w (returns n) same = record { outcome = refl; walks = refl; buffer = λ m len is. cc }
+reported-done b c x y s t pid me w (returns_bytes n bytes) same = record { outcome = refl; walks = refl; buffer = λ m len is. update-same x y pid (λ p. with_front bytes (with_result p (pos n) 0)) same }
+reported-done b c x y s t pid me w (ends status) same = record { outcome = refl; walks = refl; buffer = λ m len is. cc }
+reported-done b c x y s t pid me w waits same = record { outcome = refl; walks = refl; buffer = λ m len is. cc }
 
-told-alike : (b c s t : State) (pid : ℕ) (me : Process) (a d : Attempt Effect) → Alike pid a d → IsToldAlike pid (answer_by_attempt b s pid me a) (answer_by_attempt c t pid me d)
-told-alike b c s t pid me (done w (x, r)) (done v (y, q)) is =
-    subst (λ k. IsToldAlike pid (answer_by_reply b s pid me w r x) (answer_by_reply c t pid me k q y)) is.0
-    (subst (λ k. IsToldAlike pid (answer_by_reply b s pid me w r x) (answer_by_reply c t pid me w k y)) is.1 (told-done b c x y s t pid me w r is.2))
-told-alike b c s t pid me (done w (x, r)) (refused v f d) is = absurd is
-told-alike b c s t pid me (refused w e d) (done v (y, q)) is = absurd is
-told-alike b c s t pid me (refused w e d) (refused v f g) is = record { outcome = ap₂ (λ x y. TheOutcome.Failed x y) is.1 is.2; walks = is.0; buffer = λ m len said. cc }
+reported-alike : (b c s t : State) (pid : ℕ) (me : Process) (a d : Attempt Effect) → Alike pid a d → IsReportedAlike pid (answer_by_attempt b s pid me a) (answer_by_attempt c t pid me d)
+reported-alike b c s t pid me (done w (x, r)) (done v (y, q)) is =
+    subst (λ k. IsReportedAlike pid (answer_by_reply b s pid me w r x) (answer_by_reply c t pid me k q y)) is.0
+    (subst (λ k. IsReportedAlike pid (answer_by_reply b s pid me w r x) (answer_by_reply c t pid me w k y)) is.1 (reported-done b c x y s t pid me w r is.2))
+reported-alike b c s t pid me (done w (x, r)) (refused v f d) is = absurd is
+reported-alike b c s t pid me (refused w e d) (done v (y, q)) is = absurd is
+reported-alike b c s t pid me (refused w e d) (refused v f g) is = record { outcome = ap₂ (λ x y. TheOutcome.Failed x y) is.1 is.2; walks = is.0; buffer = λ m len said. cc }
 
 moved-alike : (x y : State) (pid : ℕ) (p : Process) (call : Call) (o : Outcome) → ((n len : ℕ) → o ≡ TheOutcome.Text (record { value = n; len = len }) → process_at x pid ≡ process_at y pid)
     → moved_words x pid p call o ≡ moved_words y pid p call o
@@ -420,7 +420,7 @@ moved-alike x y pid p call (TheOutcome.Text taken) same = ap (λ (q : Option Pro
 moved-alike x y pid p (TheCall.Write d n) (TheOutcome.Value count) same = refl
 moved-alike x y pid p call o same = refl
 
--- the lines of a call, from what a trace says of bytes
+-- the lines of a call, given those that report bytes
 abbrev lines_with : ℕ → Process → Call → ℕ → Outcome → List Word → List Line
 lines_with pid p call walks o moved =
     line pid (call_word call)
@@ -430,7 +430,7 @@ lines_with pid p call walks o moved =
     ++ map (line pid) moved
     ++ map (line pid) (end_words call o)
 
-pub lines-alike : (pid : ℕ) (p : Process) (call : Call) (a b : Answered) → IsToldAlike pid a b → call_lines pid p call a ≡ call_lines pid p call b
+pub lines-alike : (pid : ℕ) (p : Process) (call : Call) (a b : Answered) → IsReportedAlike pid a b → call_lines pid p call a ≡ call_lines pid p call b
 unfolding call_lines
 lines-alike pid p call a b is =
     ap₂ (λ o w. call_lines pid p call (record { after = a.after; outcome = o; walks = w })) is.outcome is.walks
@@ -440,29 +440,29 @@ module _ (program_of : Bytes → Option Program) (s : State) (pid : ℕ) (others
   abbrev changed : State
   changed = record s { processes = others }
 
-  told-where : (p : Process) (call : Call) (o : Option Promise)
-      → IsToldAlike pid (answer_where program_of changed (at_call changed pid p) pid (at_next_line p) call o) (answer_where program_of s (at_call s pid p) pid (at_next_line p) call o)
-  told-where p call None =
-      told-alike changed s (at_call changed pid p) (at_call s pid p) pid (at_next_line p) (effect program_of (at_call changed pid p) pid (at_next_line p) call) (effect program_of (at_call s pid p) pid (at_next_line p) call)
+  reported-where : (p : Process) (call : Call) (o : Option Promise)
+      → IsReportedAlike pid (answer_where program_of changed (at_call changed pid p) pid (at_next_line p) call o) (answer_where program_of s (at_call s pid p) pid (at_next_line p) call o)
+  reported-where p call None =
+      reported-alike changed s (at_call changed pid p) (at_call s pid p) pid (at_next_line p) (effect program_of (at_call changed pid p) pid (at_next_line p) call) (effect program_of (at_call s pid p) pid (at_next_line p) call)
       (same-effect (at_call s pid p) pid (at_next_line p) (put nat_cmp pid (live (at_next_line p)) others) (alike-put pid (live (at_next_line p)) others s.processes alike) program_of call)
-  told-where p call (Some q) =
-      elim (is_lenient p.promises) as (λ b. IsToldAlike pid
-      (if b then answer_by_attempt changed (at_call changed pid p) pid (at_next_line p) (refused 0 ENOSYS (ByPromise q)) else record { after = trim (end_process changed pid (at_next_line p) 6); outcome = TheOutcome.Killed q; walks = 0 })
-      (if b then answer_by_attempt s (at_call s pid p) pid (at_next_line p) (refused 0 ENOSYS (ByPromise q)) else record { after = trim (end_process s pid (at_next_line p) 6); outcome = TheOutcome.Killed q; walks = 0 })) [
+  reported-where p call (Some q) =
+      elim (is_lenient p.promises) as (λ b. IsReportedAlike pid
+      (if b then answer_by_attempt changed (at_call changed pid p) pid (at_next_line p) (refused 0 ENOSYS (ByPromise q)) else record { after = collect (end_process changed pid (at_next_line p) 6); outcome = TheOutcome.Killed q; walks = 0 })
+      (if b then answer_by_attempt s (at_call s pid p) pid (at_next_line p) (refused 0 ENOSYS (ByPromise q)) else record { after = collect (end_process s pid (at_next_line p) 6); outcome = TheOutcome.Killed q; walks = 0 })) [
         | true ↦ record { outcome = refl; walks = refl; buffer = λ m len said. cc }
         | false ↦ record { outcome = refl; walks = refl; buffer = λ m len said. cc }
       ]
 
-  told-answer : (p : Process) (call : Call) → process_at s pid ≡ Some p → IsToldAlike pid (answer program_of changed pid call) (answer program_of s pid call)
+  reported-answer : (p : Process) (call : Call) → process_at s pid ≡ Some p → IsReportedAlike pid (answer program_of changed pid call) (answer program_of s pid call)
   unfolding answer
-  told-answer p call at =
-      subst (λ o. IsToldAlike pid (answer_of program_of changed pid call o) (answer_of program_of s pid call (process_at s pid))) (sym (ap live_process (alike-find pid others s.processes alike) ∙ at))
-      (subst (λ o. IsToldAlike pid (answer_of program_of changed pid call (Some p)) (answer_of program_of s pid call o)) (sym at)
-      (told-where p call (missing_promise p.promises (needs call))))
+  reported-answer p call at =
+      subst (λ o. IsReportedAlike pid (answer_of program_of changed pid call o) (answer_of program_of s pid call (process_at s pid))) (sym (ap live_process (alike-find pid others s.processes alike) ∙ at))
+      (subst (λ o. IsReportedAlike pid (answer_of program_of changed pid call (Some p)) (answer_of program_of s pid call o)) (sym at)
+      (reported-where p call (missing_promise p.promises (needs call))))
 
   next-alike : (p : Process) → process_at s pid ≡ Some p → (n : Next) → (step_by program_of changed pid p n).lines ≡ (step_by program_of s pid p n).lines
   next-alike p at (inside q) = refl
-  next-alike p at (calls_for call) = lines-alike pid p call (answer program_of changed pid call) (answer program_of s pid call) (told-answer p call at)
+  next-alike p at (calls_for call) = lines-alike pid p call (answer program_of changed pid call) (answer program_of s pid call) (reported-answer p call at)
 
   step-alike : (o : Option Process) → process_at s pid ≡ o → (step_of program_of changed pid o).lines ≡ (step_of program_of s pid o).lines
   step-alike None at = refl

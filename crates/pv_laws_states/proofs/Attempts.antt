@@ -1,4 +1,4 @@
--- What an attempt leads to, where it is done.
+-- Properties of the value of an attempt that succeeds.
 use Rattle.std.proofs.Common.{◌≡◌, ℕ, Bool, true, false, Option, None, Some, Result, Ok, Err, refl}
 use Rattle.pv_model.specs.declared.errno.Errno.{Errno}
 use Rattle.pv_model.specs.declared.errno.Errno.TheVariants.{EFBIG, ENOSPC}
@@ -8,13 +8,13 @@ use Rattle.pv_model.specs.declared.follow.Follow.{Follow}
 use Rattle.pv_model.specs.Attempt.{Attempt, done, refused, after_walks, ◌>>=◌, ◌>>◌, give, refuse_if, demand}
 use Rattle.pv_model.specs.Bytes.{Bytes}
 use Rattle.pv_model.specs.Effect.{place_or_refusal, walk_from, judge_for, with_room}
-use Rattle.pv_model.specs.Held.{trim}
+use Rattle.pv_model.specs.Held.{collect}
 use Rattle.pv_model.specs.Room.{is_too_long, fits}
 use Rattle.pv_model.specs.State.{Process, State}
 use Rattle.pv_model.specs.Walk.{resolve}
 use Rattle.std.specs.Prelude.{not}
 
--- what holds of the value, if there is one
+-- the value, if there is one, has a property
 abbrev pub Leads : {A : Type 0} → (A → Type 0) → Attempt A → Type 0
 Leads P (done walks value) = P value
 Leads P (refused walks errno cause) = Unit {0}
@@ -32,12 +32,12 @@ module _ {A : Type 0} (P : A → Type 0) where
   leads-then (done walks value) next is = leads-after_walks walks next is
   leads-then (refused walks errno cause) next is = tt
 
-  -- after an attempt, what it leads to is known
+  -- an attempt followed by another
   pub leads-following : {B : Type 0} (Q : Type 0) (a : Attempt B) (next : Attempt A) → Leads (λ _. Q) a → (Q → Leads P next) → Leads P (a >> next)
   leads-following Q (done walks value) next is then' = leads-after_walks walks next (then' is)
   leads-following Q (refused walks errno cause) next is then' = tt
 
-  -- after a test that refuses, its answer is known
+  -- an attempt after a check
   pub leads-refuse_if : (e : Errno) (b : Bool) (next : Attempt A) → (b ≡ false → Leads P next) → Leads P (refuse_if e b >> next)
   leads-refuse_if e true next is = tt
   leads-refuse_if e false next is = leads-after_walks 0 next (is refl)
@@ -55,8 +55,8 @@ module _ {A : Type 0} (P : A → Type 0) where
   leads-walk s start follow path next is = place_leads _ (resolve s.tree follow start path) next is
 
   pub leads-room : (s : State) (next : State → Attempt A)
-      → (is_too_long (trim s).tree ≡ false → fits (trim s).tree ≡ true → Leads P (next s)) → Leads P (with_room s >>= next)
-  leads-room s next is = by (is_too_long (trim s).tree) (fits (trim s).tree) is
+      → (is_too_long (collect s).tree ≡ false → fits (collect s).tree ≡ true → Leads P (next s)) → Leads P (with_room s >>= next)
+  leads-room s next is = by (is_too_long (collect s).tree) (fits (collect s).tree) is
     where
       by : (long fit : Bool) → (long ≡ false → fit ≡ true → Leads P (next s))
           → Leads P ((refuse_if EFBIG long >> (refuse_if ENOSPC (not fit) >> give s)) >>= next)
@@ -64,7 +64,7 @@ module _ {A : Type 0} (P : A → Type 0) where
       by false true is = leads-after_walks 0 (next s) (is refl refl)
       by false false is = tt
 
--- nothing is known of the value
+-- the trivial property
 pub leads-any : {A : Type 0} (a : Attempt A) → Leads (λ _. Unit {0}) a
 leads-any (done walks value) = tt
 leads-any (refused walks errno cause) = tt

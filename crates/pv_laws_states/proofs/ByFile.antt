@@ -1,4 +1,4 @@
--- The calls that change an open file alone keep states whole.
+-- The calls that change only an open file preserve validity.
 use Rattle.std.proofs.Common.{◌≡◌, ℕ, ◌+◌, ◌-◌, ◌≤◌, min, ℤ, pos, ◌+ℤ◌, Bool, true, false, cond, not, ◌&&◌, nat_le, List, [], ◌∷◌, map, length, take, drop, Option, None, Some, is_some, option_map, refl, ap, sym, subst, ◌∙◌, ⊎_elim, arith}
 use Rattle.std.specs.Prelude.{find}
 use Rattle.std.specs.List.{list_all}
@@ -17,7 +17,7 @@ use Rattle.pv_model.specs.Numbered.{at_number, with_number}
 use Rattle.pv_model.specs.Room.{greatest_length}
 use Rattle.pv_model.specs.State.{OpenFile, Descriptor, Process, State, reads}
 use Rattle.pv_model.specs.Tree.{Entries, Node, directory_node, file_node, link_node, Tree, greatest_name, node_at, entries_of, entries_at, is_directory_at, is_name, is_name_byte}
-use Rattle.pv_laws_states.specs.States.{is_byte, are_bytes, IsOpenFile, is_listed, AreFiles, IsWhole}
+use Rattle.pv_laws_states.specs.States.{is_byte, are_bytes, IsOpenFile, is_listed, AreFiles, IsValid}
 use Rattle.pv_laws_states.proofs.Attempts.{Leads, leads-refuse_if, leads-demand}
 use Rattle.pv_laws_states.proofs.ByProcess.{within-limit}
 use Rattle.pv_laws_trees.proofs.Changes.{entries-good}
@@ -25,13 +25,13 @@ use Rattle.pv_laws_trees.proofs.Numbered.{at_number-below, length-with_number, w
 use Rattle.pv_laws_states.proofs.Replies.{IsEffect}
 use Rattle.pv_laws_trees.proofs.Rooms.{length-within}
 use Rattle.pv_laws_states.proofs.Running.{IsReady, list_all-take, list_all-drop}
-use Rattle.pv_laws_states.proofs.Standing.{ready, carries-self, solid-standing}
+use Rattle.pv_laws_states.proofs.Present.{ready, carries-self, solid-present}
 use Rattle.pv_laws_states.proofs.Whole.{has_room, solid}
 
 abbrev numbered_file : ℕ → OpenFile → Option (ℕ × OpenFile)
 numbered_file k f = Some (k, f)
 
--- an open file of a descriptor is there
+-- the open file of a descriptor exists
 pub open_file-at : (s : State) (me : Process) (d : ℤ) (k : ℕ) (f : OpenFile) → open_file s me d ≡ Some (k, f) → at_number s.files k ≡ Some f
 open_file-at s me d k f is = by (descriptor_at me d) is
   where
@@ -45,7 +45,7 @@ open_file-at s me d k f is = by (descriptor_at me d) is
     by None is = cc
     by (Some x) is = of x.file (at_number s.files x.file) refl is
 
--- and its mode passes
+-- the mode of the open file passes
 pub open_file_for-at : (s : State) (pid : ℕ) (me : Process) (test : Mode → Bool) (d : ℤ) (k : ℕ) (f : OpenFile) → open_file_for s pid me test d ≡ Some (k, f)
     → (at_number s.files k ≡ Some f) × (test f.mode ≡ true)
 open_file_for-at s pid me test d k f is = by (open_file s me d) refl is
@@ -64,8 +64,8 @@ pub greatest-low : (v : Version) → greatest_length v ≤ 660480
 greatest-low V1 = omega arith
 greatest-low V2 = omega arith
 
--- a file's bytes: not too many, and bytes
-pub file-bytes : (s : State) → IsWhole s → (n : ℕ) → (length (bytes_of (node_at s.tree n)) ≤ 660480) × (are_bytes (bytes_of (node_at s.tree n)) ≡ true)
+-- a file has a bounded number of bytes
+pub file-bytes : (s : State) → IsValid s → (n : ℕ) → (length (bytes_of (node_at s.tree n)) ≤ 660480) × (are_bytes (bytes_of (node_at s.tree n)) ≡ true)
 file-bytes s whole n = by (node_at s.tree n) refl
   where
     by : (o : Option Node) → node_at s.tree n ≡ o → (length (bytes_of o) ≤ 660480) × (are_bytes (bytes_of o) ≡ true)
@@ -75,7 +75,7 @@ file-bytes s whole n = by (node_at s.tree n) refl
     by (Some (file_node executable bytes)) is =
         (omega (arith, length-within s.tree n (file_node executable bytes) is whole.not_too_long, greatest-low s.tree.version), whole.tree.bytes n (file_node executable bytes) is)
 
--- a name of a directory, and that it is short
+-- a name found in a directory is short
 pub find-list_all : {X : Type 0} (p q : X → Bool) (xs : List X) (x : X) → list_all q xs ≡ true → find p xs ≡ Some x → q x ≡ true
 find-list_all p q [] x all is = cc
 find-list_all p q (y ∷ ys) x all is =
@@ -91,7 +91,7 @@ both_all p q (x ∷ xs) a b =
     let c = and_parts (p x) (list_all p xs) a in
     let d = and_parts (q x) (list_all q xs) b in and_from (p x && q x) _ (and_from (p x) (q x) c.0 d.0) (both_all p q xs c.1 d.1)
 
-entries-bytes : (s : State) → IsWhole s → (d : ℕ) → list_all (λ (e : Bytes × ℕ). are_bytes e.0) (entries_at s.tree d) ≡ true
+entries-bytes : (s : State) → IsValid s → (d : ℕ) → list_all (λ (e : Bytes × ℕ). are_bytes e.0) (entries_at s.tree d) ≡ true
 entries-bytes s whole d = by (node_at s.tree d) refl
   where
     by : (o : Option Node) → node_at s.tree d ≡ o → list_all (λ (e : Bytes × ℕ). are_bytes e.0) (entries_of o) ≡ true
@@ -104,7 +104,7 @@ names-of : (test : Bytes → Bool) (es : Entries) → list_all (λ e. test e.0) 
 names-of test [] all = refl
 names-of test (e ∷ es) all = let parts = and_parts (test e.0) (list_all (λ e. test e.0) es) all in and_from (test e.0) _ parts.0 (names-of test es parts.1)
 
-pub next-listed : (s : State) → IsWhole s → (d : ℕ) (last : Option Bytes) (name : Bytes) → next_name last (entries_at s.tree d) ≡ Some name → is_listed s.tree.version (Some name) ≡ true
+pub next-listed : (s : State) → IsValid s → (d : ℕ) (last : Option Bytes) (name : Bytes) → next_name last (entries_at s.tree d) ≡ Some name → is_listed s.tree.version (Some name) ≡ true
 next-listed s whole d last name is =
     find-list_all (is_past last) (λ name. is_name s.tree.version name && are_bytes name) (map (λ e. e.0) (entries_at s.tree d)) name
     (names-of (λ name. is_name s.tree.version name && are_bytes name) (entries_at s.tree d)
@@ -123,8 +123,8 @@ name-short v name is =
     let d = (and_parts (not (Rattle.pv_model.specs.Bytes.is_empty name)) (nat_le (length name) (greatest_name v)) c).1 in
     omega (arith, leb-true (length name) (greatest_name v) d, name-low v)
 
-module _ (s : State) (pid : ℕ) (me : Process) (whole : IsWhole s) where
-  -- another open file in a place
+module _ (s : State) (pid : ℕ) (me : Process) (whole : IsValid s) where
+  -- an open file is replaced
   pub files-with : (u : Tree) (files : AreFiles u s.files) (k : ℕ) (old new : OpenFile) → at_number s.files k ≡ Some old → IsOpenFile u new → AreFiles u (with_number s.files k new)
   files-with u files k old new there is =
       let below = at_number-below s.files k old there in
@@ -143,11 +143,11 @@ module _ (s : State) (pid : ℕ) (me : Process) (whole : IsWhole s) where
 
   pub ready-file : (k : ℕ) (old new : OpenFile) → at_number s.files k ≡ Some old → IsOpenFile s.tree new → IsReady (with_file s k new)
   ready-file k old new there is = record {
-    solid = solid-standing s s.tree (with_number s.files k new) (solid s whole) whole.tree (carries-self s.tree) (files-with s.tree whole.files k old new there is) (files-stay k old new there);
+    solid = solid-present s s.tree (with_number s.files k new) (solid s whole) whole.tree (carries-self s.tree) (files-with s.tree whole.files k old new there is) (files-stay k old new there);
     room = has_room (with_file s k new) whole.fits whole.not_too_long;
   }
 
-  -- the same open file at another place of it
+  -- an open file with another offset
   moved : (f : OpenFile) (offset : ℕ) → offset ≤ 2147483647 → IsOpenFile s.tree f → IsOpenFile s.tree (record f { offset = offset })
   moved f offset low is = record { node = is.node; directory = is.directory; offset = low; listed = is.listed }
 
@@ -169,7 +169,7 @@ module _ (s : State) (pid : ℕ) (me : Process) (whole : IsWhole s) where
       let few = within-limit 2147483647 (pos (seek_base s pid me file whence) +ℤ by) offset low in
       (ready-file k file (record file { offset = offset }) there (moved file offset few (whole.files.each k file there)), few))))
 
-  -- what is read
+  -- the bytes that a read returns
 
   abbrev read_bytes : ℕ → OpenFile → Bytes
   read_bytes count file = take count (drop file.offset (bytes_of (node_at s.tree file.node)))
@@ -201,7 +201,7 @@ module _ (s : State) (pid : ℕ) (me : Process) (whole : IsWhole s) where
         list_all-take is_byte count (drop file.offset all) (list_all-drop is_byte file.offset all both.1),
       ))))
 
-  -- what is listed
+  -- the name that a getdents returns
 
   good-list_name : (k : ℕ) (file : OpenFile) → at_number s.files k ≡ Some file → (o : Option Bytes) → next_name file.listed (entries_at s.tree file.node) ≡ o → Leads (IsEffect s) (list_name s pid me k file o)
   good-list_name k file there None is = (ready s whole, omega arith, omega arith, refl)

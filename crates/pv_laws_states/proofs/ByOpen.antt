@@ -1,4 +1,4 @@
--- open and openat keep states whole.
+-- open and openat preserve validity.
 use Rattle.std.proofs.Common.{◌≡◌, ◌≢◌, ℕ, ◌<◌, Bool, true, false, not, ◌&&◌, ◌||◌, if◌then◌else◌, nat_le, [], length, Option, None, Some, is_some, is_none, option_and_then, refl, ap, sym, subst, ◌∙◌, ⊎_elim, arith}
 use Rattle.std.proofs.lemmas.Bool.{leb-false, cases_eq}
 use Rattle.pv_model.specs.declared.call.Start.{Start}
@@ -19,7 +19,7 @@ use Rattle.pv_model.specs.State.{OpenFile, Descriptor, Process, State, writes, p
 use Rattle.pv_model.specs.Tree.{Node, directory_node, file_node, link_node, Tree, node_at, is_directory, is_directory_at, new_number, with_node, with_new_node}
 use Rattle.pv_model.specs.Walks.{follow_of}
 use Rattle.pv_laws_states.specs.Held.{used}
-use Rattle.pv_laws_states.specs.States.{is_text, IsTree, IsOpenFile, AreFiles, IsSolid, IsWhole}
+use Rattle.pv_laws_states.specs.States.{is_text, IsTree, IsOpenFile, AreFiles, IsSolid, IsValid}
 use Rattle.pv_laws_states.proofs.Attempts.{Leads, leads-after_walks, leads-following, leads-refuse_if, leads-then, leads-place, leads-room}
 use Rattle.pv_laws_states.proofs.ByProcess.{with-opens}
 use Rattle.pv_laws_states.proofs.ByTree.{FineName, named-place, place-there, tree-new}
@@ -30,12 +30,12 @@ use Rattle.pv_laws_states.proofs.Members.{among-used, used-among, among-held_by,
 use Rattle.pv_laws_trees.proofs.Numbered.{length-with_number, with_number-same, with_number-other, least_free-free}
 use Rattle.pv_laws_states.proofs.Processes.{process_at-same, process_at-other}
 use Rattle.pv_laws_states.proofs.Replies.{IsEffect}
-use Rattle.pv_laws_states.proofs.Standing.{IsFinePlace, resolve-fine, Carries, carries-self, file-carried, placed-carried, solid-standing, my-running, my-placed, running-like}
+use Rattle.pv_laws_states.proofs.Present.{IsFinePlace, resolve-fine, Carries, carries-self, file-carried, placed-carried, solid-present, my-running, my-placed, running-like}
 use Rattle.pv_laws_states.proofs.Starts.{StartsWell, leads-start}
-use Rattle.pv_laws_states.proofs.Trim.{held_after, tree-trim}
+use Rattle.pv_laws_states.proofs.Collect.{held_after, tree-collect}
 use Rattle.pv_laws_states.proofs.Whole.{solid, solid-with_process}
 
--- what may be opened
+-- the kinds of nodes that can be opened
 kinds : (o : Option Node) → is_some o ≡ true → is_link o ≡ false → (is_file o || is_directory o) ≡ true
 kinds None some plain = cc
 kinds (Some (directory_node es)) some plain = refl
@@ -46,7 +46,7 @@ not_both : (a b : Bool) → (a && b) ≡ false → a ≡ true → b ≡ false
 not_both true b none is = none
 not_both false b none is = cc
 
-module _ (s : State) (pid : ℕ) (me : Process) (whole : IsWhole s) (at : process_at s pid ≡ Some me) where
+module _ (s : State) (pid : ℕ) (me : Process) (whole : IsValid s) (at : process_at s pid ≡ Some me) where
   abbrev file_number : ℕ
   file_number = least_free s.files
 
@@ -91,7 +91,7 @@ module _ (s : State) (pid : ℕ) (me : Process) (whole : IsWhole s) (at : proces
                 (λ other. file-carried s.tree t g carries (whole.files.each k g (sym (with_number-other s.files file_number new_file k room_file other) ∙ found))) (cases_eq k file_number);
           } in
           let mine = placed-carried s.tree t s.files new_files me carries still_open (my-placed s pid me whole at) in
-          solid-with_process between pid me opener (solid-standing s t new_files (solid s whole) tree carries files still_open) at
+          solid-with_process between pid me opener (solid-present s t new_files (solid s whole) tree carries files still_open) at
           (running-like me opener refl refl refl refl (my-running s pid me whole at))
           (record {
             directory = mine.directory;
@@ -101,7 +101,7 @@ module _ (s : State) (pid : ℕ) (me : Process) (whole : IsWhole s) (at : proces
           })
           refl
 
-      -- what was used is, and what was held is
+      -- files in use stay in use, and referenced nodes stay referenced
       used-more : (k : ℕ) → among (used s) k ≡ true → among (used opened) k ≡ true
       used-more k is =
           let user = used-among s whole.processes.ascending k is in
@@ -164,7 +164,7 @@ module _ (s : State) (pid : ℕ) (me : Process) (whole : IsWhole s) (at : proces
       leads-after_walks (IsEffect s) 0 (open_7 (opened f m u))
       (leads-room (IsEffect s) (opened f m u) (λ roomy. answers roomy descriptor_number) (λ short fit.
       let below = new-below s whole p.0 p.1 (file_node false []) (held_after (opened f m u)) new_name.directory new_name.found refl (held-more f m u room_file room_descriptor)
-      (ap fits (sym (tree-trim (opened f m u))) ∙ fit) in
+      (ap fits (sym (tree-collect (opened f m u))) ∙ fit) in
       let both = tree-new s pid me whole at p (file_node false []) new_name refl refl refl below in
       let t1 : Tree = with_node s.tree m (file_node false []) in
       let apart : p.0 ≢ m = λ same. let isnt : is_directory_at s.tree p.0 ≡ false = ap (is_directory_at s.tree) same ∙ ap is_directory (new_number-free s.tree) in let dir = new_name.directory in cc in

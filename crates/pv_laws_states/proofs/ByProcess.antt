@@ -1,4 +1,4 @@
--- The calls that change their process alone keep states whole.
+-- The calls that change only their own process preserve validity.
 use Rattle.std.proofs.Common.{◌≡◌, ℕ, zero, suc, ◌<◌, ◌≤◌, ℤ, pos, negsuc, true, false, cond, not, ◌&&◌, if◌then◌else◌, nat_le, [], ◌∷◌, ◌++◌, map, length, Option, None, Some, is_some, refl, ap, sym, ◌∙◌, ⊎_elim, arith}
 use Rattle.std.specs.List.{list_all}
 use Rattle.std.proofs.Math.ListN.{length-append, length-set, length-replicate}
@@ -24,7 +24,7 @@ use Rattle.pv_model.specs.State.{OpenFile, Descriptor, Program, Process, State, 
 use Rattle.pv_model.specs.Tree.{Node, directory_node, file_node, link_node, node_at, is_directory_at}
 use Rattle.pv_model.specs.declared.target.Target.{Target}
 use Rattle.pv_model.specs.Unveil.{Table, entry_for, permissions_at, with_permissions, target_of}
-use Rattle.pv_laws_states.specs.States.{is_byte, are_bytes, is_text, is_text_or_none, is_target, is_table, SpellsPrograms, IsRunning, IsPlaced, IsWhole}
+use Rattle.pv_laws_states.specs.States.{is_byte, are_bytes, is_text, is_text_or_none, is_target, is_table, EncodesPrograms, IsRunning, IsPlaced, IsValid}
 use Rattle.pv_laws_states.proofs.Attempts.{Leads, leads-bind, leads-then, leads-refuse_if, leads-demand, leads-walk, leads-place, leads-any}
 use Rattle.pv_laws_states.proofs.Members.{find_number-list_all, live-found}
 use Rattle.pv_laws_trees.proofs.Numbered.{length-with_number, length-without_number, with_number-same, with_number-other, without_number-same, without_number-other}
@@ -32,7 +32,7 @@ use Rattle.pv_laws_trees.proofs.Places.{link-text}
 use Rattle.pv_laws_trees.proofs.Trees.{sound}
 use Rattle.pv_laws_states.proofs.Replies.{IsEffect}
 use Rattle.pv_laws_states.proofs.Running.{IsReady, list_all-set, list_all-both, list_all-replicate, length-little_endian, bytes-little_endian}
-use Rattle.pv_laws_states.proofs.Standing.{ready, ready-process, my-running, my-placed, running-like, resolve-fine, target-fine}
+use Rattle.pv_laws_states.proofs.Present.{ready, ready-process, my-running, my-placed, running-like, resolve-fine, target-fine}
 use Rattle.pv_model.specs.Walks.{from_here}
 
 -- a number within a limit
@@ -45,14 +45,14 @@ within-limit limit (pos n) k is =
 within-limit limit (negsuc n) k is = cc
 
 -- the descriptors that an execve keeps
-pub kept_descriptor : (ds : Numbered Descriptor) (d : ℕ) (x : Descriptor) → at_number (map descriptor_after_exec ds) d ≡ Some x → at_number ds d ≡ Some x
-kept_descriptor [] d x is = cc
-kept_descriptor (None ∷ ds) zero x is = cc
-kept_descriptor (Some y ∷ ds) zero x is = elim (y.close_on_exec) as (λ b. cond b None (Some y) ≡ Some x → Some y ≡ Some x) [ true ↦ λ none. cc | false ↦ λ some. some ] is
-kept_descriptor (o ∷ ds) (suc d) x is = kept_descriptor ds d x is
+pub preserved_descriptor : (ds : Numbered Descriptor) (d : ℕ) (x : Descriptor) → at_number (map descriptor_after_exec ds) d ≡ Some x → at_number ds d ≡ Some x
+preserved_descriptor [] d x is = cc
+preserved_descriptor (None ∷ ds) zero x is = cc
+preserved_descriptor (Some y ∷ ds) zero x is = elim (y.close_on_exec) as (λ b. cond b None (Some y) ≡ Some x → Some y ≡ Some x) [ true ↦ λ none. cc | false ↦ λ some. some ] is
+preserved_descriptor (o ∷ ds) (suc d) x is = preserved_descriptor ds d x is
 
-module _ (s : State) (pid : ℕ) (me : Process) (whole : IsWhole s) (at : process_at s pid ≡ Some me) where
-  -- the caller changes its restraints or its place, and nothing inside
+module _ (s : State) (pid : ℕ) (me : Process) (whole : IsValid s) (at : process_at s pid ≡ Some me) where
+  -- the caller's restraints or directory change, but not its inside
   abbrev stays_running : (q : Process) → q.program ≡ me.program → q.line ≡ me.line → q.registers ≡ me.registers → q.buffer ≡ me.buffer → IsRunning q
   stays_running q program line registers buffer = running-like me q program line registers buffer (my-running s pid me whole at)
 
@@ -84,9 +84,9 @@ module _ (s : State) (pid : ℕ) (me : Process) (whole : IsWhole s) (at : proces
 
   module _ (promises execpromises : Option Bytes) where
     abbrev pledge_3 : Option Promises → Option Promises → Attempt Effect
-    pledge_3 exec_asked kept =
+    pledge_3 exec_asked preserved =
         unless_refused (narrow_promises (is_lenient me.promises) me.execpromises exec_asked)
-        >>= (λ exec_kept. answers (with_process s pid (record me { promises = kept; execpromises = exec_kept })) 0)
+        >>= (λ exec_preserved. answers (with_process s pid (record me { promises = preserved; execpromises = exec_preserved })) 0)
 
     abbrev pledge_2 : Option Promises → Option Promises → Attempt Effect
     pledge_2 asked exec_asked = unless_refused (narrow_promises (is_lenient me.promises) me.promises asked) >>= pledge_3 exec_asked
@@ -98,11 +98,11 @@ module _ (s : State) (pid : ℕ) (me : Process) (whole : IsWhole s) (at : proces
     good-pledge =
         leads-bind (IsEffect s) (λ _. Unit {0}) (asked_promises promises) pledge_1 (leads-any (asked_promises promises)) (λ asked _.
         leads-bind (IsEffect s) (λ _. Unit {0}) (asked_promises execpromises) (pledge_2 asked) (leads-any (asked_promises execpromises)) (λ exec_asked _.
-        leads-bind (IsEffect s) (λ _. Unit {0}) (unless_refused (narrow_promises (is_lenient me.promises) me.promises asked)) (pledge_3 exec_asked) (leads-any (unless_refused (narrow_promises (is_lenient me.promises) me.promises asked))) (λ kept _.
+        leads-bind (IsEffect s) (λ _. Unit {0}) (unless_refused (narrow_promises (is_lenient me.promises) me.promises asked)) (pledge_3 exec_asked) (leads-any (unless_refused (narrow_promises (is_lenient me.promises) me.promises asked))) (λ preserved _.
         leads-bind (IsEffect s) (λ _. Unit {0}) (unless_refused (narrow_promises (is_lenient me.promises) me.execpromises exec_asked))
-        (λ exec_kept. answers (with_process s pid (record me { promises = kept; execpromises = exec_kept })) 0)
-        (leads-any (unless_refused (narrow_promises (is_lenient me.promises) me.execpromises exec_asked))) (λ exec_kept _. (
-          ready-process s pid me whole at (record me { promises = kept; execpromises = exec_kept }) (stays_running (record me { promises = kept; execpromises = exec_kept }) refl refl refl refl)
+        (λ exec_preserved. answers (with_process s pid (record me { promises = preserved; execpromises = exec_preserved })) 0)
+        (leads-any (unless_refused (narrow_promises (is_lenient me.promises) me.execpromises exec_asked))) (λ exec_preserved _. (
+          ready-process s pid me whole at (record me { promises = preserved; execpromises = exec_preserved }) (stays_running (record me { promises = preserved; execpromises = exec_preserved }) refl refl refl refl)
               (let p = my-placed s pid me whole at in record { directory = p.directory; descriptors = p.descriptors; opens = p.opens; table = p.table }) refl,
           omega arith,
         )))))
@@ -175,15 +175,15 @@ module _ (s : State) (pid : ℕ) (me : Process) (whole : IsWhole s) (at : proces
   abbrev execve_1 : (Bytes → Option Program) → Place → Attempt Effect
   execve_1 program_of place = demand ENOENT (node_of place) >>= execve_2 program_of
 
-  pub good-execve : (program_of : Bytes → Option Program) → SpellsPrograms program_of → (path : Bytes) → Leads (IsEffect s) (execve s pid me program_of path)
-  good-execve program_of spells path =
+  pub good-execve : (program_of : Bytes → Option Program) → EncodesPrograms program_of → (path : Bytes) → Leads (IsEffect s) (execve s pid me program_of path)
+  good-execve program_of encodes path =
       leads-place (IsEffect s) s me me.directory Last path permission_x (execve_1 program_of) (λ place found.
       leads-demand (IsEffect s) ENOENT (node_of place) (execve_2 program_of) (λ n is.
       leads-demand (IsEffect s) EACCES (executable_bytes (node_at s.tree n)) (execve_3 program_of) (λ bytes file.
-      leads-demand (IsEffect s) ENOEXEC (program_of bytes) execve_4 (λ program spelled. (
+      leads-demand (IsEffect s) ENOEXEC (program_of bytes) execve_4 (λ program encoded. (
         ready-process s pid me whole at (with_program s pid me program)
             (record {
-              program = spells.spells bytes program spelled;
+              program = encodes.encodes bytes program encoded;
               line = (omega arith, omega arith);
               registers = (refl, refl);
               buffer = (length-replicate {A = ℕ} 4096 0, list_all-replicate is_byte 4096 0 refl);
@@ -192,7 +192,7 @@ module _ (s : State) (pid : ℕ) (me : Process) (whole : IsWhole s) (at : proces
             record {
               directory = p.directory;
               descriptors = length-map {B = Option Descriptor} me.descriptors descriptor_after_exec ∙ p.descriptors;
-              opens = λ d x is. p.opens d x (kept_descriptor me.descriptors d x is);
+              opens = λ d x is. p.opens d x (preserved_descriptor me.descriptors d x is);
               table = elim (is_some me.execpromises) as (λ b. is_table s.tree (if b then me.table else None) ≡ true) [ true ↦ p.table | false ↦ refl ];
             }) refl,
         omega arith,
@@ -233,8 +233,8 @@ module _ (s : State) (pid : ℕ) (me : Process) (whole : IsWhole s) (at : proces
       sort_byte (file_node true bytes) = refl
       sort_byte (link_node text) = refl
 
-  told-status : (n : ℕ) → IsEffect s (s, returns_bytes 0 (status s.tree n))
-  told-status n = let both = status-bytes n (node_at s.tree n) in (ready s whole, omega arith, both.0, both.1)
+  reported-status : (n : ℕ) → IsEffect s (s, returns_bytes 0 (status s.tree n))
+  reported-status n = let both = status-bytes n (node_at s.tree n) in (ready s whole, omega arith, both.0, both.1)
 
   abbrev stat_1 : Place → Attempt Effect
   stat_1 place = demand ENOENT (node_of place) >>= (λ n. answers_bytes s 0 (status s.tree n))
@@ -242,7 +242,7 @@ module _ (s : State) (pid : ℕ) (me : Process) (whole : IsWhole s) (at : proces
   pub good-stat : (follow : Follow) (path : Bytes) → Leads (IsEffect s) (stat_at s pid me (from_here follow path permission_r))
   good-stat follow path =
       leads-place (IsEffect s) s me me.directory follow path permission_r stat_1 (λ place found.
-      leads-demand (IsEffect s) ENOENT (node_of place) (λ n. answers_bytes s 0 (status s.tree n)) (λ n is. told-status n))
+      leads-demand (IsEffect s) ENOENT (node_of place) (λ n. answers_bytes s 0 (status s.tree n)) (λ n is. reported-status n))
 
   abbrev readlink_2 : ℕ → Attempt Effect
   readlink_2 n = demand EINVAL (link_text (node_at s.tree n)) >>= (λ text. answers_bytes s (length text) text)
@@ -278,7 +278,7 @@ module _ (s : State) (pid : ℕ) (me : Process) (whole : IsWhole s) (at : proces
   my-descriptor (negsuc d) x is = cc
 
   pub good-fstat : (d : ℤ) → Leads (IsEffect s) (fstat s pid me d)
-  good-fstat d = leads-demand (IsEffect s) EBADF (open_file s me d) (λ (k, file). answers_bytes s 0 (status s.tree file.node)) (λ f is. told-status f.1.node)
+  good-fstat d = leads-demand (IsEffect s) EBADF (open_file s me d) (λ (k, file). answers_bytes s 0 (status s.tree file.node)) (λ f is. reported-status f.1.node)
 
   abbrev directory_of_1 : (ℕ × OpenFile) → Attempt ℕ
   directory_of_1 file = refuse_if ENOTDIR (not (is_directory_at s.tree file.1.node)) >> give file.1.node
@@ -299,7 +299,7 @@ module _ (s : State) (pid : ℕ) (me : Process) (whole : IsWhole s) (at : proces
       ready-process s pid me whole at (record me { descriptors = ds }) (stays_running (record me { descriptors = ds }) refl refl refl refl)
       (let p = my-placed s pid me whole at in record { directory = p.directory; descriptors = long; opens = opens; table = p.table }) refl
 
-  -- one descriptor more, or another in a place
+  -- one more descriptor, or a descriptor replaced
   pub with-opens : (fs : Numbered OpenFile) → ((k : ℕ) → is_some (at_number s.files k) ≡ true → is_some (at_number fs k) ≡ true) → (n : ℕ) (new : Descriptor) → n < length me.descriptors → is_some (at_number fs new.file) ≡ true
       → (d : ℕ) (x : Descriptor) → at_number (with_number me.descriptors n new) d ≡ Some x → is_some (at_number fs x.file) ≡ true
   with-opens fs still n new below good d x is =

@@ -1,4 +1,4 @@
--- Each call, each step and each run keep states whole, and the first state is.
+-- Each call, step and run preserves validity, and the first state is valid.
 use Rattle.std.proofs.Common.{◌≡◌, ℕ, zero, suc, ◌-◌, ℤ, pos, negsuc, ◌+ℤ◌, Bool, true, false, cond, not, ◌==◌, nat_le, nat_lt, List, [], ◌∷◌, length, replicate, slice_get, slice_index, slice_index_or, Option, None, Some, refl, ap, ap₂, sym, subst, ◌∙◌, arith}
 use Rattle.std.specs.List.{list_all}
 use Rattle.std.specs.Ordering.{nat_cmp}
@@ -17,14 +17,14 @@ use Rattle.pv_model.specs.declared.instruction.Origin.{Origin}
 use Rattle.pv_model.specs.declared.instruction.Origin.TheVariants.{WorkingDirectory as HereOrigin, Descriptor as OfDescriptor}
 use Rattle.pv_model.specs.Answer.{answer, effect, at_next_line, with_front}
 use Rattle.pv_model.specs.Bytes.{Bytes}
-use Rattle.pv_model.specs.Held.{among, trim}
+use Rattle.pv_model.specs.Held.{among, collect}
 use Rattle.pv_model.specs.Numbered.{at_number, keep}
 use Rattle.pv_model.specs.Program.{register, with_register, operand, clamp, start_of_origin, at_line, jump_if, Next, inside, calls_for, perform, next_by, next}
 use Rattle.pv_model.specs.State.{OpenFile, Program, Process, ProcessRecord, live, ended_record, State, first_process, first_state, process_at}
 use Rattle.pv_model.specs.Step.{step, step_of, step_by, run}
 use Rattle.pv_model.specs.Tree.{Tree}
 use Rattle.pv_laws_states.specs.Held.{used}
-use Rattle.pv_laws_states.specs.States.{is_word, is_byte, are_bytes, is_text, is_text_byte, is_text_or_none, is_operand, is_origin, is_target_line, is_instruction, is_program, SpellsPrograms, is_start, is_call, IsRunning, IsPlaced, IsWhole, IsFirstTree}
+use Rattle.pv_laws_states.specs.States.{is_word, is_byte, are_bytes, is_text, is_text_byte, is_text_or_none, is_operand, is_origin, is_target_line, is_instruction, is_program, EncodesPrograms, is_start, is_call, IsRunning, IsPlaced, IsValid, IsFirstTree}
 use Rattle.pv_laws_states.proofs.Attempts.{Leads}
 use Rattle.pv_laws_states.proofs.ByFile.{good-lseek, good-read, good-getdents}
 use Rattle.pv_laws_states.proofs.ByOpen.{good-open, good-open_at}
@@ -36,14 +36,14 @@ use Rattle.pv_laws_trees.proofs.Numbered.{keep-all}
 use Rattle.pv_laws_trees.proofs.Places.{list_all-weaker}
 use Rattle.pv_laws_states.proofs.Replies.{IsEffect, whole-answer}
 use Rattle.pv_laws_states.proofs.Running.{running-front, running-next, list_all-set, list_all-replicate, SameHolds, whole-inside}
-use Rattle.pv_laws_states.proofs.Standing.{text-bytes}
-use Rattle.pv_laws_trees.proofs.Keeping.{kept_all}
-use Rattle.pv_laws_states.proofs.Trim.{held_after}
+use Rattle.pv_laws_states.proofs.Present.{text-bytes}
+use Rattle.pv_laws_trees.proofs.Keeping.{preserved_all}
+use Rattle.pv_laws_states.proofs.Collect.{held_after}
 
 -- ---- calls
 
-module _ (program_of : Bytes → Option Program) (spells : SpellsPrograms program_of) where
-  pub good-effect : (s : State) (pid : ℕ) (me : Process) (call : Call) → IsWhole s → process_at s pid ≡ Some me → is_call call ≡ true → Leads (IsEffect s) (effect program_of s pid me call)
+module _ (program_of : Bytes → Option Program) (encodes : EncodesPrograms program_of) where
+  pub good-effect : (s : State) (pid : ℕ) (me : Process) (call : Call) → IsValid s → process_at s pid ≡ Some me → is_call call ≡ true → Leads (IsEffect s) (effect program_of s pid me call)
   unfolding effect
   good-effect s pid me (Exit code) whole at is = good-exit s pid me whole at code
   good-effect s pid me GetPid whole at is = good-getpid s pid me whole at
@@ -52,7 +52,7 @@ module _ (program_of : Bytes → Option Program) (spells : SpellsPrograms progra
   good-effect s pid me Wait whole at is = good-wait s pid me whole at
   good-effect s pid me (Pledge promises execpromises) whole at is = good-pledge s pid me whole at promises execpromises
   good-effect s pid me (Unveil path permissions) whole at is = good-unveil s pid me whole at path permissions (and_parts (is_text_or_none path) (is_text_or_none permissions) is).0
-  good-effect s pid me (Execve path) whole at is = good-execve s pid me whole at program_of spells path
+  good-effect s pid me (Execve path) whole at is = good-execve s pid me whole at program_of encodes path
   good-effect s pid me (Open path flags) whole at is = good-open s pid me whole at path flags is
   good-effect s pid me (OpenAt start path flags) whole at is = good-open_at s pid me whole at start path flags (and_parts (is_start start) (is_text path) is).1
   good-effect s pid me (Close d) whole at is = good-close s pid me whole at d
@@ -76,13 +76,13 @@ module _ (program_of : Bytes → Option Program) (spells : SpellsPrograms progra
   good-effect s pid me (Rmdir path) whole at is = good-rmdir s pid me whole at path is
   good-effect s pid me (Rename path new) whole at is = let both = and_parts (is_text path) (is_text new) is in good-rename s pid me whole at path new both.0 both.1
 
-pub call-keeps_whole : (program_of : Bytes → Option Program) → SpellsPrograms program_of → (s : State) (pid : ℕ) (call : Call) → is_call call ≡ true → IsWhole s → IsWhole (answer program_of s pid call).after
-call-keeps_whole program_of spells s pid call is whole =
-    whole-answer program_of s pid call whole (λ x me w at. good-effect program_of spells x pid me call w at is)
+pub call-keeps_whole : (program_of : Bytes → Option Program) → EncodesPrograms program_of → (s : State) (pid : ℕ) (call : Call) → is_call call ≡ true → IsValid s → IsValid (answer program_of s pid call).after
+call-keeps_whole program_of encodes s pid call is whole =
+    whole-answer program_of s pid call whole (λ x me w at. good-effect program_of encodes x pid me call w at is)
 
 -- ---- instructions
 
--- what comes next is good
+-- the next step of a valid process is valid
 abbrev pub IsGoodNext : Process → Next → Type 0
 IsGoodNext p (inside q) = IsRunning q × SameHolds p q
 IsGoodNext p (calls_for call) = is_call call ≡ true
@@ -206,21 +206,21 @@ good-next p is = by (slice_get p.program (p.line - 1)) refl
 
 -- ---- steps and runs
 
-pub step-keeps_whole : (program_of : Bytes → Option Program) → SpellsPrograms program_of → (s : State) (pid : ℕ) → IsWhole s → IsWhole (step program_of s pid).after
+pub step-keeps_whole : (program_of : Bytes → Option Program) → EncodesPrograms program_of → (s : State) (pid : ℕ) → IsValid s → IsValid (step program_of s pid).after
 unfolding step
-step-keeps_whole program_of spells s pid whole = at_process (process_at s pid) refl
+step-keeps_whole program_of encodes s pid whole = at_process (process_at s pid) refl
   where
-    by : (p : Process) → process_at s pid ≡ Some p → (n : Next) → IsGoodNext p n → IsWhole (step_by program_of s pid p n).after
+    by : (p : Process) → process_at s pid ≡ Some p → (n : Next) → IsGoodNext p n → IsValid (step_by program_of s pid p n).after
     by p at (inside q) good = whole-inside s pid p q whole at good.1 good.0
-    by p at (calls_for call) good = call-keeps_whole program_of spells s pid call good whole
+    by p at (calls_for call) good = call-keeps_whole program_of encodes s pid call good whole
 
-    at_process : (o : Option Process) → process_at s pid ≡ o → IsWhole (step_of program_of s pid o).after
+    at_process : (o : Option Process) → process_at s pid ≡ o → IsValid (step_of program_of s pid o).after
     at_process None none = whole
     at_process (Some p) at = by p at (next p) (good-next p (whole.processes.running pid p at))
 
-pub run-keeps_whole : (program_of : Bytes → Option Program) → SpellsPrograms program_of → (pids : List ℕ) (s : State) → IsWhole s → IsWhole (run program_of pids s).final
-run-keeps_whole program_of spells [] s whole = whole
-run-keeps_whole program_of spells (pid ∷ pids) s whole = run-keeps_whole program_of spells pids (step program_of s pid).after (step-keeps_whole program_of spells s pid whole)
+pub run-keeps_whole : (program_of : Bytes → Option Program) → EncodesPrograms program_of → (pids : List ℕ) (s : State) → IsValid s → IsValid (run program_of pids s).final
+run-keeps_whole program_of encodes [] s whole = whole
+run-keeps_whole program_of encodes (pid ∷ pids) s whole = run-keeps_whole program_of encodes pids (step program_of s pid).after (step-keeps_whole program_of encodes s pid whole)
 
 -- ---- the first state
 
@@ -235,8 +235,8 @@ first_at t program k r is = find_number_cases ((k ≡ 1) × (r ≡ live (first_p
 first_process_at : (t : Tree) (program : Program) (k : ℕ) (p : Process) → process_at (first_state t program) k ≡ Some p → p ≡ first_process program
 first_process_at t program k p is = let found = first_at t program k (live p) (live-found (first_state t program) k p is) in cc (found.1)
 
-pub first-whole : (t : Tree) (program : Program) → IsFirstTree t → is_program program ≡ true → IsWhole (first_state t program)
-unfolding trim
+pub first-whole : (t : Tree) (program : Program) → IsFirstTree t → is_program program ≡ true → IsValid (first_state t program)
+unfolding collect
 first-whole t program first good =
     let s : State = first_state t program in
     let none : (k : ℕ) → at_number s.files k ≡ None = nothing_at 128 in
@@ -267,7 +267,7 @@ first-whole t program first good =
         parents = λ k r is has. absurd (has (ap Rattle.pv_model.specs.Calls.Processes.parent_of (first_at t program k r is).1));
         ended = λ k parent status is. cc ((first_at t program k (ended_record parent status) is).1);
       };
-      trimmed = ap₂ (λ u fs. record s { tree = u; files = fs }) (kept_all t (held_after s) first.named) files;
+      collected = ap₂ (λ u fs. record s { tree = u; files = fs }) (preserved_all t (held_after s) first.named) files;
       fits = first.fits;
       not_too_long = first.not_too_long;
     }

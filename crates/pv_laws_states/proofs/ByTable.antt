@@ -1,4 +1,4 @@
--- fork and wait keep states whole.
+-- fork and wait preserve validity.
 use Rattle.std.proofs.Common.{◌≡◌, ◌≢◌, ℕ, suc, ◌+◌, ◌<◌, ◌≤◌, pos, Bool, true, false, cond, not, ◌||◌, ◌==◌, nat_le, nat_lt, List, [], ◌∷◌, filter, length, Option, None, Some, is_some, refl, ap, sym, subst, ◌∙◌, arith}
 use Rattle.std.specs.Ordering.{nat_cmp, is_eq}
 use Rattle.std.specs.FinMap.Entries.{find, put, is_sorted, below_all, length-put}
@@ -10,19 +10,19 @@ use Rattle.pv_model.specs.Bytes.{is_empty}
 use Rattle.pv_model.specs.Calls.Processes.{parent_of, statuses, child, fork, children, reap, wait}
 use Rattle.pv_model.specs.Effect.{answers}
 use Rattle.pv_model.specs.State.{Process, ProcessRecord, live, ended_record, State, process_at, with_process}
-use Rattle.pv_laws_states.specs.States.{IsRunning, IsPlaced, is_number, IsWhole}
+use Rattle.pv_laws_states.specs.States.{IsRunning, IsPlaced, is_number, IsValid}
 use Rattle.pv_laws_states.proofs.Attempts.{Leads, leads-then, leads-refuse_if}
 use Rattle.pv_laws_states.proofs.Ending.{sorted-filtered, length-filtered, found-filtered, filtered-found, running-parent}
-use Rattle.pv_laws_trees.proofs.Entries.{tell, list_all-filter}
+use Rattle.pv_laws_trees.proofs.Entries.{report, list_all-filter}
 use Rattle.pv_laws_states.proofs.Members.{find_number_after, find_number-list_all, live-found, found-live}
 use Rattle.pv_laws_trees.proofs.Places.{list_all-weaker}
 use Rattle.pv_laws_states.proofs.Processes.{number-itself}
 use Rattle.pv_laws_states.proofs.Replies.{IsEffect}
 use Rattle.pv_laws_states.proofs.Running.{IsReady, running-result, length-little_endian, bytes-little_endian}
-use Rattle.pv_laws_states.proofs.Standing.{my-running, my-placed}
+use Rattle.pv_laws_states.proofs.Present.{my-running, my-placed}
 use Rattle.pv_laws_states.proofs.Whole.{has_room, list_all-put_number, sorted-put_number, put-cases, with_process-cases, still-live}
 
--- the first child that has ended is one
+-- the first ended child is a child
 pub first-ended : (ps : List (ℕ × ProcessRecord)) (mine : ℕ × ProcessRecord → Bool) → is_sorted nat_cmp ps ≡ true → (k status : ℕ) (rs : List (ℕ × ℕ)) → statuses (filter mine ps) ≡ (k, status) ∷ rs
     → (parent : ℕ) × (find nat_cmp k ps ≡ Some (ended_record parent status))
 first-ended [] mine sorted k status rs is = cc
@@ -47,7 +47,7 @@ first-ended ((n, r) ∷ ps) mine sorted k status rs is =
               ∙ ap (λ o. cond (is_eq o) (Some (ended_record parent code)) (find nat_cmp n ps)) (number-itself n) ∙ ap (λ c. Some (ended_record parent c)) left,
         )
 
-module _ (s : State) (pid : ℕ) (me : Process) (whole : IsWhole s) (at : process_at s pid ≡ Some me) where
+module _ (s : State) (pid : ℕ) (me : Process) (whole : IsValid s) (at : process_at s pid ≡ Some me) where
   abbrev number : ℕ
   number = suc s.last_process
 
@@ -60,7 +60,7 @@ module _ (s : State) (pid : ℕ) (me : Process) (whole : IsWhole s) (at : proces
       → length (put nat_cmp number (live (child s pid me)) s.processes) ≤ suc (length s.processes)) [
         | true ↦ λ long. omega arith
         | false ↦ λ long. omega arith
-      ] (length-put nat_cmp nat_cmp_total number (live (child s pid me)) s.processes (tell _ whole.processes.ascending))
+      ] (length-put nat_cmp nat_cmp_total number (live (child s pid me)) s.processes (report _ whole.processes.ascending))
 
   ready-forked : length s.processes < 32 → number ≤ 99999 → IsReady forked
   ready-forked few low = record {

@@ -1,4 +1,4 @@
--- The calls that change the tree keep states whole.
+-- The calls that change the tree preserve validity.
 use Rattle.std.proofs.Common.{◌≡◌, ◌≢◌, ℕ, zero, suc, ◌+◌, ◌-◌, ◌<◌, ◌≤◌, min, ℤ, true, false, not, ◌&&◌, ◌||◌, if◌then◌else◌, nat_lt, List, [], ◌∷◌, ◌++◌, length, take, drop, replicate, Option, None, Some, is_some, refl, ap, sym, subst, ◌∙◌, arith}
 use Rattle.std.specs.List.{list_all}
 use Rattle.std.proofs.Math.ListN.{length-take}
@@ -13,14 +13,14 @@ use Rattle.pv_model.specs.Bytes.{Bytes, is_empty}
 use Rattle.pv_model.specs.Calls.Descriptors.{within, natural, is_past_greatest, with_content, open_file_for, write_place, write_end, after_write, write, ftruncate}
 use Rattle.pv_model.specs.Calls.Paths.{same_node, contains_directory, is_directory_there, entries_there, ends_in_dot, make, mkdir, symlink, link, unlink, rmdir, move_entry, rename}
 use Rattle.pv_model.specs.Effect.{Effect, answers, judge_for, walk_from, with_room, node_of, name_of, open_file, with_file, bytes_of, overwrite, resize}
-use Rattle.pv_model.specs.Held.{trim}
+use Rattle.pv_model.specs.Held.{collect}
 use Rattle.pv_model.specs.Numbered.{with_number}
 use Rattle.pv_model.specs.Perms.{permission_r, permission_c}
 use Rattle.pv_model.specs.Room.{greatest_length, fits, is_too_long}
 use Rattle.pv_model.specs.State.{OpenFile, Process, State, writes, process_at, with_tree}
 use Rattle.pv_model.specs.Tree.{Node, directory_node, file_node, link_node, Tree, node_at, entries_of, entries_at, is_directory, is_directory_at, is_removed, find_entry, new_number, with_node, with_new_node, with_entry, without_entry, is_name, is_node}
 use Rattle.pv_model.specs.Walk.{resolve}
-use Rattle.pv_laws_states.specs.States.{is_byte, are_bytes, has_bytes, is_text, is_text_byte, IsTree, AreFiles, IsWhole}
+use Rattle.pv_laws_states.specs.States.{is_byte, are_bytes, has_bytes, is_text, is_text_byte, IsTree, AreFiles, IsValid}
 use Rattle.pv_laws_states.proofs.Attempts.{Leads, leads-then, leads-refuse_if, leads-demand, leads-place, leads-room}
 use Rattle.pv_laws_states.proofs.ByFile.{open_file_for-at, file-bytes, files-with, files-stay, greatest-low}
 use Rattle.pv_laws_states.proofs.ByProcess.{within-limit}
@@ -32,8 +32,8 @@ use Rattle.pv_laws_trees.proofs.Rooms.{no_larger-without}
 use Rattle.pv_laws_trees.proofs.Places.{list_all-weaker, not_zero}
 use Rattle.pv_laws_states.proofs.Replies.{IsEffect}
 use Rattle.pv_laws_states.proofs.Running.{IsReady, list_all-take, list_all-drop, list_all-both, list_all-replicate}
-use Rattle.pv_laws_states.proofs.Standing.{IsFinePlace, resolve-fine, text-bytes, ready, my-running, my-placed, Carries, carries-along, file-carried, solid-standing}
-use Rattle.pv_laws_states.proofs.Trim.{held_after, tree-trim}
+use Rattle.pv_laws_states.proofs.Present.{IsFinePlace, resolve-fine, text-bytes, ready, my-running, my-placed, Carries, carries-along, file-carried, solid-present}
+use Rattle.pv_laws_states.proofs.Collect.{held_after, tree-collect}
 use Rattle.pv_laws_states.proofs.Whole.{HasRoom, solid}
 use Rattle.pv_model.specs.Walks.{from_here}
 
@@ -41,7 +41,7 @@ use Rattle.pv_model.specs.Walks.{from_here}
 
 pub record FineName (t : Tree) (p : ℕ × Bytes) (n : Option ℕ) : Type 0 where
   pub directory : is_directory_at t p.0 ≡ true
-  pub stands : is_removed t p.0 ≡ false
+  pub appears : is_removed t p.0 ≡ false
   pub found : find_entry t p.0 p.1 ≡ n
   pub name : is_name t.version p.1 ≡ true
   pub bytes : are_bytes p.1 ≡ true
@@ -50,7 +50,7 @@ pub named-place : (t : Tree) (place : Place) (p : ℕ × Bytes) → IsFinePlace 
 named-place t (Unnamed n) p is named = cc
 named-place t (At d name n) p is named =
     let pair : ◌≡◌ {A = ℕ × Bytes} (d, name) p = cc named in
-    subst (λ q. FineName t q n) pair (record { directory = is.0; stands = is.1; found = is.2; name = is.3; bytes = is.4 })
+    subst (λ q. FineName t q n) pair (record { directory = is.0; appears = is.1; found = is.2; name = is.3; bytes = is.4 })
 
 no_node : (o : Option ℕ) → is_some o ≡ false → o ≡ None
 no_node None is = refl
@@ -60,7 +60,7 @@ some_of : (o : Option Node) → is_directory o ≡ true → is_some o ≡ true
 some_of None is = cc
 some_of (Some node) is = refl
 
--- the node of a place is there
+-- the node of a place exists
 pub place-there : (t : Tree) → IsTree t → (place : Place) (n : ℕ) → IsFinePlace t place → node_of place ≡ Some n → is_some (node_at t n) ≡ true
 place-there t is (Unnamed m) n fine at = let same : m ≡ n = cc at in ap (λ k. is_some (node_at t k)) (sym same) ∙ some_of (node_at t m) fine
 place-there t is (At d name None) n fine at = cc
@@ -76,14 +76,14 @@ empty-is : {X : Type 0} (xs : List X) → not (is_empty xs) ≡ false → xs ≡
 empty-is [] is = refl
 empty-is (x ∷ xs) is = cc
 
-module _ (s : State) (pid : ℕ) (me : Process) (whole : IsWhole s) (at : process_at s pid ≡ Some me) where
+module _ (s : State) (pid : ℕ) (me : Process) (whole : IsValid s) (at : process_at s pid ≡ Some me) where
   abbrev my_start : is_directory_at s.tree me.directory ≡ true
   my_start = (my-placed s pid me whole at).directory
 
   pub fine-place : (follow : Follow) (path : Bytes) (place : Place) → is_text path ≡ true → resolve s.tree follow me.directory path ≡ Rattle.std.specs.Prelude.Ok place → IsFinePlace s.tree place
   fine-place follow path place text found = resolve-fine s.tree whole.tree follow me.directory path place my_start text found
 
-  pub room-of : (u : State) → is_too_long (trim u).tree ≡ false → fits (trim u).tree ≡ true → HasRoom u
+  pub room-of : (u : State) → is_too_long (collect u).tree ≡ false → fits (collect u).tree ≡ true → HasRoom u
   room-of u short fit = record { fits = fit; not_too_long = short }
 
   -- ---- a new node
@@ -96,7 +96,7 @@ module _ (s : State) (pid : ℕ) (me : Process) (whole : IsWhole s) (at : proces
       let apart : p.0 ≢ new_number s.tree = λ same. let isnt : is_directory_at s.tree p.0 ≡ false = ap (is_directory_at s.tree) same ∙ ap is_directory free in let is = fine.directory in cc in
       let dir : is_directory_at t1 p.0 ≡ true = ap is_directory (node_at-other s.tree (new_number s.tree) node p.0 below apart) ∙ fine.directory in (
         record {
-          well_formed = stays-new_node s.tree whole.tree.well_formed p.0 p.1 node (fine.directory, fine.stands) fine.found fine.name good bare (omega (arith, whole.tree.well_formed.numbers));
+          well_formed = stays-new_node s.tree whole.tree.well_formed p.0 p.1 node (fine.directory, fine.appears) fine.found fine.name good bare (omega (arith, whole.tree.well_formed.numbers));
           bytes = bytes-with_entry t1 p.0 p.1 (new_number s.tree) dir fine.bytes (bytes-with_node s.tree (new_number s.tree) node below bytes whole.tree.bytes);
         },
         carries-along s.tree t1 (with_new_node s.tree p.0 p.1 node)
@@ -123,7 +123,7 @@ module _ (s : State) (pid : ℕ) (me : Process) (whole : IsWhole s) (at : proces
       leads-room (IsEffect s) (with_tree s (with_new_node s.tree p.0 p.1 node)) (λ after. answers after 0) (λ short fit.
       let u : Tree = with_new_node s.tree p.0 p.1 node in
       let fine : FineName s.tree p None = subst (FineName s.tree p) (no_node (node_of place) free) (named-place s.tree place p (fine-place follow path place text found) named) in
-      let below = new-below s whole p.0 p.1 node (held_after s) fine.directory fine.found bare (λ n is. is) (ap fits (sym (tree-trim (with_tree s u))) ∙ fit) in
+      let below = new-below s whole p.0 p.1 node (held_after s) fine.directory fine.found bare (λ n is. is) (ap fits (sym (tree-collect (with_tree s u))) ∙ fit) in
       let both = tree-new p node fine good bytes bare below in
       (ready-tree s whole u both.0 both.1 (room-of (with_tree s u) short fit), omega arith)))))
 
@@ -140,7 +140,7 @@ module _ (s : State) (pid : ℕ) (me : Process) (whole : IsWhole s) (at : proces
       (list_all-weaker is_text_byte is_byte (λ b is. (and_parts (not_zero b) (is_byte b) is).1) text (text-bytes text texts))
       refl))
 
-  -- ---- one more name
+  -- ---- another name
 
   abbrev link_6 : ℕ → (ℕ × Bytes) → Attempt Effect
   link_6 n (d, name) = with_room (with_tree s (with_entry s.tree d name n)) >>= (λ after. answers after 0)
@@ -174,14 +174,14 @@ module _ (s : State) (pid : ℕ) (me : Process) (whole : IsWhole s) (at : proces
       let there = place-there s.tree whole.tree old_place n (fine-place Last path old_place text old_found) is in (
         ready-tree s whole u
             (record {
-              well_formed = stays-with_entry s.tree whole.tree.well_formed p.0 p.1 n (fine.directory, fine.stands) fine.found fine.name there plain;
+              well_formed = stays-with_entry s.tree whole.tree.well_formed p.0 p.1 n (fine.directory, fine.appears) fine.found fine.name there plain;
               bytes = bytes-with_entry s.tree p.0 p.1 n fine.directory fine.bytes whole.tree.bytes;
             })
             (carries-entries s.tree p.0 _ fine.directory) (room-of (with_tree s u) short fit),
         omega arith,
       ))))))))
 
-  -- ---- one name less
+  -- ---- a removed name
 
   ready-without : (p : ℕ × Bytes) (n : ℕ) → FineName s.tree p (Some n) → entries_at s.tree n ≡ [] → IsReady (with_tree s (without_entry s.tree p.0 p.1))
   ready-without p n fine bare =
@@ -236,7 +236,7 @@ module _ (s : State) (pid : ℕ) (me : Process) (whole : IsWhole s) (at : proces
       let fine : FineName s.tree p (Some n) = subst (FineName s.tree p) is (named-place s.tree place p (fine-place Keep path place text found) named) in
       (ready-without p n fine (empty-is (entries_at s.tree n) bare), omega arith)))))))
 
-  -- ---- another name
+  -- ---- a rename
 
   abbrev move_5 : ℕ → ℕ → Bytes → ℕ → Bytes → Attempt Effect
   move_5 n d name e new_name = with_room (with_tree s (with_entry (without_entry s.tree d name) e new_name n)) >>= (λ after. answers after 0)
@@ -268,7 +268,7 @@ module _ (s : State) (pid : ℕ) (me : Process) (whole : IsWhole s) (at : proces
       let dir : is_directory_at between q.0 ≡ true = first.directory q.0 (some_of (node_at s.tree q.0) into.directory) ∙ into.directory in (
         ready-tree s whole u
             (record {
-              well_formed = stays-renamed s.tree whole.tree.well_formed p.0 p.1 q.0 q.1 n from.found (into.directory, into.stands) into.name clear
+              well_formed = stays-renamed s.tree whole.tree.well_formed p.0 p.1 q.0 q.1 n from.found (into.directory, into.appears) into.name clear
                   (λ is. another there n other (sym into.found ∙ is)) (ap (entries_there s.tree) into.found ∙ empty-is (entries_there s.tree there) bare);
               bytes = bytes-with_entry between q.0 q.1 n dir into.bytes (bytes-without_entry s.tree p.0 p.1 from.directory whole.tree.bytes);
             })
@@ -311,7 +311,7 @@ module _ (s : State) (pid : ℕ) (me : Process) (whole : IsWhole s) (at : proces
       (subst (FineName s.tree p) is (named-place s.tree old_place p (fine-place Keep path old_place text old_found) old_named))
       (named-place s.tree new_place q (fine-place Keep new new_place news new_found) new_named)))))))
 
-  -- ---- bytes
+  -- ---- the bytes of a file
 
   pub all-overwrite : (old : Bytes) (place : ℕ) (new : Bytes) → are_bytes old ≡ true → are_bytes new ≡ true → are_bytes (overwrite old place new) ≡ true
   all-overwrite old place new a b =
@@ -320,7 +320,7 @@ module _ (s : State) (pid : ℕ) (me : Process) (whole : IsWhole s) (at : proces
       (list_all-take is_byte place (old ++ replicate (place - length old) 0) (list_all-both is_byte old (replicate (place - length old) 0) a (list_all-replicate is_byte (place - length old) 0 refl))) b)
       (list_all-drop is_byte (place + length new) old a)
 
-  -- a tree with other bytes in a file, and an open file at another place
+  -- a tree with the bytes of a file replaced, and an open file with another offset
   ready-content : (f : ℕ) (bytes : Bytes) (k : ℕ) (file : OpenFile) (offset : ℕ) → are_bytes bytes ≡ true → Rattle.pv_model.specs.Numbered.at_number s.files k ≡ Some file → offset ≤ 2147483647
       → HasRoom (with_file (with_tree s (with_content s.tree f bytes)) k (record file { offset = offset }))
       → IsReady (with_file (with_tree s (with_content s.tree f bytes)) k (record file { offset = offset }))
@@ -331,7 +331,7 @@ module _ (s : State) (pid : ℕ) (me : Process) (whole : IsWhole s) (at : proces
       let old = file-carried s.tree u file carries (whole.files.each k file there) in
       let files : AreFiles u s.files = record { count = whole.files.count; each = λ j g at. file-carried s.tree u g carries (whole.files.each j g at) } in
       record {
-        solid = solid-standing s u (with_number s.files k new) (solid s whole) (tree-content s.tree whole.tree f bytes good) carries
+        solid = solid-present s u (with_number s.files k new) (solid s whole) (tree-content s.tree whole.tree f bytes good) carries
             (files-with s pid me whole u files k file new there (record { node = old.node; directory = old.directory; offset = low; listed = old.listed }))
             (files-stay s pid me whole k file new there);
         room = room;

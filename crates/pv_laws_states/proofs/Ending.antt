@@ -1,4 +1,4 @@
--- The end of a process keeps states solid.
+-- The end of a process preserves the invariant before collection.
 use Rattle.std.proofs.Common.{◌≡◌, ◌≢◌, ℕ, suc, ◌≤◌, Bool, true, false, cond, not, ◌&&◌, ◌==◌, nat_le, List, [], ◌∷◌, map, filter, length, Option, None, Some, is_some, refl, ap, ap₂, sym, subst, ◌∙◌, ⊎_elim, arith}
 use Rattle.std.specs.List.{list_any, list_all}
 use Rattle.std.specs.Ordering.{nat_cmp, is_lt, is_eq, eq_by_cmp}
@@ -13,7 +13,7 @@ use Rattle.pv_laws_states.proofs.Members.{find_number_after, find_number_cases, 
 use Rattle.pv_laws_states.proofs.Processes.{find-put_same, find-put_other}
 use Rattle.pv_laws_states.proofs.Whole.{list_all-put_number, length-put_there, sorted-put_number}
 
--- ---- lists in order, mapped and filtered
+-- ---- sorted lists, mapped and filtered
 
 module _ {X : Type 0} (f : X → X) where
   abbrev pub mapped : List (ℕ × X) → List (ℕ × X)
@@ -65,14 +65,14 @@ module _ {X : Type 0} (keeps : ℕ × X → Bool) where
   length-filtered (e ∷ es) =
       elim (keeps e) as (λ b. length (cond b (e ∷ filter keeps es) (filter keeps es)) ≤ suc (length es)) [ true ↦ omega (arith, length-filtered es) | false ↦ omega (arith, length-filtered es) ]
 
-  -- what is found in what is kept was found, and is kept
+  -- an element found in a filtered list is in the list, and passes
   pub found-filtered : (es : List (ℕ × X)) → is_sorted nat_cmp es ≡ true → (k : ℕ) (r : X) → find nat_cmp k (filter keeps es) ≡ Some r → (find nat_cmp k es ≡ Some r) × (keeps (k, r) ≡ true)
   found-filtered [] sorted k r is = cc
   found-filtered (e ∷ es) sorted k r is =
       let parts = and_parts (below_all nat_cmp e.0 es) (is_sorted nat_cmp es) sorted in
       elim (keeps e) as (λ b. keeps e ≡ b → find nat_cmp k (cond b (e ∷ filter keeps es) (filter keeps es)) ≡ Some r → (find nat_cmp k (e ∷ es) ≡ Some r) × (keeps (k, r) ≡ true)) [
-        | true ↦ λ kept found. find_number_cases ((find nat_cmp k (e ∷ es) ≡ Some r) × (keeps (k, r) ≡ true)) k r e (filter keeps es) found
-            (λ same value. (ap₂ (λ q v. find nat_cmp q ((e.0, v) ∷ es)) same value ∙ first (e.0) r es, ap₂ (λ q v. keeps (q, v)) same (sym value) ∙ kept))
+        | true ↦ λ preserved found. find_number_cases ((find nat_cmp k (e ∷ es) ≡ Some r) × (keeps (k, r) ≡ true)) k r e (filter keeps es) found
+            (λ same value. (ap₂ (λ q v. find nat_cmp q ((e.0, v) ∷ es)) same value ∙ first (e.0) r es, ap₂ (λ q v. keeps (q, v)) same (sym value) ∙ preserved))
             (λ there. let more = found-filtered es parts.1 k r there in (find_number_after k r e es sorted more.0, more.1))
         | false ↦ λ gone found. let more = found-filtered es parts.1 k r found in (find_number_after k r e es sorted more.0, more.1)
       ] refl is
@@ -81,17 +81,17 @@ module _ {X : Type 0} (keeps : ℕ × X → Bool) where
       first k v es = ap (λ o. cond (is_eq o) (Some v) (find nat_cmp k es)) (Rattle.pv_laws_states.proofs.Processes.number-itself k)
 
   pub filtered-found : (es : List (ℕ × X)) (k : ℕ) (r : X) → find nat_cmp k es ≡ Some r → keeps (k, r) ≡ true → find nat_cmp k (filter keeps es) ≡ Some r
-  filtered-found [] k r is kept = cc
-  filtered-found (e ∷ es) k r is kept =
+  filtered-found [] k r is preserved = cc
+  filtered-found (e ∷ es) k r is preserved =
       find_number_cases (find nat_cmp k (filter keeps (e ∷ es)) ≡ Some r) k r e es is
-      (λ same value. ap (λ b. find nat_cmp k (cond b (e ∷ filter keeps es) (filter keeps es))) (ap₂ (λ q v. keeps (q, v)) (sym same) value ∙ kept)
+      (λ same value. ap (λ b. find nat_cmp k (cond b (e ∷ filter keeps es) (filter keeps es))) (ap₂ (λ q v. keeps (q, v)) (sym same) value ∙ preserved)
       ∙ ap (λ b. cond b (Some e.1) (find nat_cmp k (filter keeps es))) (sym (Rattle.std.specs.Cmp.unsigned_ties k e.0) ∙ eq-eqb k e.0 same) ∙ ap Some value)
       (λ there. elim (keeps e) as (λ b. find nat_cmp k (cond b (e ∷ filter keeps es) (filter keeps es)) ≡ Some r) [
         | true ↦ elim (eq_by_cmp nat_cmp k e.0) as (λ t. eq_by_cmp nat_cmp k e.0 ≡ t → cond t (Some e.1) (find nat_cmp k es) ≡ Some r → cond t (Some e.1) (find nat_cmp k (filter keeps es)) ≡ Some r) [
           | true ↦ λ _ at. at
-          | false ↦ λ _ at. filtered-found es k r at kept
+          | false ↦ λ _ at. filtered-found es k r at preserved
         ] refl is
-        | false ↦ filtered-found es k r there kept
+        | false ↦ filtered-found es k r there preserved
       ])
 
 -- ---- the end of a process
@@ -99,7 +99,7 @@ module _ {X : Type 0} (keeps : ℕ × X → Bool) where
 abbrev one_or_none : Bool → ℕ
 one_or_none b = cond b 1 0
 
--- what becomes of a child of process `old`
+-- the record of a child of process `old`
 abbrev pub adopted : ℕ → ℕ → ProcessRecord → ProcessRecord
 adopted old new r = cond (parent_of r == old) (with_parent r new) r
 
@@ -122,7 +122,7 @@ parent-adopted old new r =
 pub adopted-live : (old new : ℕ) (p : Process) → (q : Process) × (adopted old new (live p) ≡ live q)
 adopted-live old new p = elim (p.parent == old) as (λ b. (q : Process) × (cond b (live (record p { parent = new })) (live p) ≡ live q)) [ true ↦ (record p { parent = new }, refl) | false ↦ (p, refl) ]
 
--- what is live was, with whatever parent
+-- a live record was live, perhaps with another parent
 pub live-adopted : (old new : ℕ) (r : ProcessRecord) (p : Process) → adopted old new r ≡ live p → (q : Process) × (r ≡ live q) × (p ≡ record q { parent = p.parent })
 live-adopted old new (live q) p is =
     elim (q.parent == old) as (λ b. cond b (live (record q { parent = new })) (live q) ≡ live p → (x : Process) × (live q ≡ live x) × (p ≡ record x { parent = p.parent })) [
@@ -175,7 +175,7 @@ module _ (s : State) (is : IsSolid s) (pid : ℕ) (p me : Process) (at : process
   was_found : find nat_cmp pid s.processes ≡ Some (live p)
   was_found = live-found s pid p at
 
-  -- what is found away from pid
+  -- a record other than that of pid
   away-cases : (P : Type 0) (k : ℕ) (x : ProcessRecord) → find nat_cmp k put_away.processes ≡ Some x → (k ≡ pid → x ≡ gone → P) → (k ≢ pid → find nat_cmp k s.processes ≡ Some x → P) → P
   away-cases P k x found here there =
       ⊎_elim
@@ -185,12 +185,12 @@ module _ (s : State) (is : IsSolid s) (pid : ℕ) (p me : Process) (at : process
   in_order : is_sorted nat_cmp (mapped (adopted pid heir) put_away.processes) ≡ true
   in_order = sorted-mapped (adopted pid heir) put_away.processes ∙ sorted-put_number pid gone s.processes is.processes.ascending
 
-  -- what is left was there
+  -- a record that remains was there
   left-was : (k : ℕ) (r : ProcessRecord) → find nat_cmp k left ≡ Some r → (x : ProcessRecord) × (find nat_cmp k put_away.processes ≡ Some x) × (adopted pid heir x ≡ r) × (is_unclaimed r ≡ false)
   left-was k r found =
-      let kept = found-filtered claimed (mapped (adopted pid heir) put_away.processes) in_order k r found in
-      let was = found-mapped (adopted pid heir) k put_away.processes r kept.0 in
-      (was.0, was.1, was.2, Rattle.std.proofs.lemmas.Bool.not-true (is_unclaimed r) kept.1)
+      let preserved = found-filtered claimed (mapped (adopted pid heir) put_away.processes) in_order k r found in
+      let was = found-mapped (adopted pid heir) k put_away.processes r preserved.0 in
+      (was.0, was.1, was.2, Rattle.std.proofs.lemmas.Bool.not-true (is_unclaimed r) preserved.1)
 
   left-live : (k : ℕ) (r : Process) → process_at after k ≡ Some r → (q : Process) × (process_at s k ≡ Some q) × (r ≡ record q { parent = r.parent })
   left-live k r found =
@@ -199,7 +199,7 @@ module _ (s : State) (is : IsSolid s) (pid : ℕ) (p me : Process) (at : process
       away-cases ((q : Process) × (process_at s k ≡ Some q) × (r ≡ record q { parent = r.parent })) k was.0 was.1
       (λ here eq. cc (sym eq ∙ old.1)) (λ other there. (old.0, found-live s k old.0 (there ∙ ap Some old.1), old.2))
 
-  -- another live process stays
+  -- another live process stays live
   stays_live : (k : ℕ) → is_some (process_at s k) ≡ true → k ≢ pid → is_some (process_at after k) ≡ true
   stays_live k some other = by (process_at s k) refl some
     where

@@ -1,4 +1,4 @@
--- Each call goes along its walks, and what the table refuses is refused at one of them.
+-- Each call makes its walks, and the table refuses it only at one of them.
 use Rattle.std.proofs.Common.{◌≡◌, ℕ, zero, suc, ◌+◌, ℤ, pos, Bool, true, false, not, ◌&&◌, ◌||◌, if◌then◌else◌, nat_le, nat_lt, List, [], ◌∷◌, ◌++◌, length, ◌+ℤ◌, Option, None, Some, is_some, is_none, Result, Ok, Err, IsFalse, refl, ap, sym, subst, ◌∙◌, ◌⊎◌, inl, inr, ⊎_elim, arith}
 use Rattle.std.proofs.lemmas.Bool.{ltb-false, le-leb}
 use Rattle.pv_model.specs.declared.call.Call.{Call}
@@ -26,7 +26,7 @@ use Rattle.pv_model.specs.Calls.Paths.{link_text, same_node, contains_directory,
 use Rattle.pv_model.specs.Calls.Processes.{executable_bytes, statuses, children, child, fork, reap, wait, execve}
 use Rattle.pv_model.specs.Calls.Restraints.{asked_promises, unless_refused, entries_of_table, add_entry, refuse_if_locked, pledge}
 use Rattle.pv_model.specs.Effect.{Effect, answers, answers_bytes, place_or_refusal, walk, judgement_or_refusal, judge, end_of, with_room, node_of, name_of, descriptor_at, open_file, status}
-use Rattle.pv_model.specs.Held.{trim}
+use Rattle.pv_model.specs.Held.{collect}
 use Rattle.pv_model.specs.Needs.{needs}
 use Rattle.pv_model.specs.Numbered.{least_free}
 use Rattle.pv_model.specs.Perms.{covers, read_permissions}
@@ -42,7 +42,7 @@ use Rattle.pv_laws_states.proofs.Outcomes.{at_call, by_answer}
 use Rattle.pv_laws_states.proofs.Rests
 use Rattle.pv_model.specs.declared.target.Target.{Target}
 
--- ---- what the table refuses nothing of
+-- ---- attempts that the table does not refuse
 
 following-after : {A : Type 0} (m n : ℕ) (a : Attempt A) → IsAfter n a → IsAfter (m + n) (after_walks m a)
 following-after m n (done walks value) is = ap (λ k. m + k) is
@@ -68,7 +68,7 @@ following-demand : {B : Type 0} (e : Errno) (o : Option B) → IsAfter 0 (demand
 following-demand e None = (refl, refl)
 following-demand e (Some value) = refl
 
--- after a test
+-- after a check
 tested : {A : Type 0} (e : Errno) (b : Bool) (next : Attempt A) → IsAfter 0 next → IsAfter 0 (refuse_if e b >> next)
 tested e b next = following-then (refuse_if e b) next (following-if e b)
 
@@ -76,7 +76,7 @@ demanded : {A B : Type 0} (e : Errno) (o : Option B) (next : B → Attempt A) �
 demanded e o next = following-bind (demand e o) next (following-demand e o)
 
 roomy : (s : State) (n : ℕ) → IsAfter 0 (with_room s >>= (λ after. answers after n))
-roomy s n = following-bind (with_room s) (λ after. answers after n) (by (is_too_long (trim s).tree) (fits (trim s).tree)) (λ after. refl)
+roomy s n = following-bind (with_room s) (λ after. answers after n) (by (is_too_long (collect s).tree) (fits (collect s).tree)) (λ after. refl)
   where
     by : (long fit : Bool) → IsAfter 0 (refuse_if EFBIG long >> (refuse_if ENOSPC (not fit) >> give s))
     by long fit = tested EFBIG long (refuse_if ENOSPC (not fit) >> give s) (tested ENOSPC (not fit) (give s) refl)
@@ -89,7 +89,7 @@ following-narrowed : (r : Result (Option Promises) Promise) → IsAfter 0 (unles
 following-narrowed (Ok value) = refl
 following-narrowed (Err p) = (refl, refl)
 
--- ---- along walks
+-- ---- attempts that make walks
 
 abbrev Goes : Attempt (Unit {0}) → Attempt Effect → Type 0
 Goes course a = IsStopped a ⊎ GoesAlong course a
@@ -111,7 +111,7 @@ goes-zero course m (refused walks errno cause) none is =
     go (done k v) is = (omega (arith, none, is.0), is.1)
     go (refused k e other) is = ap (λ n. refused n errno cause) (omega (arith, none)) ∙ is
 
--- what comes before the walks
+-- the attempt before the walks
 first : {B : Type 0} (course : Attempt (Unit {0})) (a : Attempt B) (next : Attempt Effect) → IsAfter 0 a → Goes course next → Goes course (a >> next)
 first course (done walks value) next is goes = goes-zero course walks next is goes
 first course (refused walks errno cause) next is goes = inl is
@@ -120,7 +120,7 @@ tested-first : (course : Attempt (Unit {0})) (e : Errno) (b : Bool) (next : Atte
 tested-first course e b next = first course (refuse_if e b) next (following-if e b)
 
 module _ (s : State) (me : Process) where
-  -- a walk whose place is judged, and what comes after it
+  -- a walk whose place is judged, and the attempt after it
   walked : (w : Walk) (ws : List Walk) (next : Place → Attempt Effect) → ((place : Place) → GoesAlong (along s me ws) (next place))
       → GoesAlong (along s me (w ∷ ws)) (walk s me w >>= (λ place. judge s me w place >> next place))
   walked w ws next is = by (end_of s me w)
@@ -163,9 +163,9 @@ module _ (s : State) (pid : ℕ) (me : Process) where
   still-pledge promises execpromises =
       following-bind (asked_promises promises) (Rests.pledge_1 s pid me execpromises) (following-asked promises) (λ asked.
       following-bind (asked_promises execpromises) (Rests.pledge_2 s pid me asked) (following-asked execpromises) (λ exec_asked.
-      following-bind (unless_refused (narrow_promises (is_lenient me.promises) me.promises asked)) (Rests.pledge_3 s pid me exec_asked) (following-narrowed _) (λ kept.
+      following-bind (unless_refused (narrow_promises (is_lenient me.promises) me.promises asked)) (Rests.pledge_3 s pid me exec_asked) (following-narrowed _) (λ preserved.
       following-bind (unless_refused (narrow_promises (is_lenient me.promises) me.execpromises exec_asked))
-      (λ exec_kept. answers (with_process s pid (record me { promises = kept; execpromises = exec_kept })) 0) (following-narrowed _) (λ exec_kept. refl))))
+      (λ exec_preserved. answers (with_process s pid (record me { promises = preserved; execpromises = exec_preserved })) 0) (following-narrowed _) (λ exec_preserved. refl))))
 
   still-directory_of : (d : ℤ) → IsAfter 0 (directory_of s pid me d)
   still-directory_of d =
@@ -376,7 +376,7 @@ calls-along program_of s pid me (TheCall.Unlink path) is = by-unlink s pid me pa
 calls-along program_of s pid me (TheCall.Rmdir path) is = by-rmdir s pid me path
 calls-along program_of s pid me (TheCall.Rename path new) is = by-rename s pid me path new
 
--- ---- the place at which a call is refused
+-- ---- the place where a call is refused
 
 pub begins-found : (t : Tree) (follow : Follow) (start : ℕ) (path : Bytes) (place : Place) → resolve t follow start path ≡ Ok place → begins_walk path ≡ true
 unfolding resolve
@@ -389,7 +389,7 @@ begins-found t follow start path place is =
     by r false some false long is = ap (λ b. not b && nat_le (length path) 1023) some ∙ le-leb (length path) 1023 (ltb-false 1023 (length path) long)
 
 module _ (s : State) (me : Process) where
-  -- the walk at which the table refuses
+  -- the walk where the table refuses
   abbrev StopsAt : List Walk → ℕ → Option ℕ → Type 0
   StopsAt ws walks entry = (w : Walk) × (place : Place) × (walk_number ws walks ≡ Some w) × (end_of s me w ≡ Ok place) × IsRefusedAt s me place w.needed entry
 
@@ -444,10 +444,10 @@ module _ (s : State) (pid : ℕ) (me : Process) (call : Call) (entry : Option �
     last = at.2;
     end = at.3;
     decided = inl at.4;
-    told = ap Rattle.pv_model.specs.Trace.needed_by at.2;
+    reported = ap Rattle.pv_model.specs.Trace.needed_by at.2;
   }
 
-  -- each call but unveil
+  -- each call other than unveil
   by_course : (a : Attempt Effect) (walks : ℕ) (errno : Errno) → a ≡ refused walks errno (ByUnveil entry)
       → IsStopped a ⊎ GoesAlong (along s me (walks_of call)) a → Stopped walks
   by_course a walks errno is goes =
@@ -498,7 +498,7 @@ module _ (s : State) (pid : ℕ) (me : Process) (path text : Bytes) (entry : Opt
             last = refl;
             end = found;
             decided = inr (refl, own, ap (λ o. covers (permissions_at entries k) (permissions_or_none o)) read ∙ lacks);
-            told = refl;
+            reported = refl;
           }))
 
   at_place : (permissions : Perms) → read_permissions text ≡ Some permissions → (r : Walked) → resolve s.tree Last me.directory path ≡ r
@@ -526,9 +526,9 @@ module _ (program_of : Bytes → Option Program) (s : State) (pid : ℕ) (entry 
   by_call me (TheCall.Unveil (Some path) (Some text)) walks errno is = widened s pid me path text entry walks errno (read_permissions text) refl is
   by_call me call walks errno is = by_course s pid me call entry (effect program_of s pid me call) walks errno is (calls-along program_of s pid me call refl)
 
--- before the call its process stood at an earlier line
+-- the process was at an earlier line before the call
 before : (s : State) (pid : ℕ) (me : Process) (call : Call) (walks : ℕ) (entry : Option ℕ) → IsStoppedByTable (at_call s pid me) (at_next_line me) call walks entry → IsStoppedByTable s me call walks entry
-before s pid me call walks entry is = record { walk = is.walk; place = is.place; last = is.last; end = is.end; decided = is.decided; told = is.told }
+before s pid me call walks entry is = record { walk = is.walk; place = is.place; last = is.last; end = is.end; decided = is.decided; reported = is.reported }
 
 by_attempt : (s t : State) (pid : ℕ) (me p : Process) (call : Call) (errno : Errno) (entry : Option ℕ) (a : Attempt Effect)
     → ((walks : ℕ) (e : Errno) → a ≡ refused walks e (ByUnveil entry) → IsStoppedByTable s p call walks entry)
@@ -557,7 +557,7 @@ refusals-named program_of s pid me call errno entry at =
 -- ---- the lock
 
 module _ (s : State) (me : Process) where
-  -- no walk is refused by the lock
+  -- the lock refuses no walk
   pub along-free : (ws : List Walk) (walks : ℕ) (errno : Errno) → along s me ws ≡ refused walks errno Locked → ⊥
   along-free [] walks errno is = cc is
   along-free (w ∷ ws) walks errno is = by (λ k e refusal. along-free ws k e refusal) (end_of s me w) is

@@ -1,4 +1,4 @@
--- Trees that calls change: their bytes, their kinds, their room.
+-- Trees that calls change: their bytes, kinds and room.
 use Rattle.std.proofs.Common.{◌≡◌, ℕ, suc, ◌<◌, ◌≤◌, true, false, ◌==◌, nat_le, List, [], length, drop, Option, None, Some, is_some, refl, ap, sym, ◌∙◌, ⊎_elim, arith}
 use Rattle.std.proofs.lemmas.Bool.{and_parts, or_cases, or_left, leb-true, cases_eq, cases_lt, cases_Bool}
 use Rattle.pv_model.specs.Bytes.{Bytes}
@@ -9,19 +9,19 @@ use Rattle.pv_model.specs.Room.{fits, is_too_long}
 use Rattle.pv_model.specs.Sealed.{is_file}
 use Rattle.pv_model.specs.State.{State, with_tree}
 use Rattle.pv_model.specs.Tree.{Entries, Node, directory_node, file_node, link_node, Tree, root, node_at, entries_of, is_directory, is_directory_at, find_entry, named_numbers, with_node, new_number, with_new_node, with_entry}
-use Rattle.pv_laws_trees.specs.Kept.{wanted, kept}
+use Rattle.pv_laws_trees.specs.Preserved.{wanted, preserved}
 use Rattle.pv_laws_trees.specs.Room.{IsNoLarger}
-use Rattle.pv_laws_states.specs.States.{are_bytes, AllBytes, IsTree, IsWhole}
-pub use Rattle.pv_laws_trees.proofs.Spelled.{bytes-with_node, bytes-entries, bytes-with_entry, bytes-without_entry}
+use Rattle.pv_laws_states.specs.States.{are_bytes, AllBytes, IsTree, IsValid}
+pub use Rattle.pv_laws_trees.proofs.Encoded.{bytes-with_node, bytes-entries, bytes-with_entry, bytes-without_entry}
 use Rattle.pv_laws_trees.proofs.Changes.{node_at-same, node_at-other, directory-below}
 use Rattle.pv_laws_trees.proofs.Edits.{stays-content}
 use Rattle.pv_laws_trees.proofs.NewNodes.{new-same, there-new, there-old, stays-new, named-new}
 use Rattle.pv_laws_trees.proofs.Numbered.{at_number-below, keep-some, keep-passes, least_free-below, least_free-within, present-all, present-drop, at_number-drop, length-drop_one}
 use Rattle.pv_laws_trees.proofs.Rooms.{smaller-fits, smaller-not_too_long}
-use Rattle.pv_laws_states.proofs.Standing.{Carries, carries-self, solid-with_tree}
+use Rattle.pv_laws_states.proofs.Present.{Carries, carries-self, solid-with_tree}
 use Rattle.pv_laws_states.proofs.Running.{IsReady}
 use Rattle.pv_laws_trees.proofs.Trees.{ordered, among-entry, entry-among}
-use Rattle.pv_laws_states.proofs.Trim.{held_after, tree-trim}
+use Rattle.pv_laws_states.proofs.Collect.{held_after, tree-collect}
 use Rattle.pv_laws_trees.proofs.Keeping.{wanted-is, wanted-named, wanted-held}
 use Rattle.pv_laws_states.proofs.Whole.{HasRoom, has_room, solid}
 
@@ -48,7 +48,7 @@ directory-no_file (Some (link_node text)) is = cc
 pub carries-entries : (t : Tree) (d : ℕ) (es : Entries) → is_directory_at t d ≡ true → Carries t (with_node t d (directory_node es))
 carries-entries t d es dir = carries-with_node t d (directory_node es) (directory-below t d dir) (λ is. (sym dir, sym (directory-no_file (node_at t d) dir)))
 
--- ---- a file's bytes
+-- ---- the bytes of a file
 
 content_in : (t : Tree) → AllBytes t → (f : ℕ) (bytes : Bytes) → are_bytes bytes ≡ true → (o : Option Node) → node_at t f ≡ o → AllBytes (with_content_of t f o bytes) × Carries t (with_content_of t f o bytes)
 content_in t all f bytes good None at = (all, carries-self t)
@@ -66,27 +66,27 @@ carries-content t is f bytes good = (content_in t is.bytes f bytes good (node_at
 
 -- ---- states with other trees
 
-pub ready-tree : (s : State) → IsWhole s → (u : Tree) → IsTree u → Carries s.tree u → HasRoom (with_tree s u) → IsReady (with_tree s u)
+pub ready-tree : (s : State) → IsValid s → (u : Tree) → IsTree u → Carries s.tree u → HasRoom (with_tree s u) → IsReady (with_tree s u)
 ready-tree s whole u tree carries room = record { solid = solid-with_tree s u (solid s whole) tree carries; room = room }
 
-pub ready-smaller : (s : State) → IsWhole s → (u : Tree) → IsTree u → Carries s.tree u → IsNoLarger u s.tree → IsReady (with_tree s u)
+pub ready-smaller : (s : State) → IsValid s → (u : Tree) → IsTree u → Carries s.tree u → IsNoLarger u s.tree → IsReady (with_tree s u)
 ready-smaller s whole u tree carries less =
     ready-tree s whole u tree carries (has_room (with_tree s u) (smaller-fits s.tree u less whole.fits)
     (⊎_elim (λ long. let was = smaller-not_too_long s.tree u less long in let none = whole.not_too_long in cc) (λ short. short) (cases_Bool (is_too_long u))))
 
--- what is there in a whole state is wanted
-pub there-wanted : (s : State) → IsWhole s → (n : ℕ) → is_some (node_at s.tree n) ≡ true → among (wanted s.tree (held_after s)) n ≡ true
+-- each node of a valid state is wanted
+pub there-wanted : (s : State) → IsValid s → (n : ℕ) → is_some (node_at s.tree n) ≡ true → among (wanted s.tree (held_after s)) n ≡ true
 there-wanted s whole n is = by (node_at s.tree n) refl is
   where
     by : (o : Option Node) → node_at s.tree n ≡ o → is_some o ≡ true → among (wanted s.tree (held_after s)) n ≡ true
     by None at is = cc
     by (Some node) at is =
-        let same : node_at (kept s.tree (held_after s)) n ≡ node_at s.tree n = ap (λ t. node_at t n) (sym (tree-trim s) ∙ ap (λ x. x.tree) whole.trimmed) in
+        let same : node_at (preserved s.tree (held_after s)) n ≡ node_at s.tree n = ap (λ t. node_at t n) (sym (tree-collect s) ∙ ap (λ x. x.tree) whole.collected) in
         (keep-some (among (wanted s.tree (held_after s))) s.tree.nodes n node (same ∙ at)).0
 
--- ---- a new node has a number that is there
+-- ---- the number of a new node is within the inodes
 
-module _ (s : State) (whole : IsWhole s) (d : ℕ) (name : Bytes) (node : Node) (held : List ℕ) (dir : is_directory_at s.tree d ≡ true) (free : find_entry s.tree d name ≡ None)
+module _ (s : State) (whole : IsValid s) (d : ℕ) (name : Bytes) (node : Node) (held : List ℕ) (dir : is_directory_at s.tree d ≡ true) (free : find_entry s.tree d name ≡ None)
     (bare : entries_of (Some node) ≡ []) (more : (n : ℕ) → among (held_after s) n ≡ true → among held n ≡ true) where
   abbrev t0 : Tree
   t0 = s.tree
@@ -109,21 +109,21 @@ module _ (s : State) (whole : IsWhole s) (d : ℕ) (name : Bytes) (node : Node) 
         (λ is_held. wanted-held u1 held n (more n is_held)) (or_cases (among (named_numbers t0) n) (among (held_after s) n) rest))
         (or_cases (root == n) _ (sym (wanted-is t0 (held_after s) n) ∙ there-wanted s whole n is))
 
-    in_kept : (n : ℕ) → is_some (node_at u1 n) ≡ true → among (wanted u1 held) n ≡ true → is_some (node_at (kept u1 held) n) ≡ true
-    in_kept n is in' = ap is_some (keep-passes (among (wanted u1 held)) u1.nodes n in') ∙ is
+    in_preserved : (n : ℕ) → is_some (node_at u1 n) ≡ true → among (wanted u1 held) n ≡ true → is_some (node_at (preserved u1 held) n) ≡ true
+    in_preserved n is in' = ap is_some (keep-passes (among (wanted u1 held)) u1.nodes n in') ∙ is
 
-    crowd : least_free (drop 1 s.tree.nodes) ≡ s.tree.inodes → (n : ℕ) → n < suc s.tree.inodes → is_some (at_number (drop 1 (kept u1 held).nodes) n) ≡ true
+    crowd : least_free (drop 1 s.tree.nodes) ≡ s.tree.inodes → (n : ℕ) → n < suc s.tree.inodes → is_some (at_number (drop 1 (preserved u1 held).nodes) n) ≡ true
     crowd full n below =
-        ap is_some (sym (at_number-drop (kept u1 held).nodes n))
+        ap is_some (sym (at_number-drop (preserved u1 held).nodes n))
         ∙ ⊎_elim
         (λ low. let old : is_some (node_at t0 (suc n)) ≡ true = ap is_some (at_number-drop s.tree.nodes n) ∙ least_free-below (drop 1 s.tree.nodes) n (omega arith) in
-        in_kept (suc n) (there-old t0 d name node dir free bare within (suc n) old) (wanted_one (suc n) old))
+        in_preserved (suc n) (there-old t0 d name node dir free bare within (suc n) old) (wanted_one (suc n) old))
         (λ high. let last : suc n ≡ m0 = omega arith in
-        in_kept (suc n) (ap (λ k. is_some (node_at u1 k)) last ∙ there-new t0 d name node dir free bare within m0 (ap is_some (new-same t0 d name node dir free bare within)))
+        in_preserved (suc n) (ap (λ k. is_some (node_at u1 k)) last ∙ there-new t0 d name node dir free bare within m0 (ap is_some (new-same t0 d name node dir free bare within)))
         (ap (among (wanted u1 held)) last ∙ wanted-named u1 held m0 (named-new t0 d name node dir free bare within)))
         (cases_lt n s.tree.inodes)
 
-  pub new-below : fits (kept (with_new_node s.tree d name node) held) ≡ true → new_number s.tree < length s.tree.nodes
+  pub new-below : fits (preserved (with_new_node s.tree d name node) held) ≡ true → new_number s.tree < length s.tree.nodes
   unfolding fits
   new-below fit =
       let numbers = whole.tree.well_formed.numbers in
@@ -133,7 +133,7 @@ module _ (s : State) (whole : IsWhole s) (d : ℕ) (name : Bytes) (node : Node) 
       (λ past.
       let within : m0 ≤ length s.tree.nodes = omega arith in
       let full : least_free (drop 1 s.tree.nodes) ≡ s.tree.inodes = omega arith in
-      let many = present-all (drop 1 (kept u1 held).nodes) (suc s.tree.inodes) (crowd within full) in
-      let few = leb-true (length (present (kept u1 held).nodes)) s.tree.inodes (and_parts (nat_le (length (present (kept u1 held).nodes)) s.tree.inodes) _ fit).0 in
-      absurd (omega (arith, many, few, present-drop (kept u1 held).nodes)))
+      let many = present-all (drop 1 (preserved u1 held).nodes) (suc s.tree.inodes) (crowd within full) in
+      let few = leb-true (length (present (preserved u1 held).nodes)) s.tree.inodes (and_parts (nat_le (length (present (preserved u1 held).nodes)) s.tree.inodes) _ fit).0 in
+      absurd (omega (arith, many, few, present-drop (preserved u1 held).nodes)))
       (cases_lt m0 (length s.tree.nodes))

@@ -1,12 +1,12 @@
--- Lemmas of states, calls and runs.
--- - trim: Trim (what it leaves), Members (what is used and held), Going (what goes), Far (what early tests refuse)
--- - processes: Processes (find, put, update), Ending (ended, adopted, forgotten)
--- - answers: Attempts (how an attempt ends), Outcomes (an answer by what decided it), Replies (from a call's effect), Starts
---   (where walks begin), Rests (what is left of each call from each of its steps on)
--- - whole states: Whole, Running, Standing, Grown; call by call ByProcess, ByTable, ByFile, ByTree, ByOpen; BySteps (steps, runs,
---   the first state)
--- - what a step ignores: Others (lists of processes that differ in registers and buffers), Apart (each call run beside itself)
-pub mod Trim
+-- Lemmas about states, calls and runs.
+-- - Collection: Collect, Members (references of a state, one by one), Far (the early tests of lengths).
+-- - Processes: Processes (lookup and update), Ending (end, adoption, removal).
+-- - Answers: Attempts (results of attempts), Outcomes (answers by cause), Replies (answers by effect), Starts (starting
+--   directories), Rests (the rest of each call after each check), Going (walks and refusals).
+-- - Validity: Whole, Running, Present, Grown; call by call ByProcess, ByTable, ByFile, ByTree, ByOpen; and BySteps
+--   (steps, runs, the first state).
+-- - Noninterference of lines: Others (process lists that differ in registers and buffers), Apart (each call on both).
+pub mod Collect
 pub mod Attempts
 pub mod Processes
 pub mod Outcomes
@@ -15,7 +15,7 @@ pub mod Whole
 pub mod Running
 pub mod Ending
 pub mod Replies
-pub mod Standing
+pub mod Present
 pub mod Starts
 pub mod ByProcess
 pub mod ByTable

@@ -1,4 +1,4 @@
--- Who holds what: the numbers that processes and open files hold, one by one.
+-- References: the numbers that processes and open files reference, one by one.
 use Rattle.std.proofs.Common.{◌≡◌, ◌≢◌, ℕ, zero, suc, Bool, true, false, cond, ◌||◌, ◌==◌, List, [], ◌∷◌, map, flat_map, Option, None, Some, refl, ap, sym, ◌∙◌, ⊎_elim}
 use Rattle.std.specs.List.{list_all}
 use Rattle.std.specs.Cmp.{unsigned_ties}
@@ -12,9 +12,9 @@ use Rattle.pv_model.specs.Numbered.{Numbered, at_number, present, keep}
 use Rattle.pv_model.specs.State.{OpenFile, Descriptor, Process, ProcessRecord, live, ended_record, State, live_process, process_at}
 use Rattle.pv_laws_states.specs.Held.{used}
 use Rattle.pv_laws_trees.proofs.Numbered.{keep-passes, keep-some}
-use Rattle.pv_laws_states.proofs.Trim.{held_after}
+use Rattle.pv_laws_states.proofs.Collect.{held_after}
 
--- ---- what is present
+-- ---- present values
 
 module _ {X : Type 0} (f : X → ℕ) where
   pub among-present : (xs : Numbered X) (k : ℕ) (x : X) → at_number xs k ≡ Some x → among (map f (present xs)) (f x) ≡ true
@@ -31,7 +31,7 @@ module _ {X : Type 0} (f : X → ℕ) where
       ⊎_elim (λ here. (0, y, refl, eqb-true (f y) n here)) (λ there. let found = present-at xs n there in (suc found.0, found.1, found.2, found.3))
       (or_cases (f y == n) (among (map f (present xs)) n) is)
 
--- ---- what is found in order
+-- ---- lookups in sorted lists
 
 find_number_below : {X : Type 0} (q : ℕ) (es : List (ℕ × X)) → below_all nat_cmp q es ≡ true → find nat_cmp q es ≡ None
 find_number_below q [] below = refl
@@ -40,7 +40,7 @@ find_number_below q (e ∷ es) below =
     ap (λ b. cond b (Some e.1) (find nat_cmp q es)) (elim (nat_cmp q e.0) as (λ o. is_lt o ≡ true → is_eq o ≡ false) [ Less ↦ λ _. refl | Equal ↦ λ h. cc h | Greater ↦ λ h. refl ] parts.0)
     ∙ find_number_below q es parts.1
 
--- what is found after the first is found
+-- a lookup after the first element
 pub find_number_after : {X : Type 0} (q : ℕ) (v : X) (e : ℕ × X) (es : List (ℕ × X)) → is_sorted nat_cmp (e ∷ es) ≡ true → find nat_cmp q es ≡ Some v
     → find nat_cmp q (e ∷ es) ≡ Some v
 find_number_after q v e es sorted is =
@@ -48,7 +48,7 @@ find_number_after q v e es sorted is =
     let other : q ≢ e.0 = λ same. let none : find nat_cmp q es ≡ None = ap (λ k. find nat_cmp k es) same ∙ find_number_below e.0 es parts.0 in cc in
     ap (λ b. cond b (Some e.1) (find nat_cmp q es)) (sym (unsigned_ties q e.0) ∙ ne_eqb q e.0 other) ∙ is
 
--- what is found, by cases
+-- a lookup, by cases
 pub find_number_cases : {X : Type 0} (P : Type 0) (q : ℕ) (v : X) (e : ℕ × X) (es : List (ℕ × X)) → find nat_cmp q (e ∷ es) ≡ Some v
     → ((q ≡ e.0) → (e.1 ≡ v) → P) → (find nat_cmp q es ≡ Some v → P) → P
 find_number_cases P q v e es is here there =
@@ -104,7 +104,7 @@ module _ (g : Process → List ℕ) where
       let found = live_in-among ps (and_parts (below_all nat_cmp number ps) _ sorted).1 n is in
       (found.0, found.1, find_number_after found.0 (live found.1) (number, ended_record parent status) ps sorted found.2, found.3)
 
--- ---- what a state uses and holds
+-- ---- files in use, and referenced nodes
 
 pub among-used : (s : State) (pid : ℕ) (p : Process) (d : ℕ) (x : Descriptor) → process_at s pid ≡ Some p → at_number p.descriptors d ≡ Some x → among (used s) x.file ≡ true
 among-used s pid p d x at is = among-live_in used_files s.processes pid p x.file (live-found s pid p at) (among-present (λ d. d.file) p.descriptors d x is)
@@ -116,7 +116,7 @@ used-among s sorted k is =
     let file = present-at (λ d. d.file) found.1.descriptors k found.3 in
     (found.0, found.1, file.0, file.1, found-live s found.0 found.1 found.2, file.2, file.3)
 
--- the nodes that processes hold
+-- the nodes that processes reference
 pub among-held_by : (s : State) (pid : ℕ) (p : Process) (n : ℕ) → process_at s pid ≡ Some p → among (held_by_process p) n ≡ true → among (held_after s) n ≡ true
 among-held_by s pid p n at is =
     list_any-append (λ m. m == n) (all_of held_by_process s.processes) (map (λ f. f.node) (present (keep (among (used s)) s.files)))
@@ -128,7 +128,7 @@ among-held_file s k f at is =
     ∙ or_right (among (all_of held_by_process s.processes) f.node) _
     (among-present (λ f. f.node) (keep (among (used s)) s.files) k f (keep-passes (among (used s)) s.files k is ∙ at))
 
--- what is held is held by a process or an open file
+-- a referenced node is referenced by a process or an open file
 pub held_cases : (P : Type 0) (s : State) → is_sorted nat_cmp s.processes ≡ true → (n : ℕ) → among (held_after s) n ≡ true
     → ((pid : ℕ) (p : Process) → process_at s pid ≡ Some p → among (held_by_process p) n ≡ true → P)
     → ((k : ℕ) (f : OpenFile) → at_number s.files k ≡ Some f → among (used s) k ≡ true → f.node ≡ n → P) → P
@@ -137,6 +137,6 @@ held_cases P s sorted n is by_process by_file =
     (λ held. let found = live_in-among held_by_process s.processes sorted n held in by_process found.0 found.1 (found-live s found.0 found.1 found.2) found.3)
     (λ held.
     let found = present-at (λ f. f.node) (keep (among (used s)) s.files) n held in
-    let kept = keep-some (among (used s)) s.files found.0 found.1 found.2 in by_file found.0 found.1 kept.1 kept.0 found.3)
+    let preserved = keep-some (among (used s)) s.files found.0 found.1 found.2 in by_file found.0 found.1 preserved.1 preserved.0 found.3)
     (or_cases (among (all_of held_by_process s.processes) n) _
     (sym (list_any-append (λ m. m == n) (all_of held_by_process s.processes) (map (λ f. f.node) (present (keep (among (used s)) s.files)))) ∙ is))

@@ -1,4 +1,4 @@
--- A step's text does not depend on the registers and the buffer of another process.
+-- The lines of a step do not depend on the registers and the buffer of another process.
 use Rattle.std.proofs.Common.{◌≡◌, ℕ, suc, ◌+◌, Bool, true, false, cond, not, ◌==◌, List, [], ◌∷◌, ◌++◌, map, length, Some, refl, ap, ap₂, sym, subst, ◌∙◌}
 use Rattle.std.specs.Ordering.{nat_cmp, eq_by_cmp}
 use Rattle.std.specs.FinMap.Entries.{by_order, find, put}
@@ -9,14 +9,14 @@ use Rattle.pv_model.specs.declared.errno.Errno.TheVariants.{EFBIG, ENOSPC}
 use Rattle.pv_model.specs.Attempt.{Attempt, done, refused, after_walks, ◌>>=◌, ◌>>◌, give, refuse_if}
 use Rattle.pv_model.specs.Calls.Processes.{parent_of}
 use Rattle.pv_model.specs.Effect.{Effect, answers, with_room}
-use Rattle.pv_model.specs.Held.{among, used_files, held_by_process, trim}
+use Rattle.pv_model.specs.Held.{among, used_files, held_by_process, collect}
 use Rattle.pv_model.specs.Numbered.{present, keep}
 use Rattle.pv_model.specs.Room.{fits, is_too_long}
 use Rattle.pv_model.specs.State.{Process, ProcessRecord, live, ended_record, State, process_at}
 use Rattle.pv_laws_states.specs.Steps.{IsSameOutside, AreAlikeBut}
 use Rattle.pv_laws_states.proofs.Members.{all_of}
 
--- ---- lists of processes that are alike
+-- ---- similar lists of processes
 
 module _ (pid : ℕ) where
   pub alike-find : (xs ys : List (ℕ × ProcessRecord)) → AreAlikeBut pid xs ys → find nat_cmp pid xs ≡ find nat_cmp pid ys
@@ -72,7 +72,7 @@ module _ (pid : ℕ) where
   alike-parent (ended_record above status) (live q) is = absurd is
   alike-parent (ended_record above status) (ended_record parent code) is = is.0
 
--- ---- attempts that are alike
+-- ---- similar attempts
 
 abbrev pub Alike : ℕ → Attempt Effect → Attempt Effect → Type 0
 Alike pid (done w (x, r)) (done v (y, q)) = (w ≡ v) × (r ≡ q) × (process_at x pid ≡ process_at y pid)
@@ -94,20 +94,20 @@ module _ (pid : ℕ) where
   alike-then (done w v) k h is = alike-after w k h is
   alike-then (refused w e c) k h is = (refl, refl, refl)
 
-  pub alike-room : (x y : State) (n : ℕ) → (trim x).tree ≡ (trim y).tree → process_at x pid ≡ process_at y pid → Alike pid (with_room x >>= (λ roomy. answers roomy n)) (with_room y >>= (λ roomy. answers roomy n))
+  pub alike-room : (x y : State) (n : ℕ) → (collect x).tree ≡ (collect y).tree → process_at x pid ≡ process_at y pid → Alike pid (with_room x >>= (λ roomy. answers roomy n)) (with_room y >>= (λ roomy. answers roomy n))
   alike-room x y n tree at =
       subst (λ t. Alike pid ((refuse_if EFBIG (is_too_long t) >> (refuse_if ENOSPC (not (fits t)) >> give x)) >>= (λ roomy. answers roomy n)) (with_room y >>= (λ roomy. answers roomy n))) (sym tree)
-      (by (is_too_long (trim y).tree) (fits (trim y).tree))
+      (by (is_too_long (collect y).tree) (fits (collect y).tree))
     where
       by : (long fit : Bool) → Alike pid ((refuse_if EFBIG long >> (refuse_if ENOSPC (not fit) >> give x)) >>= (λ roomy. answers roomy n)) ((refuse_if EFBIG long >> (refuse_if ENOSPC (not fit) >> give y)) >>= (λ roomy. answers roomy n))
       by true fit = (refl, refl, refl)
       by false true = (refl, refl, at)
       by false false = (refl, refl, refl)
 
-  -- trees that are left when the processes are alike
-  pub alike-tree : (x : State) (ps : List (ℕ × ProcessRecord)) → AreAlikeBut pid ps x.processes → (trim (record x { processes = ps })).tree ≡ (trim x).tree
-  unfolding trim
+  -- similar processes leave the same tree
+  pub alike-tree : (x : State) (ps : List (ℕ × ProcessRecord)) → AreAlikeBut pid ps x.processes → (collect (record x { processes = ps })).tree ≡ (collect x).tree
+  unfolding collect
   alike-tree x ps is =
-      ap₂ (λ (hs us : List ℕ). Rattle.pv_laws_trees.specs.Kept.kept x.tree (hs ++ map (λ f. f.node) (present (keep (among us) x.files))))
+      ap₂ (λ (hs us : List ℕ). Rattle.pv_laws_trees.specs.Preserved.preserved x.tree (hs ++ map (λ f. f.node) (present (keep (among us) x.files))))
       (alike-held pid held_by_process (λ p q same. ap held_by_process same) ps x.processes is)
       (alike-held pid used_files (λ p q same. ap used_files same) ps x.processes is)

@@ -1,4 +1,4 @@
--- Lemmas on what calls answer.
+-- The outcomes of calls.
 use Rattle.std.proofs.Common.{◌≡◌, ℕ, suc, pos, negsuc, Bool, true, false, cond, ◌||◌, IsTrue, IsFalse, nat_le, nat_lt, List, ◌++◌, Option, None, Some, length, refl, ap, ◌∙◌, sym, arith}
 use Rattle.std.specs.FinMap.Entries.{find}
 use Rattle.std.specs.Ordering.{nat_cmp}
@@ -20,11 +20,11 @@ use Rattle.pv_model.specs.Bytes.{Bytes}
 use Rattle.pv_model.specs.Calls.Processes.{with_result, end_process, child, fork}
 use Rattle.pv_model.specs.Effect.{Effect, answers, returns, returns_bytes, ends, waits}
 use Rattle.pv_model.specs.Errno.{errno_number}
-use Rattle.pv_model.specs.Held.{trim}
+use Rattle.pv_model.specs.Held.{collect}
 use Rattle.pv_model.specs.Needs.{needs, needs_of_mode}
 use Rattle.pv_model.specs.Promises.{Need, missing_promise, is_lenient}
 use Rattle.pv_model.specs.State.{Program, Process, State, process_at, with_process}
-use Rattle.pv_laws_states.specs.Calls.{told_error, OnlyTells, SameRights, IsUnharmed, OfNobody, needs_nothing, IsNewNumber}
+use Rattle.pv_laws_states.specs.Calls.{reported_error, OnlyReports, SameRights, IsUnharmed, OfNobody, needs_nothing, IsNewNumber}
 use Rattle.pv_laws_states.proofs.Processes.{find-put_other, process_at-same, update-with, last_process-update}
 
 -- the caller at its next line
@@ -35,7 +35,7 @@ by_choice : (P : Answered → Type 0) (b : Bool) (x y : Answered) → P x → P 
 by_choice P true x y px py = px
 by_choice P false x y px py = py
 
--- what holds however a call is answered
+-- a property of every answer
 pub by_answer : (P : Answered → Type 0) (program_of : Bytes → Option Program) (s : State) (pid : ℕ) (call : Call)
     → (process_at s pid ≡ None → P (record { after = s; outcome = Gone; walks = 0 }))
     → ((me : Process) → process_at s pid ≡ Some me → missing_promise me.promises (needs call) ≡ None
@@ -43,15 +43,15 @@ pub by_answer : (P : Answered → Type 0) (program_of : Bytes → Option Program
     → ((me : Process) (p : Promise) → process_at s pid ≡ Some me → missing_promise me.promises (needs call) ≡ Some p → is_lenient me.promises ≡ true
     → P (answer_by_attempt s (at_call s pid me) pid (at_next_line me) (refused 0 ENOSYS (ByPromise p))))
     → ((me : Process) (p : Promise) → process_at s pid ≡ Some me → missing_promise me.promises (needs call) ≡ Some p → is_lenient me.promises ≡ false
-    → P (record { after = trim (end_process s pid (at_next_line me) 6); outcome = Killed p; walks = 0 }))
+    → P (record { after = collect (end_process s pid (at_next_line me) 6); outcome = Killed p; walks = 0 }))
     → P (answer program_of s pid call)
 unfolding answer
-by_answer P program_of s pid call gone does told killed = at (process_at s pid) refl
+by_answer P program_of s pid call gone does reported killed = at (process_at s pid) refl
   where
     chosen : (me : Process) (p : Promise) → process_at s pid ≡ Some me → missing_promise me.promises (needs call) ≡ Some p → (b : Bool) → is_lenient me.promises ≡ b
         → P (cond b (answer_by_attempt s (at_call s pid me) pid (at_next_line me) (refused 0 ENOSYS (ByPromise p)))
-        (record { after = trim (end_process s pid (at_next_line me) 6); outcome = Killed p; walks = 0 }))
-    chosen me p is missing true lenient = told me p is missing lenient
+        (record { after = collect (end_process s pid (at_next_line me) 6); outcome = Killed p; walks = 0 }))
+    chosen me p is missing true lenient = reported me p is missing lenient
     chosen me p is missing false lenient = killed me p is missing lenient
 
     of : (me : Process) → process_at s pid ≡ Some me → (o : Option Promise) → missing_promise me.promises (needs call) ≡ o
@@ -65,27 +65,27 @@ by_answer P program_of s pid call gone does told killed = at (process_at s pid) 
 
 -- ---- refusals
 
-told_by : (s : State) (pid : ℕ) (me : Process) (a : Attempt Effect) (e : Errno) (c : Cause) → process_at s pid ≡ Some me
+reported_by : (s : State) (pid : ℕ) (me : Process) (a : Attempt Effect) (e : Errno) (c : Cause) → process_at s pid ≡ Some me
     → (answer_by_attempt s (at_call s pid me) pid (at_next_line me) a).outcome ≡ Failed e c
-    → OnlyTells s pid e (answer_by_attempt s (at_call s pid me) pid (at_next_line me) a).after
-told_by s pid me (done walks (after, returns n)) e c at is = cc
-told_by s pid me (done walks (after, returns_bytes n bytes)) e c at is = cc
-told_by s pid me (done walks (after, ends status)) e c at is = cc
-told_by s pid me (done walks (after, waits)) e c at is = cc
-told_by s pid me (refused walks errno cause) e c at is =
+    → OnlyReports s pid e (answer_by_attempt s (at_call s pid me) pid (at_next_line me) a).after
+reported_by s pid me (done walks (after, returns n)) e c at is = cc
+reported_by s pid me (done walks (after, returns_bytes n bytes)) e c at is = cc
+reported_by s pid me (done walks (after, ends status)) e c at is = cc
+reported_by s pid me (done walks (after, waits)) e c at is = cc
+reported_by s pid me (refused walks errno cause) e c at is =
     let same : errno ≡ e = cc is in
-    (me, at, update-with s pid (λ p. with_result p (negsuc 0) (errno_number errno)) (at_next_line me) ∙ ap (λ x. with_process s pid (told_error me x)) same)
+    (me, at, update-with s pid (λ p. with_result p (negsuc 0) (errno_number errno)) (at_next_line me) ∙ ap (λ x. with_process s pid (reported_error me x)) same)
 
-pub refused-tells : (program_of : Bytes → Option Program) (s : State) (pid : ℕ) (call : Call) (e : Errno) (c : Cause)
-    → (answer program_of s pid call).outcome ≡ Failed e c → OnlyTells s pid e (answer program_of s pid call).after
-refused-tells program_of s pid call e c =
-    by_answer (λ a. a.outcome ≡ Failed e c → OnlyTells s pid e a.after) program_of s pid call
+pub refused-reports : (program_of : Bytes → Option Program) (s : State) (pid : ℕ) (call : Call) (e : Errno) (c : Cause)
+    → (answer program_of s pid call).outcome ≡ Failed e c → OnlyReports s pid e (answer program_of s pid call).after
+refused-reports program_of s pid call e c =
+    by_answer (λ a. a.outcome ≡ Failed e c → OnlyReports s pid e a.after) program_of s pid call
     (λ none is. cc)
-    (λ me at missing is. told_by s pid me (effect program_of (at_call s pid me) pid (at_next_line me) call) e c at is)
-    (λ me p at missing lenient is. told_by s pid me (refused 0 ENOSYS (ByPromise p)) e c at is)
+    (λ me at missing is. reported_by s pid me (effect program_of (at_call s pid me) pid (at_next_line me) call) e c at is)
+    (λ me p at missing lenient is. reported_by s pid me (refused 0 ENOSYS (ByPromise p)) e c at is)
     (λ me p at missing lenient is. cc)
 
-same_rights : (p : Process) (e : Errno) → SameRights p (told_error p e)
+same_rights : (p : Process) (e : Errno) → SameRights p (reported_error p e)
 same_rights p e = record {
   promises = refl;
   execpromises = refl;
@@ -98,22 +98,22 @@ same_rights p e = record {
   parent = refl;
 }
 
-unharmed : (s : State) (pid : ℕ) (e : Errno) (after : State) → OnlyTells s pid e after → IsUnharmed s pid after
-unharmed s pid e after told = record {
-  tree = ap (λ s. s.tree) told.2;
-  files = ap (λ s. s.files) told.2;
-  last_process = ap (λ s. s.last_process) told.2;
-  others = λ q other. ap (λ s. find nat_cmp q s.processes) told.2 ∙ find-put_other q pid _ s.processes other;
+unharmed : (s : State) (pid : ℕ) (e : Errno) (after : State) → OnlyReports s pid e after → IsUnharmed s pid after
+unharmed s pid e after reported = record {
+  tree = ap (λ s. s.tree) reported.2;
+  files = ap (λ s. s.files) reported.2;
+  last_process = ap (λ s. s.last_process) reported.2;
+  others = λ q other. ap (λ s. find nat_cmp q s.processes) reported.2 ∙ find-put_other q pid _ s.processes other;
   caller = λ p is.
-      let same : told.0 ≡ p = cc in
-      (told_error p e, ap (λ s. process_at s pid) told.2 ∙ process_at-same s pid (told_error told.0 e) ∙ ap (λ x. Some (told_error x e)) same, same_rights p e);
+      let same : reported.0 ≡ p = cc in
+      (reported_error p e, ap (λ s. process_at s pid) reported.2 ∙ process_at-same s pid (reported_error reported.0 e) ∙ ap (λ x. Some (reported_error x e)) same, same_rights p e);
 }
 
 pub refused-unharmed : (program_of : Bytes → Option Program) (s : State) (pid : ℕ) (call : Call) (e : Errno) (c : Cause)
     → (answer program_of s pid call).outcome ≡ Failed e c → IsUnharmed s pid (answer program_of s pid call).after
-refused-unharmed program_of s pid call e c is = unharmed s pid e (answer program_of s pid call).after (refused-tells program_of s pid call e c is)
+refused-unharmed program_of s pid call e c is = unharmed s pid e (answer program_of s pid call).after (refused-reports program_of s pid call e c is)
 
--- ---- waiting, and nobody
+-- ---- calls that wait, and processes that are not live
 
 blocked_by : (s t : State) (pid : ℕ) (me : Process) (a : Attempt Effect) → (answer_by_attempt s t pid me a).outcome ≡ Blocked → (answer_by_attempt s t pid me a).after ≡ s
 blocked_by s t pid me (done walks (after, returns n)) is = cc
@@ -147,7 +147,7 @@ gone-leaves program_of s pid call =
     (λ me p at missing lenient is. cc)
     (λ me p at missing lenient is. cc)
 
--- ---- what needs no promise
+-- ---- calls that need no promise
 
 pub answered-always : (held : Option Rattle.pv_model.specs.Promises.Promises) (call : Call) → IsTrue (needs_nothing call) → missing_promise held (needs call) ≡ None
 unfolding needs
@@ -160,7 +160,7 @@ lacks_of_mode ReadMode rest = (Rpath, refl)
 lacks_of_mode WriteMode rest = (Wpath, refl)
 lacks_of_mode ReadWrite rest = (Rpath, refl)
 
--- what an empty set lacks
+-- each other call lacks a promise under the empty set
 pub lacks : (call : Call) → IsFalse (needs_nothing call) → (p : Promise) × (missing_promise (Some 0) (needs call) ≡ Some p)
 unfolding needs
 lacks (Exit status) other = cc
@@ -209,7 +209,7 @@ others-kill program_of s pid p call at empty other =
 
 number_of : (s : State) (pid : ℕ) (me : Process) (before : State) (n : ℕ)
     → (answer_by_attempt before s pid me (fork s pid me)).outcome ≡ Value n → IsNewNumber s n (answer_by_attempt before s pid me (fork s pid me)).after
-unfolding trim
+unfolding collect
 number_of s pid me before n = by (nat_le 32 (length s.processes) || nat_lt 99999 (suc s.last_process)) refl
   where
     by : (b : Bool) → (nat_le 32 (length s.processes) || nat_lt 99999 (suc s.last_process)) ≡ b
@@ -222,7 +222,7 @@ number_of s pid me before n = by (nat_le 32 (length s.processes) || nat_lt 99999
         let few : nat_lt 99999 (suc s.last_process) ≡ false = (or_parts (nat_le 32 (length s.processes)) (nat_lt 99999 (suc s.last_process)) test).1 in
         record {
           next = sym same;
-          kept = last_process-update now pid (λ p. with_result p (pos (suc s.last_process)) 0) ∙ same;
+          preserved = last_process-update now pid (λ p. with_result p (pos (suc s.last_process)) 0) ∙ same;
           within = le-leb n 99999 (omega (arith, ltb-false 99999 (suc s.last_process) few));
         }
 
@@ -232,6 +232,6 @@ unfolding effect
 next-number program_of s pid n =
     by_answer (λ a. a.outcome ≡ Value n → IsNewNumber s n a.after) program_of s pid Fork
     (λ none is. cc)
-    (λ me at missing is. let new = number_of (at_call s pid me) pid (at_next_line me) s n is in record { next = new.next; kept = new.kept; within = new.within })
+    (λ me at missing is. let new = number_of (at_call s pid me) pid (at_next_line me) s n is in record { next = new.next; preserved = new.preserved; within = new.within })
     (λ me p at missing lenient is. cc)
     (λ me p at missing lenient is. cc)

@@ -1,4 +1,4 @@
--- Lemmas on the processes of a state.
+-- The processes of a state.
 use Rattle.std.proofs.Common.{◌≡◌, ◌≢◌, ℕ, cond, List, [], ◌∷◌, Option, None, Some, refl, ap, ◌∙◌, sym}
 use Rattle.std.specs.Cmp.{tied_itself, unsigned_ties}
 use Rattle.std.specs.Ordering.{nat_cmp, is_eq}
@@ -13,7 +13,7 @@ use Rattle.pv_model.specs.State.{Process, live, State, live_process, process_at,
 pub number-itself : (k : ℕ) → nat_cmp k k ≡ Equal
 number-itself k = tied_itself nat_cmp_total k
 
--- ---- what is found after a change
+-- ---- lookups after a change
 
 pub find-put_same : {X : Type 0} (k : ℕ) (v : X) (es : List (ℕ × X)) → find nat_cmp k (put nat_cmp k v es) ≡ Some v
 find-put_same k v es = find-put nat_cmp nat_cmp_total k k v es ∙ ap (λ o. cond (is_eq o) (Some v) (find nat_cmp k es)) (number-itself k)
@@ -30,7 +30,7 @@ by k v w e es rest Equal is = ap (λ o. by_order o ((k, w) ∷ (e.0, v) ∷ es) 
 by k v w e es rest Greater is =
     ap (λ o. by_order o ((k, w) ∷ e ∷ put nat_cmp k v es) ((e.0, w) ∷ put nat_cmp k v es) (e ∷ put nat_cmp k w (put nat_cmp k v es))) is ∙ ap (λ fs. e ∷ fs) rest
 
--- the later change stands
+-- the later of two updates prevails
 pub put-put : {X : Type 0} (k : ℕ) (v w : X) (es : List (ℕ × X)) → put nat_cmp k w (put nat_cmp k v es) ≡ put nat_cmp k w es
 put-put k v w [] = ap (λ o. by_order o ((k, w) ∷ (k, v) ∷ []) ((k, w) ∷ []) ((k, v) ∷ (k, w) ∷ [])) (number-itself k)
 put-put k v w (e ∷ es) = by k v w e es (put-put k v w es) (nat_cmp k e.0) refl
@@ -46,14 +46,13 @@ process_at-other s pid p q other = ap live_process (find-put_other q pid (live p
 pub with_process-twice : (s : State) (pid : ℕ) (p q : Process) → with_process (with_process s pid p) pid q ≡ with_process s pid q
 with_process-twice s pid p q = ap (λ ps. record s { processes = ps }) (put-put pid (live p) (live q) s.processes)
 
--- a process that is there is changed
 pub update-is : (s : State) (pid : ℕ) (f : Process → Process) (p : Process) → process_at s pid ≡ Some p → update s pid f ≡ with_process s pid (f p)
 update-is s pid f p is = ap (update_live s pid f) is
 
 pub update-with : (s : State) (pid : ℕ) (f : Process → Process) (p : Process) → update (with_process s pid p) pid f ≡ with_process s pid (f p)
 update-with s pid f p = update-is (with_process s pid p) pid f p (process_at-same s pid p) ∙ with_process-twice s pid p (f p)
 
--- what a change of a process leaves
+-- the parts of a state that a change of a process leaves unchanged
 
 module _ {X : Type 0} (part : State → X) (s : State) (pid : ℕ) (f : Process → Process) (stays : (p : Process) → part (with_process s pid p) ≡ part s) where
   part-update : part (update s pid f) ≡ part s

@@ -1,4 +1,4 @@
--- The rest of each call, from each of its steps on.
+-- The rest of each call after each of its checks.
 use Rattle.std.proofs.Common.{ℕ, ◌+◌, ℤ, pos, false, not, ◌&&◌, if◌then◌else◌, nat_le, length, Option, Some, is_some, ◌+ℤ◌, take, drop, is_none, option_and_then}
 use Rattle.pv_model.specs.Attempt.{Attempt, ◌>>=◌, ◌>>◌, give, refuse_if, demand}
 use Rattle.pv_model.specs.Bytes.{Bytes, is_empty}
@@ -24,9 +24,9 @@ use Rattle.pv_model.specs.Walks.{follow_of}
 
 module _ (s : State) (pid : ℕ) (me : Process) where
   abbrev pub pledge_3 : Option Promises → Option Promises → Attempt Effect
-  pledge_3 exec_asked kept =
+  pledge_3 exec_asked preserved =
       unless_refused (narrow_promises (is_lenient me.promises) me.execpromises exec_asked)
-      >>= (λ exec_kept. answers (with_process s pid (record me { promises = kept; execpromises = exec_kept })) 0)
+      >>= (λ exec_preserved. answers (with_process s pid (record me { promises = preserved; execpromises = exec_preserved })) 0)
 
   abbrev pub pledge_2 : Option Promises → Option Promises → Attempt Effect
   pledge_2 asked exec_asked = unless_refused (narrow_promises (is_lenient me.promises) me.promises asked) >>= pledge_3 exec_asked

@@ -1,4 +1,4 @@
--- What goes on inside a process: registers, buffer, lines.
+-- Changes inside a process: registers, buffer, lines.
 use Rattle.std.proofs.Common.{◌≡◌, ℕ, zero, suc, ◌≤◌, ℤ, pos, Bool, true, cond, ◌&&◌, List, [], ◌∷◌, ◌++◌, map, length, take, drop, replicate, slice_set, Option, None, Some, refl, ap, ap₂, sym, ◌∙◌, arith}
 use Rattle.std.specs.List.{list_all}
 use Rattle.std.specs.Ordering.{nat_cmp, is_eq, is_lt, ordering_reverse}
@@ -15,17 +15,17 @@ use Rattle.pv_model.specs.Answer.{at_next_line, with_front, update_live, update}
 use Rattle.pv_model.specs.Bytes.{Bytes, little_endian}
 use Rattle.pv_model.specs.Calls.Processes.{with_result}
 use Rattle.pv_model.specs.Errno.{errno_number}
-use Rattle.pv_model.specs.Held.{among, live_processes, used_files, held_by_process, trim}
+use Rattle.pv_model.specs.Held.{among, live_processes, used_files, held_by_process, collect}
 use Rattle.pv_model.specs.Numbered.{keep, present}
 use Rattle.pv_model.specs.State.{Process, ProcessRecord, live, ended_record, State, process_at, with_process}
 use Rattle.pv_laws_states.specs.Held.{used}
-use Rattle.pv_laws_trees.specs.Kept.{kept}
-use Rattle.pv_laws_states.specs.States.{is_word, is_byte, are_bytes, IsRunning, IsPlaced, IsSolid, IsWhole}
+use Rattle.pv_laws_trees.specs.Preserved.{preserved}
+use Rattle.pv_laws_states.specs.States.{is_word, is_byte, are_bytes, IsRunning, IsPlaced, IsSolid, IsValid}
 use Rattle.pv_laws_states.proofs.Members.{all_of, live-found, find_number-list_all}
-use Rattle.pv_laws_states.proofs.Trim.{held_after}
+use Rattle.pv_laws_states.proofs.Collect.{held_after}
 use Rattle.pv_laws_states.proofs.Whole.{HasRoom, solid, solid-with_process}
 
--- ---- lists whose elements pass
+-- ---- lists whose elements pass a test
 
 module _ {X : Type 0} (test : X → Bool) where
   pub list_all-set : (xs : List X) (i : ℕ) (x : X) → test x ≡ true → list_all test xs ≡ true → list_all test (slice_set xs i x) ≡ true
@@ -117,7 +117,7 @@ pub bytes-little_endian : (k n : ℕ) → are_bytes (little_endian k n) ≡ true
 bytes-little_endian zero n = refl
 bytes-little_endian (suc k) n = and_from _ _ (lt-ltb _ 256 (omega arith)) (bytes-little_endian k _)
 
--- ---- a process that holds the same
+-- ---- processes with the same references
 
 pub record SameHolds (p q : Process) : Type 0 where
   pub directory : q.directory ≡ p.directory
@@ -174,7 +174,7 @@ pub holds-put : (g : Process → List ℕ) (s : State) (pid : ℕ) (p q : Proces
     → all_of g (with_process s pid q).processes ≡ all_of g s.processes
 holds-put g s pid p q sorted at same = all_of-put g s.processes pid p q sorted (live-found s pid p at) same
 
--- the same is used and held
+-- the same files are in use, and the same nodes are referenced
 pub used-same : (s : State) (pid : ℕ) (p q : Process) → is_sorted nat_cmp s.processes ≡ true → process_at s pid ≡ Some p → SameHolds p q → used (with_process s pid q) ≡ used s
 used-same s pid p q sorted at same = holds-put used_files s pid p q sorted at (ap (λ ds. map (λ d. d.file) (present ds)) same.descriptors)
 
@@ -184,31 +184,31 @@ held-same s pid p q sorted at same =
     (holds-put held_by_process s pid p q sorted at (ap₂ (λ d t. d ∷ Rattle.pv_model.specs.Held.held_by_table t) same.directory same.table))
     (used-same s pid p q sorted at same)
 
-pub trim-same : (s : State) (pid : ℕ) (p q : Process) → is_sorted nat_cmp s.processes ≡ true → process_at s pid ≡ Some p → SameHolds p q
-    → trim (with_process s pid q) ≡ with_process (trim s) pid q
-unfolding trim
-trim-same s pid p q sorted at same =
-    ap₂ (λ hs us. record (with_process s pid q) { tree = kept s.tree hs; files = keep (among us) s.files }) (held-same s pid p q sorted at same) (used-same s pid p q sorted at same)
+pub collect-same : (s : State) (pid : ℕ) (p q : Process) → is_sorted nat_cmp s.processes ≡ true → process_at s pid ≡ Some p → SameHolds p q
+    → collect (with_process s pid q) ≡ with_process (collect s) pid q
+unfolding collect
+collect-same s pid p q sorted at same =
+    ap₂ (λ hs us. record (with_process s pid q) { tree = preserved s.tree hs; files = keep (among us) s.files }) (held-same s pid p q sorted at same) (used-same s pid p q sorted at same)
 
 pub room-same : (s : State) (pid : ℕ) (p q : Process) → is_sorted nat_cmp s.processes ≡ true → process_at s pid ≡ Some p → SameHolds p q → HasRoom s → HasRoom (with_process s pid q)
 room-same s pid p q sorted at same room =
-    let tree = ap (λ x. x.tree) (trim-same s pid p q sorted at same) in
+    let tree = ap (λ x. x.tree) (collect-same s pid p q sorted at same) in
     record { fits = ap Rattle.pv_model.specs.Room.fits tree ∙ room.fits; not_too_long = ap Rattle.pv_model.specs.Room.is_too_long tree ∙ room.not_too_long }
 
--- a whole state stays so when the inside of a process changes
-pub whole-inside : (s : State) (pid : ℕ) (p q : Process) → IsWhole s → process_at s pid ≡ Some p → SameHolds p q → IsRunning q → IsWhole (with_process s pid q)
+-- a valid state stays valid when the inside of a process changes
+pub whole-inside : (s : State) (pid : ℕ) (p q : Process) → IsValid s → process_at s pid ≡ Some p → SameHolds p q → IsRunning q → IsValid (with_process s pid q)
 whole-inside s pid p q whole at same running =
     let after = solid-with_process s pid p q (solid s whole) at running (placed-same s p q same (whole.processes.placed pid p at)) same.parent in
     record {
       tree = after.tree;
       files = after.files;
       processes = after.processes;
-      trimmed = trim-same s pid p q whole.processes.ascending at same ∙ ap (λ x. with_process x pid q) whole.trimmed;
+      collected = collect-same s pid p q whole.processes.ascending at same ∙ ap (λ x. with_process x pid q) whole.collected;
       fits = whole.fits;
       not_too_long = whole.not_too_long;
     }
 
--- and a solid one
+-- a state that satisfies the invariant before collection, too
 pub record IsReady (s : State) : Type 0 where
   pub solid : IsSolid s
   pub room : HasRoom s

@@ -1,4 +1,4 @@
--- Where a walk starts, after the check that a relative path's descriptor is on a directory.
+-- The directory where a walk starts, after the check that a relative path's descriptor is a directory's.
 use Rattle.std.proofs.Common.{◌≡◌, ℕ, true, false, not, if◌then◌else◌, ap, ◌∙◌}
 use Rattle.std.proofs.lemmas.Bool.{not-false}
 use Rattle.pv_model.specs.declared.call.Start.{Start}
@@ -15,7 +15,7 @@ use Rattle.pv_laws_states.proofs.Attempts.{Leads, leads-following, leads-refuse_
 use Rattle.pv_laws_states.proofs.Rests
 
 module _ (s : State) (pid : ℕ) (me : Process) where
-  -- it is a directory, if the working directory is one
+  -- it is a directory if the working directory is one
   abbrev pub StartsWell : ℕ → Type 0
   StartsWell n = is_directory_at s.tree me.directory ≡ true → is_directory_at s.tree n ≡ true
 

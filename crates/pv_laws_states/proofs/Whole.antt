@@ -1,4 +1,4 @@
--- Lemmas on what every state is.
+-- Valid states.
 use Rattle.std.proofs.Common.{◌≡◌, ◌≢◌, ℕ, ◌+◌, ◌≤◌, Bool, true, false, cond, ◌&&◌, ◌||◌, ◌==◌, nat_le, List, [], ◌∷◌, map, length, Option, None, Some, is_some, refl, ap, ap₂, sym, subst, ◌∙◌, ⊎_elim}
 use Rattle.std.specs.List.{list_all}
 use Rattle.std.specs.Ordering.{nat_cmp}
@@ -7,7 +7,7 @@ use Rattle.std.specs.declared.cmp.Ordering.TheVariants.{Less, Equal, Greater}
 use Rattle.std.proofs.lemmas.Bool.{and_parts, and_from, or_left, or_right, eq-eqb, cases_eq, cases_Bool}
 use Rattle.std.proofs.lemmas.Cmp.{nat_cmp_total}
 use Rattle.pv_model.specs.Calls.Processes.{parent_of}
-use Rattle.pv_model.specs.Held.{among, held_by_table, trim}
+use Rattle.pv_model.specs.Held.{among, held_by_table, collect}
 use Rattle.pv_model.specs.Numbered.{Numbered, keep}
 use Rattle.pv_model.specs.Room.{fits, is_too_long}
 use Rattle.pv_model.specs.Sealed.{is_file}
@@ -17,32 +17,32 @@ use Rattle.pv_model.specs.declared.target.Target.{Target}
 use Rattle.pv_model.specs.declared.target.Target.TheVariants.{Directory as of_directory, Name as of_name}
 use Rattle.pv_model.specs.Unveil.{Table, target_directory}
 use Rattle.pv_laws_states.specs.Held.{used}
-use Rattle.pv_laws_trees.specs.Kept.{wanted, kept}
-use Rattle.pv_laws_states.specs.States.{are_bytes, is_listed, IsOpenFile, is_target, is_table, IsRunning, IsPlaced, is_number, IsSolid, IsWhole}
-use Rattle.pv_laws_trees.proofs.Entries.{told, tell}
+use Rattle.pv_laws_trees.specs.Preserved.{wanted, preserved}
+use Rattle.pv_laws_states.specs.States.{are_bytes, is_listed, IsOpenFile, is_target, is_table, IsRunning, IsPlaced, is_number, IsSolid, IsValid}
+use Rattle.pv_laws_trees.proofs.Entries.{reported, report}
 use Rattle.pv_laws_states.proofs.Members.{among-used, among-held_by, among-held_file, live-found}
 use Rattle.pv_laws_trees.proofs.Numbered.{keep-some, keep-passes, length-keep}
 use Rattle.pv_laws_states.proofs.Processes.{find-put_same, find-put_other, process_at-same, process_at-other}
-use Rattle.pv_laws_trees.proofs.Rooms.{smaller-fits, smaller-not_too_long, kept-no_larger}
-use Rattle.pv_laws_states.proofs.Trim.{held_after, trim-well_formed, trim_once}
+use Rattle.pv_laws_trees.proofs.Rooms.{smaller-fits, smaller-not_too_long, preserved-no_larger}
+use Rattle.pv_laws_states.proofs.Collect.{held_after, collect-well_formed, collect_once}
 use Rattle.pv_laws_trees.proofs.Keeping.{wanted-held}
 
 -- ---- room
 
--- the trimmed tree has room
+-- the collected tree has room
 pub record HasRoom (s : State) : Type 0 where
-  pub fits : fits (trim s).tree ≡ true
-  pub not_too_long : is_too_long (trim s).tree ≡ false
+  pub fits : fits (collect s).tree ≡ true
+  pub not_too_long : is_too_long (collect s).tree ≡ false
 
 pub has_room : (s : State) → fits s.tree ≡ true → is_too_long s.tree ≡ false → HasRoom s
-unfolding trim
+unfolding collect
 has_room s fit short = record {
-  fits = smaller-fits s.tree (kept s.tree (held_after s)) (kept-no_larger s.tree (held_after s)) fit;
-  not_too_long = ⊎_elim (λ long. let was = smaller-not_too_long s.tree (kept s.tree (held_after s)) (kept-no_larger s.tree (held_after s)) long in cc) (λ no_long. no_long)
-      (cases_Bool (is_too_long (kept s.tree (held_after s))));
+  fits = smaller-fits s.tree (preserved s.tree (held_after s)) (preserved-no_larger s.tree (held_after s)) fit;
+  not_too_long = ⊎_elim (λ long. let was = smaller-not_too_long s.tree (preserved s.tree (held_after s)) (preserved-no_larger s.tree (held_after s)) long in cc) (λ no_long. no_long)
+      (cases_Bool (is_too_long (preserved s.tree (held_after s))));
 }
 
--- ---- what stands on nodes that stay
+-- ---- references to nodes that stay
 
 pub file-same : (t u : Tree) (f : OpenFile) → node_at u f.node ≡ node_at t f.node → u.version ≡ t.version → IsOpenFile t f → IsOpenFile u f
 file-same t u f same version is = record {
@@ -68,19 +68,19 @@ pub table-same : (t u : Tree) (table : Option Table) → u.version ≡ t.version
 table-same t u None version same is = refl
 table-same t u (Some table) version same is = ap (λ b. nat_le (length table) 64 && b) (targets-same t u table version same) ∙ is
 
--- ---- a trimmed state is whole
+-- ---- a collected state is valid
 
-held-stays : (s : State) (n : ℕ) → among (held_after s) n ≡ true → node_at (kept s.tree (held_after s)) n ≡ node_at s.tree n
+held-stays : (s : State) (n : ℕ) → among (held_after s) n ≡ true → node_at (preserved s.tree (held_after s)) n ≡ node_at s.tree n
 held-stays s n is = keep-passes (among (wanted s.tree (held_after s))) s.tree.nodes n (wanted-held s.tree (held_after s) n is)
 
-pub trim-whole : (s : State) → IsSolid s → HasRoom s → IsWhole (trim s)
-unfolding trim
-trim-whole s solid room =
-    let t : Tree = kept s.tree (held_after s) in
+pub collect-whole : (s : State) → IsSolid s → HasRoom s → IsValid (collect s)
+unfolding collect
+collect-whole s solid room =
+    let t : Tree = preserved s.tree (held_after s) in
     let fs : Numbered OpenFile = keep (among (used s)) s.files in
     record {
       tree = record {
-        well_formed = trim-well_formed s solid.tree.well_formed;
+        well_formed = collect-well_formed s solid.tree.well_formed;
         bytes = λ n node at. solid.tree.bytes n node (keep-some (among (wanted s.tree (held_after s))) s.tree.nodes n node at).1;
       };
       files = record {
@@ -108,12 +108,12 @@ trim-whole s solid room =
         parents = solid.processes.parents;
         ended = solid.processes.ended;
       };
-      trimmed = trim_once s solid.tree.well_formed;
+      collected = collect_once s solid.tree.well_formed;
       fits = room.fits;
       not_too_long = room.not_too_long;
     }
 
-pub solid : (s : State) → IsWhole s → IsSolid s
+pub solid : (s : State) → IsValid s → IsSolid s
 solid s whole = record { tree = whole.tree; files = whole.files; processes = whole.processes }
 
 -- ---- processes that change
@@ -130,12 +130,12 @@ list_all-put_number test k v (e ∷ es) here all =
     ]
 
 pub length-put_there : {X : Type 0} (k : ℕ) (v w : X) (es : List (ℕ × X)) → is_sorted nat_cmp es ≡ true → find nat_cmp k es ≡ Some w → length (put nat_cmp k v es) ≡ length es
-length-put_there k v w es sorted is = length-put nat_cmp nat_cmp_total k v es (tell _ sorted) ∙ ap (λ o. cond (is_some o) (length es) (length es + 1)) is
+length-put_there k v w es sorted is = length-put nat_cmp nat_cmp_total k v es (report _ sorted) ∙ ap (λ o. cond (is_some o) (length es) (length es + 1)) is
 
 pub sorted-put_number : {X : Type 0} (k : ℕ) (v : X) (es : List (ℕ × X)) → is_sorted nat_cmp es ≡ true → is_sorted nat_cmp (put nat_cmp k v es) ≡ true
-sorted-put_number k v es sorted = told _ (is_sorted-put nat_cmp nat_cmp_total k v es (tell _ sorted))
+sorted-put_number k v es sorted = reported _ (is_sorted-put nat_cmp nat_cmp_total k v es (report _ sorted))
 
--- what is found in a state where a process was put
+-- lookups in a state after a process is stored
 pub put-cases : (P : Type 0) (s : State) (pid : ℕ) (q : Process) (k : ℕ) (r : ProcessRecord) → find nat_cmp k (with_process s pid q).processes ≡ Some r
     → (k ≡ pid → r ≡ live q → P) → (k ≢ pid → find nat_cmp k s.processes ≡ Some r → P) → P
 put-cases P s pid q k r is here there =
@@ -155,7 +155,7 @@ pub still-live : (s : State) (pid : ℕ) (q : Process) (k : ℕ) → is_some (pr
 still-live s pid q k is =
     ⊎_elim (λ same. ap is_some (ap (process_at (with_process s pid q)) same ∙ process_at-same s pid q)) (λ other. ap is_some (process_at-other s pid q k other) ∙ is) (cases_eq k pid)
 
--- a process that is put in the place of another, whose parent it has
+-- a process is replaced by one with the same parent
 pub solid-with_process : (s : State) (pid : ℕ) (p q : Process) → IsSolid s → process_at s pid ≡ Some p → IsRunning q → IsPlaced s.tree s.files q → q.parent ≡ p.parent
     → IsSolid (with_process s pid q)
 solid-with_process s pid p q is at running placed parent =

@@ -1,4 +1,4 @@
--- Laws of calls.
+-- Laws of system calls.
 use Rattle.std.specs.Prelude.{◌≡◌, ◌≢◌, ℕ, suc, negsuc, Bool, true, false, IsTrue, IsFalse, length, List, Option, None, Some}
 use Rattle.std.specs.FinMap.Entries.{find}
 use Rattle.std.specs.Ordering.{nat_cmp}
@@ -21,23 +21,23 @@ use Rattle.pv_model.specs.Held.{among}
 use Rattle.pv_model.specs.Room.{is_too_long}
 use Rattle.pv_model.specs.Sealed.{is_file}
 use Rattle.pv_model.specs.Tree.{Tree, node_at}
-use Rattle.pv_laws_trees.specs.Kept.{kept}
+use Rattle.pv_laws_trees.specs.Preserved.{preserved}
 
--- a process that is told an error: it stands at its next line, and r0 and r1 have the answer
-abbrev pub told_error : Process → Errno → Process
-told_error p e = with_result (at_next_line p) (negsuc 0) (errno_number e)
+-- a process after a refused call: at its next line, with the error in r0 and r1
+abbrev pub reported_error : Process → Errno → Process
+reported_error p e = with_result (at_next_line p) (negsuc 0) (errno_number e)
 
--- the caller, live, is told the error, and all else is as it was
-abbrev pub OnlyTells : State → ℕ → Errno → State → Type 0
-OnlyTells s pid e after = (me : Process) × (process_at s pid ≡ Some me) × (after ≡ with_process s pid (told_error me e))
+-- only the caller changes, to the process after a refused call
+abbrev pub OnlyReports : State → ℕ → Errno → State → Type 0
+OnlyReports s pid e after = (me : Process) × (process_at s pid ≡ Some me) × (after ≡ with_process s pid (reported_error me e))
 
--- a refused call tells its caller the error, and leaves all else
-abbrev pub RefusedOnlyTells : Type 0
-RefusedOnlyTells =
+-- a refused call changes only its caller's line and result registers
+abbrev pub RefusedOnlyReports : Type 0
+RefusedOnlyReports =
     (program_of : Bytes → Option Program) (s : State) (pid : ℕ) (call : Call) (e : Errno) (c : Cause)
-    → (answer program_of s pid call).outcome ≡ Failed e c → OnlyTells s pid e (answer program_of s pid call).after
+    → (answer program_of s pid call).outcome ≡ Failed e c → OnlyReports s pid e (answer program_of s pid call).after
 
--- what a process may do, and on what
+-- the rights of a process and what they apply to are unchanged
 pub record SameRights (p q : Process) : Type 0 where
   pub promises : q.promises ≡ p.promises
   pub execpromises : q.execpromises ≡ p.execpromises
@@ -49,7 +49,8 @@ pub record SameRights (p q : Process) : Type 0 where
   pub buffer : q.buffer ≡ p.buffer
   pub parent : q.parent ≡ p.parent
 
--- tree, open files and process numbers stand, each other process is the same, and the caller has the same rights
+-- the tree, the open files, the last process number and the other processes are unchanged, and the caller has the same
+-- rights
 pub record IsUnharmed (s : State) (pid : ℕ) (after : State) : Type 0 where
   pub tree : after.tree ≡ s.tree
   pub files : after.files ≡ s.files
@@ -57,19 +58,19 @@ pub record IsUnharmed (s : State) (pid : ℕ) (after : State) : Type 0 where
   pub others : (q : ℕ) → q ≢ pid → find nat_cmp q after.processes ≡ find nat_cmp q s.processes
   pub caller : (p : Process) → process_at s pid ≡ Some p → (q : Process) × (process_at after pid ≡ Some q) × SameRights p q
 
--- a refused call leaves all rights of all processes
+-- a refused call leaves all rights unchanged
 abbrev pub RefusedIsUnharmed : Type 0
 RefusedIsUnharmed =
     (program_of : Bytes → Option Program) (s : State) (pid : ℕ) (call : Call) (e : Errno) (c : Cause)
     → (answer program_of s pid call).outcome ≡ Failed e c → IsUnharmed s pid (answer program_of s pid call).after
 
--- a call that waits leaves the state
+-- a call that waits leaves the state unchanged
 abbrev pub BlockedLeaves : Type 0
 BlockedLeaves =
     (program_of : Bytes → Option Program) (s : State) (pid : ℕ) (call : Call)
     → (answer program_of s pid call).outcome ≡ Blocked → (answer program_of s pid call).after ≡ s
 
--- a call of a process that is not live leaves the state, and no other call answers so
+-- the answer to a process that is not live: the state is unchanged
 pub record OfNobody (s : State) (pid : ℕ) (a : Answered) : Type 0 where
   pub not_live : process_at s pid ≡ None
   pub leaves : a.after ≡ s
@@ -86,21 +87,21 @@ needs_nothing (Exit status) = true
 needs_nothing (Pledge promises execpromises) = true
 needs_nothing call = false
 
--- these are answered under every set of promises
+-- these calls are answered under every set of promises
 abbrev pub AnsweredAlways : Type 0
 AnsweredAlways = (held : Option Promises) (call : Call) → IsTrue (needs_nothing call) → missing_promise held (needs call) ≡ None
 
--- and under the empty set no other is: it kills
+-- under the empty set, every other call kills the process
 abbrev pub OthersKill : Type 0
 OthersKill =
     (program_of : Bytes → Option Program) (s : State) (pid : ℕ) (p : Process) (call : Call)
     → process_at s pid ≡ Some p → p.promises ≡ Some 0 → IsFalse (needs_nothing call)
     → (missing : Promise) × ((answer program_of s pid call).outcome ≡ Killed missing)
 
--- a new process has the number after the last that was given, which is at most 99,999
+-- a new process has the number after the last one given, which is at most 99,999
 pub record IsNewNumber (s : State) (n : ℕ) (after : State) : Type 0 where
   pub next : n ≡ suc s.last_process
-  pub kept : after.last_process ≡ n
+  pub preserved : after.last_process ≡ n
   pub within : IsTrue (Rattle.std.specs.Prelude.nat_le n LAST_PROCESS)
 
 abbrev pub NextNumber : Type 0
@@ -108,9 +109,9 @@ NextNumber =
     (program_of : Bytes → Option Program) (s : State) (pid n : ℕ)
     → (answer program_of s pid Fork).outcome ≡ Value n → IsNewNumber s n (answer program_of s pid Fork).after
 
--- a length that no file may have is found too long in the tree, where the file is held
+-- a file length that the early test refuses makes the tree too long, if the file is referenced
 abbrev pub FarIsTooLong : Type 0
 FarIsTooLong =
     (t : Tree) (f : ℕ) (bytes : Bytes) (held : List ℕ)
     → IsTrue (is_file (node_at t f)) → IsTrue (among held f) → IsTrue (is_past_greatest t (length bytes))
-    → IsTrue (is_too_long (kept (with_content t f bytes) held))
+    → IsTrue (is_too_long (preserved (with_content t f bytes) held))

@@ -1,4 +1,4 @@
--- Laws of how calls go along their walks, and of what stops them there: unveil(2).
+-- Laws of the walks that calls make, and of what refuses calls there: unveil(2).
 use Rattle.std.specs.Prelude.{◌≡◌, ◌⊎◌, ℕ, Bool, true, false, IsTrue, IsFalse, List, [], ◌∷◌, Option, None, Some, Ok}
 use Rattle.pv_model.specs.declared.call.Call.{Call}
 use Rattle.pv_model.specs.declared.call.Call.TheVariants.{Unveil}
@@ -23,7 +23,7 @@ use Rattle.pv_model.specs.Trace.{asked_permissions}
 use Rattle.pv_model.specs.Unveil.{judgement, entry_for, permissions_at, target_of}
 use Rattle.pv_model.specs.Walks.{Walk, walks_of, walk_number}
 
--- a cause that names an entry of the table, or that there is none, or the lock
+-- a cause that is a decision of the table: an entry, the lack of one, or the lock
 abbrev pub is_of_table : Cause → Bool
 is_of_table (ByUnveil entry) = true
 is_of_table Locked = true
@@ -33,12 +33,12 @@ abbrev pub is_unveil : Call → Bool
 is_unveil (Unveil path permissions) = true
 is_unveil call = false
 
--- walks one after the other, each judged at its end
+-- walks in sequence, each judged at its end
 abbrev pub along : State → Process → List Walk → Attempt (Unit {0})
 along s me [] = give tt
 along s me (w ∷ ws) = walk s me w >>= (λ place. judge s me w place >> along s me ws)
 
--- so many walks were begun, and the table refuses nothing
+-- n walks were begun, and the table refuses nothing
 abbrev pub IsAfter : {A : Type 0} → ℕ → Attempt A → Type 0
 IsAfter n (done walks value) = walks ≡ n
 IsAfter n (refused walks errno cause) = (walks ≡ n) × IsFalse (is_of_table cause)
@@ -48,58 +48,59 @@ abbrev pub IsStopped : {A : Type 0} → Attempt A → Type 0
 IsStopped (done walks value) = ⊥
 IsStopped (refused walks errno cause) = (walks ≡ 0) × IsFalse (is_of_table cause)
 
--- where the walks are refused the call is, and else the table refuses nothing after them
+-- if a walk is refused, so is the call; otherwise the table refuses nothing after the walks
 abbrev pub GoesAlong : Attempt (Unit {0}) → Attempt Effect → Type 0
 GoesAlong (done walks value) a = IsAfter walks a
 GoesAlong (refused walks errno cause) a = a ≡ refused walks errno cause
 
--- each call but unveil is refused before it walks, or goes along its walks
+-- each call other than unveil is refused before its first walk, or makes its walks
 abbrev pub CallsGoAlong : Type 0
 CallsGoAlong =
     (program_of : Bytes → Option Program) (s : State) (pid : ℕ) (me : Process) (call : Call) → IsFalse (is_unveil call)
     → IsStopped (effect program_of s pid me call) ⊎ GoesAlong (along s me (walks_of call)) (effect program_of s pid me call)
 
--- no entry governs the place, or the one that does lacks a permission
+-- no entry governs the place, or the entry that governs it lacks a permission
 abbrev pub IsRefusedAt : State → Process → Place → Perms → Option ℕ → Type 0
 IsRefusedAt s me place needed None = judgement s.tree me.table place needed ≡ Hidden
 IsRefusedAt s me place needed (Some k) = judgement s.tree me.table place needed ≡ Denied k
 
--- an unveil would give an entry permissions that it has not
+-- an unveil would give an entry new permissions
 abbrev pub WouldWiden : State → Process → Call → Place → Perms → Option ℕ → Type 0
 WouldWiden s me call place needed None = ⊥
 WouldWiden s me call place needed (Some k) =
     IsTrue (is_unveil call) × (entry_for (entries_of_table me.table) (target_of s.tree place) ≡ Some k)
     × IsFalse (covers (permissions_at (entries_of_table me.table) k) needed)
 
--- the table refused a call at the end of its last walk, for the permissions that are asked there; and a trace says just these permissions
+-- the table refused the call at the end of its last walk, for the permissions needed there, and the trace prints these
+-- permissions
 pub record IsStoppedByTable (s : State) (me : Process) (call : Call) (walks : ℕ) (entry : Option ℕ) : Type 0 where
   pub walk : Walk
   pub place : Place
   pub last : walk_number (walks_of call) walks ≡ Some walk
   pub end : end_of s me walk ≡ Ok place
   pub decided : IsRefusedAt s me place walk.needed entry ⊎ WouldWiden s me call place walk.needed entry
-  pub told : asked_permissions call walks ≡ walk.needed
+  pub reported : asked_permissions call walks ≡ walk.needed
 
--- an outcome that names an entry, or that there is none, comes of the place at which the call stopped
+-- a refusal that names an entry, or the lack of one, results from the place where the call stopped
 abbrev pub RefusalsNameTheEntry : Type 0
 RefusalsNameTheEntry =
     (program_of : Bytes → Option Program) (s : State) (pid : ℕ) (me : Process) (call : Call) (errno : Errno) (entry : Option ℕ)
     → process_at s pid ≡ Some me → (answer program_of s pid call).outcome ≡ Failed errno (ByUnveil entry)
     → IsStoppedByTable s me call (answer program_of s pid call).walks entry
 
--- a call that the lock refused: an unveil of a process whose table is locked, before any walk
+-- the lock refused the call: an unveil by a process with a locked table, before any walk
 pub record IsStoppedByLock (me : Process) (call : Call) (errno : Errno) : Type 0 where
   pub locked : IsTrue me.locked
   pub unveils : IsTrue (is_unveil call)
   pub error : errno ≡ EPERM
 
--- an outcome that names the lock comes of it
+-- a refusal that names the lock results from the lock
 abbrev pub RefusalsNameTheLock : Type 0
 RefusalsNameTheLock =
     (program_of : Bytes → Option Program) (s : State) (pid : ℕ) (me : Process) (call : Call) (errno : Errno)
     → process_at s pid ≡ Some me → (answer program_of s pid call).outcome ≡ Failed errno Locked → IsStoppedByLock me call errno
 
--- and under the lock, with a table or without one, each unveil of a path with permissions is refused so
+-- under the lock, with or without a table, each unveil of a path with permissions is refused
 abbrev pub LockRefusesUnveils : Type 0
 LockRefusesUnveils =
     (program_of : Bytes → Option Program) (s : State) (pid : ℕ) (me : Process) (path text : Bytes) (permissions : Perms)

@@ -1,4 +1,4 @@
--- What every state of a run is.
+-- The invariant of all states of a run.
 use Rattle.std.specs.Prelude.{◌≡◌, ◌≢◌, ℕ, suc, ◌≤◌, ℤ, pos, negsuc, Bool, true, false, not, ◌&&◌, ◌||◌, ◌==◌, IsTrue, IsFalse, nat_le, nat_lt, List, length, Option, None, Some, is_some}
 use Rattle.std.specs.FinMap.Entries.{find, is_sorted}
 use Rattle.std.specs.List.{list_all}
@@ -20,7 +20,7 @@ use Rattle.pv_model.specs.declared.version.Version.{Version}
 use Rattle.pv_model.specs.Answer.{answer}
 use Rattle.pv_model.specs.Bytes.{Bytes}
 use Rattle.pv_model.specs.Calls.Processes.{parent_of}
-use Rattle.pv_model.specs.Held.{trim}
+use Rattle.pv_model.specs.Held.{collect}
 use Rattle.pv_model.specs.Numbered.{Numbered, at_number}
 use Rattle.pv_model.specs.Room.{fits, is_too_long}
 use Rattle.pv_model.specs.Sealed.{is_file}
@@ -30,8 +30,8 @@ use Rattle.pv_model.specs.Tree.{Tree, node_at, is_directory_at, is_name, is_remo
 use Rattle.pv_model.specs.declared.target.Target.{Target}
 use Rattle.pv_model.specs.declared.target.Target.TheVariants.{Directory as of_directory, Name as of_name}
 use Rattle.pv_model.specs.Unveil.{Table}
-use Rattle.pv_laws_trees.specs.Kept.{EachIsNamed}
-pub use Rattle.pv_laws_trees.specs.Spelled.{is_byte, are_bytes, has_bytes, AllBytes}
+use Rattle.pv_laws_trees.specs.Preserved.{EachIsNamed}
+pub use Rattle.pv_laws_trees.specs.Encoded.{is_byte, are_bytes, has_bytes, AllBytes}
 
 -- ---- numbers, bytes and texts
 
@@ -40,7 +40,7 @@ abbrev pub is_word : ℤ → Bool
 is_word (pos n) = nat_le n NUMBER
 is_word (negsuc n) = nat_le n NUMBER
 
--- a byte of a program's text, which is not 0
+-- a byte of a text in a program, which is not 0
 abbrev pub is_text_byte : ℕ → Bool
 is_text_byte b = not (b == 0) && is_byte b
 
@@ -64,7 +64,7 @@ is_origin (OfDescriptor d) = is_operand d
 abbrev pub is_target_line : ℕ → ℕ → Bool
 is_target_line lines line = nat_le 1 line && nat_le line lines
 
--- an instruction of a program of so many lines
+-- a valid instruction in a program with a number of lines
 abbrev pub is_instruction : ℕ → Instruction → Bool
 is_instruction lines (Line.Set r n) = nat_lt r REGISTERS && is_word n
 is_instruction lines (Line.Add r n) = nat_lt r REGISTERS && is_word n
@@ -105,19 +105,19 @@ is_instruction lines (Line.Rename path new) = is_text path && is_text new
 is_instruction lines (Line.Link path new) = is_text path && is_text new
 is_instruction lines (Line.Symlink text path) = is_text text && is_text path
 
--- what bytes may spell: at most 256 such lines
+-- a valid program: at most 256 valid instructions
 abbrev pub is_program : Program → Bool
 is_program lines = nat_le (length lines) LINES && list_all (is_instruction (length lines)) lines
 
--- what is spelled is a program
-pub record SpellsPrograms (program_of : Bytes → Option Program) : Type 0 where
-  pub spells : (bytes : Bytes) (program : Program) → program_of bytes ≡ Some program → IsTrue (is_program program)
+-- every program that `program_of` returns is valid
+pub record EncodesPrograms (program_of : Bytes → Option Program) : Type 0 where
+  pub encodes : (bytes : Bytes) (program : Program) → program_of bytes ≡ Some program → IsTrue (is_program program)
 
 abbrev pub is_start : Start → Bool
 is_start WorkingDirectory = true
 is_start (AtDescriptor d) = is_word d
 
--- a call that an instruction makes: words and texts
+-- a valid call: its numbers and texts are in range
 abbrev pub is_call : Call → Bool
 is_call (Exit code) = is_word code
 is_call GetPid = true
@@ -160,7 +160,7 @@ abbrev pub is_listed : Version → Option Bytes → Bool
 is_listed v None = true
 is_listed v (Some name) = is_name v name && are_bytes name
 
--- an open file is on a file or a directory that is there, and a directory is open for reading alone
+-- an open file is on an existing file or directory, and a directory is open only for reading
 pub record IsOpenFile (t : Tree) (f : OpenFile) : Type 0 where
   pub node : IsTrue (is_file (node_at t f.node) || is_directory_at t f.node)
   pub directory : IsTrue (is_directory_at t f.node) → IsFalse (writes f.mode)
@@ -171,12 +171,13 @@ pub record AreFiles (t : Tree) (files : Numbered OpenFile) : Type 0 where
   pub count : length files ≡ OPEN_FILES
   pub each : (k : ℕ) (f : OpenFile) → at_number files k ≡ Some f → IsOpenFile t f
 
--- what an entry of a table is for is there
+-- the directory of a target exists
 abbrev pub is_target : Tree → Target → Bool
 is_target t (of_directory d) = is_directory_at t d
 is_target t (of_name d name) = is_directory_at t d && (is_name t.version name && are_bytes name)
 
--- what a walk leads to: a directory without a name, or a place in a directory that stands, with what that has under the name
+-- the result of a walk: a directory without a name, or a place in a directory that is not removed, with the node that
+-- the name has there
 abbrev pub IsFinePlace : Tree → Place → Type 0
 IsFinePlace t (Unnamed d) = is_directory_at t d ≡ true
 IsFinePlace t (At d name n) = (is_directory_at t d ≡ true) × (is_removed t d ≡ false) × (find_entry t d name ≡ n) × (is_name t.version name ≡ true) × (are_bytes name ≡ true)
@@ -186,14 +187,14 @@ abbrev pub is_table : Tree → Option Table → Bool
 is_table t None = true
 is_table t (Some table) = nat_le (length table) UNVEILS && list_all (λ e. is_target t e.0) table
 
--- the inside of a process: its program and place, registers and buffer
+-- the private part of a process: its program and line, registers and buffer
 pub record IsRunning (p : Process) : Type 0 where
   pub program : IsTrue (is_program p.program)
   pub line : (1 ≤ p.line) × (p.line ≤ suc (length p.program))
   pub registers : (length p.registers ≡ REGISTERS) × IsTrue (list_all is_word p.registers)
   pub buffer : (length p.buffer ≡ BUFFER) × IsTrue (are_bytes p.buffer)
 
--- what a process stands on: its directory, its descriptors' open files, its targets
+-- the references of a process are valid: its directory, the open files of its descriptors, its targets
 pub record IsPlaced (t : Tree) (files : Numbered OpenFile) (p : Process) : Type 0 where
   pub directory : IsTrue (is_directory_at t p.directory)
   pub descriptors : length p.descriptors ≡ DESCRIPTORS
@@ -203,7 +204,7 @@ pub record IsPlaced (t : Tree) (files : Numbered OpenFile) (p : Process) : Type 
 abbrev pub is_number : ℕ → ℕ → Bool
 is_number last pid = nat_le 1 pid && nat_le pid last
 
--- the process table: at most 32, in ascending order, and each child has a live parent or none
+-- the process table: at most 32 records in ascending order, and each child has a live parent or parent 0
 pub record AreProcesses (s : State) : Type 0 where
   pub ascending : IsTrue (is_sorted nat_cmp s.processes)
   pub numbers : IsTrue (list_all (λ r. is_number s.last_process r.0) s.processes)
@@ -215,18 +216,18 @@ pub record AreProcesses (s : State) : Type 0 where
   pub parents : (pid : ℕ) (r : ProcessRecord) → find nat_cmp pid s.processes ≡ Some r → parent_of r ≢ 0 → IsTrue (is_some (process_at s (parent_of r)))
   pub ended : (pid parent status : ℕ) → find nat_cmp pid s.processes ≡ Some (ended_record parent status) → (parent ≢ 0) × (status ≤ 65535)
 
--- a state before it is trimmed
+-- the invariant of a state before unreferenced nodes and files are collected
 pub record IsSolid (s : State) : Type 0 where
   pub tree : IsTree s.tree
   pub files : AreFiles s.tree s.files
   pub processes : AreProcesses s
 
--- what every state of a run is
-pub record IsWhole (s : State) : Type 0 where
+-- the invariant of every state of a run
+pub record IsValid (s : State) : Type 0 where
   pub tree : IsTree s.tree
   pub files : AreFiles s.tree s.files
   pub processes : AreProcesses s
-  pub trimmed : trim s ≡ s
+  pub collected : collect s ≡ s
   pub fits : IsTrue (fits s.tree)
   pub not_too_long : IsFalse (is_too_long s.tree)
 
@@ -239,22 +240,18 @@ pub record IsFirstTree (t : Tree) : Type 0 where
   pub fits : IsTrue (fits t)
   pub not_too_long : IsFalse (is_too_long t)
 
--- the first state is whole
-abbrev pub FirstIsWhole : Type 0
-FirstIsWhole = (t : Tree) (program : Program) → IsFirstTree t → IsTrue (is_program program) → IsWhole (first_state t program)
+abbrev pub FirstIsValid : Type 0
+FirstIsValid = (t : Tree) (program : Program) → IsFirstTree t → IsTrue (is_program program) → IsValid (first_state t program)
 
--- a call keeps it
-abbrev pub CallKeepsWhole : Type 0
-CallKeepsWhole =
-    (program_of : Bytes → Option Program) → SpellsPrograms program_of → (s : State) (pid : ℕ) (call : Call) → IsTrue (is_call call)
-    → IsWhole s → IsWhole (answer program_of s pid call).after
+abbrev pub CallPreservesValidity : Type 0
+CallPreservesValidity =
+    (program_of : Bytes → Option Program) → EncodesPrograms program_of → (s : State) (pid : ℕ) (call : Call) → IsTrue (is_call call)
+    → IsValid s → IsValid (answer program_of s pid call).after
 
--- a step keeps it
-abbrev pub StepKeepsWhole : Type 0
-StepKeepsWhole =
-    (program_of : Bytes → Option Program) → SpellsPrograms program_of → (s : State) (pid : ℕ) → IsWhole s → IsWhole (step program_of s pid).after
+abbrev pub StepPreservesValidity : Type 0
+StepPreservesValidity =
+    (program_of : Bytes → Option Program) → EncodesPrograms program_of → (s : State) (pid : ℕ) → IsValid s → IsValid (step program_of s pid).after
 
--- and so does a run
-abbrev pub RunKeepsWhole : Type 0
-RunKeepsWhole =
-    (program_of : Bytes → Option Program) → SpellsPrograms program_of → (pids : List ℕ) (s : State) → IsWhole s → IsWhole (run program_of pids s).final
+abbrev pub RunPreservesValidity : Type 0
+RunPreservesValidity =
+    (program_of : Bytes → Option Program) → EncodesPrograms program_of → (pids : List ℕ) (s : State) → IsValid s → IsValid (run program_of pids s).final

@@ -1,28 +1,28 @@
--- Laws of runs.
+-- Laws of steps and runs.
 use Rattle.std.specs.Prelude.{◌≡◌, ℕ, List, [], ◌∷◌, ◌++◌, Option}
 use Rattle.pv_model.specs.Bytes.{Bytes}
 use Rattle.pv_model.specs.State.{Program, ProcessRecord, live, ended_record, State}
 use Rattle.pv_model.specs.Step.{step, run, run_then}
 
--- a run over one list and then another is the run over both
+-- a run over a concatenation is the concatenation of runs
 abbrev pub RunsJoin : Type 0
 RunsJoin =
     (program_of : Bytes → Option Program) (before after : List ℕ) (s : State)
     → run program_of (before ++ after) s ≡ run_then (run program_of before s) (run program_of after)
 
--- the same but for registers and buffer
+-- two records are equal except for registers and buffer
 abbrev pub IsSameOutside : ProcessRecord → ProcessRecord → Type 0
 IsSameOutside (live p) (live q) = p ≡ record q { registers = p.registers; buffer = p.buffer }
 IsSameOutside (ended_record above status) (ended_record parent code) = (above ≡ parent) × (status ≡ code)
 IsSameOutside _ _ = ⊥
 
--- the same processes, of which all but one may have other registers and another buffer
+-- two process tables are equal except for the registers and buffers of all processes but one
 abbrev pub AreAlikeBut : ℕ → List (ℕ × ProcessRecord) → List (ℕ × ProcessRecord) → Type 0
 AreAlikeBut pid [] [] = Unit {0}
 AreAlikeBut pid (a ∷ rest) (b ∷ bs) = (a.0 ≡ b.0) × IsSameOutside a.1 b.1 × (b.0 ≡ pid → a.1 ≡ b.1) × AreAlikeBut pid rest bs
 AreAlikeBut pid _ _ = ⊥
 
--- a step's text does not depend on the registers and the buffer of another process
+-- the lines of a step do not depend on the registers and buffers of other processes
 abbrev pub IgnoresOthers : Type 0
 IgnoresOthers =
     (program_of : Bytes → Option Program) (s : State) (pid : ℕ) (others : List (ℕ × ProcessRecord)) → AreAlikeBut pid others s.processes

@@ -1,43 +1,45 @@
-//! Laws of calls.
+//! Laws of system calls.
 
-ghost use Rattle.pv_laws_states.specs.Calls.{RefusedOnlyTells, RefusedIsUnharmed, BlockedLeaves, GoneLeaves, AnsweredAlways, OthersKill, NextNumber, FarIsTooLong};
+ghost use Rattle.pv_laws_states.specs.Calls.{RefusedOnlyReports, RefusedIsUnharmed, BlockedLeaves, GoneLeaves, AnsweredAlways, OthersKill, NextNumber, FarIsTooLong};
 
-/// A refused call tells its caller the error, at its next line, and leaves all else of the state as it was.
-pub fn refused_only_tells()
-    ensures { RefusedOnlyTells }
+/// A refused call moves its caller to the next line with the error in its registers, and changes nothing else in the
+/// state.
+pub fn refused_only_reports()
+    ensures { RefusedOnlyReports }
 {}
 
-/// A refused call leaves the tree, the open files and the rights of all processes as they were.
+/// A refused call leaves the tree, the open files and the rights of every process unchanged.
 pub fn refused_is_unharmed()
     ensures { RefusedIsUnharmed }
 {}
 
-/// A call that waits leaves the whole state as it was.
+/// A call that waits leaves the state unchanged.
 pub fn blocked_leaves_all()
     ensures { BlockedLeaves }
 {}
 
-/// A call answers `Gone` only where its process is not live, and leaves the whole state as it was.
+/// If a call answers `Gone`, its process is not live and the state is unchanged.
 pub fn gone_leaves_all()
     ensures { GoneLeaves }
 {}
 
-/// exit and pledge lack no promise, whatever is held.
+/// exit and pledge need no promise.
 pub fn answered_always()
     ensures { AnsweredAlways }
 {}
 
-/// Under the empty set of promises each call but exit and pledge kills.
+/// Under the empty set of promises, every call other than exit and pledge kills the process.
 pub fn others_kill()
     ensures { OthersKill }
 {}
 
-/// fork gives the number after the last one that was given, up to 99,999.
+/// fork returns the number after the last one that was given, which is at most 99,999.
 pub fn next_number()
     ensures { NextNumber }
 {}
 
-/// What the early tests of write and ftruncate refuse, the tree would be refused for.
+/// If the early length test of write or ftruncate refuses a length, the resulting tree would contain a node that is too
+/// long.
 pub fn far_is_too_long()
     ensures { FarIsTooLong }
 {}

@@ -1,23 +1,24 @@
-//! Laws of what is held, and of what trim keeps.
+//! Laws of references, and of the collection of unreferenced nodes and open files.
 
-ghost use Rattle.pv_laws_states.specs.Held.{KeepsAllNamed, KeepsExactly, TrimsOnce, StaysWellFormed};
+ghost use Rattle.pv_laws_states.specs.Held.{KeepsAllNamed, KeepsExactly, CollectsOnce, StaysWellFormed};
 
-/// Where each node but the root has a name, trim leaves the tree as it is, whatever is held.
+/// If every node other than the root has a name, collecting nodes leaves the state unchanged.
 pub fn named_stay()
     ensures { KeepsAllNamed }
 {}
 
-/// Trim keeps exactly the open files that are used, and the nodes that are named, held, or the root.
-pub fn trim_keeps_exactly()
+/// Collection keeps exactly the open files that a live process uses and the nodes that are named, referenced, or the
+/// root.
+pub fn collect_keeps_exactly()
     ensures { KeepsExactly }
 {}
 
-/// A state of a well-formed tree that is trimmed again stays as it is.
-pub fn trims_once()
-    ensures { TrimsOnce }
+/// Collection is idempotent on a state with a well-formed tree.
+pub fn collects_once()
+    ensures { CollectsOnce }
 {}
 
-/// The tree of a trimmed state is well-formed where it was.
-pub fn trim_stays_well_formed()
+/// Collection keeps a well-formed tree well-formed.
+pub fn collect_stays_well_formed()
     ensures { StaysWellFormed }
 {}

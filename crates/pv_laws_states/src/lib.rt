@@ -1,15 +1,13 @@
-//! Laws of the machine's definitions, which stand in `pv_model`: of states, calls and runs.
+//! Laws of states, system calls, steps and runs: the general facts on which the other law crates depend.
 //!
-//! Each function has an empty body: its contract is the law, which the check proves. The statements stand in `specs/`, one
-//! file for a subject, and contracts of other crates may cite their words:
+//! Each law is a function with an empty body whose contract is the statement. Statements are in `specs/`, one file per
+//! subject, and contracts of other crates may cite them. Lemmas are in `proofs/`.
 //!
-//! - `held`: what trim keeps.
-//! - `calls`: what refused, waiting and killed calls leave; process numbers.
-//! - `courses`: how calls go along their walks, and what stops them there.
-//! - `states`: the invariant: what every state of a run is, and that each call, step and run keeps it.
-//! - `steps`: runs joined; what a step's text ignores.
-//!
-//! The lemmas stand in `proofs/`. Laws of trees and walks stand in `pv_laws_trees`.
+//! - `states`: the invariant of all states of a run, and that calls, steps and runs preserve it.
+//! - `held`: which nodes and open files are referenced, and which are collected.
+//! - `calls`: what refused, waiting and killed calls change, and process numbers. `courses`: the walks that calls make,
+//!   and what refuses calls there.
+//! - `steps`: concatenation of runs, and what the lines of a step do not depend on.
 #![tactic(auto)]
 
 pub mod calls;

@@ -1,23 +1,23 @@
-//! Laws of whole states: the invariant of every state of a run.
+//! Laws of valid states. A state is valid if it satisfies `IsValid`, the invariant of all states of a run.
 
-ghost use Rattle.pv_laws_states.specs.States.{FirstIsWhole, CallKeepsWhole, StepKeepsWhole, RunKeepsWhole};
+ghost use Rattle.pv_laws_states.specs.States.{FirstIsValid, CallPreservesValidity, StepPreservesValidity, RunPreservesValidity};
 
-/// The first state of a tree whose nodes all have names, and of a program, is whole.
+/// The first state of a tree whose nodes all have names, with a valid program, is valid.
 pub fn first_is_whole()
-    ensures { FirstIsWhole }
+    ensures { FirstIsValid }
 {}
 
-/// Each call leaves a whole state whole.
+/// Each call preserves validity.
 pub fn call_keeps_whole()
-    ensures { CallKeepsWhole }
+    ensures { CallPreservesValidity }
 {}
 
-/// Each step leaves a whole state whole.
+/// Each step preserves validity.
 pub fn step_keeps_whole()
-    ensures { StepKeepsWhole }
+    ensures { StepPreservesValidity }
 {}
 
-/// Each state that a run reaches from a whole state is whole.
+/// Each state that a run reaches from a valid state is valid.
 pub fn run_keeps_whole()
-    ensures { RunKeepsWhole }
+    ensures { RunPreservesValidity }
 {}

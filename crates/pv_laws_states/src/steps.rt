@@ -2,12 +2,13 @@
 
 ghost use Rattle.pv_laws_states.specs.Steps.{RunsJoin, IgnoresOthers};
 
-/// A run over one list of process numbers and then another is the run over both, joined.
+/// A run over the concatenation of two lists of process numbers is the run over the first, followed by the run over the
+/// second.
 pub fn runs_join()
     ensures { RunsJoin }
 {}
 
-/// Noninterference, of lines: the lines of a step stay as they are, whatever the registers and the buffers of other processes have.
+/// Noninterference of lines: the lines of a step do not depend on the registers and the buffers of other processes.
 pub fn ignores_others()
     ensures { IgnoresOthers }
 {}

@@ -1,4 +1,4 @@
--- What is known of states that are alike in what a step depends on.
+-- States that agree in what a step depends on.
 use Rattle.std.proofs.Common.{◌≡◌, ◌≢◌, ℕ, Bool, true, false, cond, ◌==◌, if◌then◌else◌, List, [], ◌∷◌, map, Option, None, Some, option_map, refl, ap, ap₂, sym, ◌∙◌}
 use Rattle.std.specs.Cmp.{unsigned_ties}
 use Rattle.std.specs.FinMap.Entries.{find, is_sorted, below_all}
@@ -7,12 +7,12 @@ use Rattle.std.proofs.lemmas.Bool.{and_parts, eqb-true, ne_eqb}
 use Rattle.pv_model.specs.State.{Process, ProcessRecord, live, ended_record, State, live_process, process_at}
 use Rattle.pv_laws_states.proofs.Members.{find_number_after, live-found}
 use Rattle.pv_laws_states.proofs.Processes.{number-itself}
-use Rattle.pv_laws_commute.specs.Beside.{with_change, StandsAlike}
-use Rattle.pv_laws_commute.proofs.Exchange.{KeepsParent, changed, Fits}
+use Rattle.pv_laws_steps.specs.Beside.{with_change, AppearsAlike}
+use Rattle.pv_laws_steps.proofs.Exchange.{KeepsParent, changed, Fits}
 use Rattle.pv_laws_steps.specs.Seen.{SeenRecord, own, live_other, seen_other, seen_record, seen, with_inside}
 use Rattle.pv_laws_steps.proofs.Insides.{inside_in}
 
--- ---- another process of both states
+-- ---- another process in both states
 
 abbrev seen_at : ℕ → ℕ → ProcessRecord → SeenRecord
 seen_at pid j r = if j == pid then own r else seen_other r
@@ -26,12 +26,12 @@ find-seen pid j (e ∷ es) = by (eq_by_cmp nat_cmp j e.0) refl (find-seen pid j 
     by true tied rest = let same : j ≡ e.0 = eqb-true j e.0 (unsigned_ties j e.0 ∙ tied) in ap (λ n. Some (seen_at pid n e.1)) (sym same)
     by false apart rest = rest
 
--- it is live in both, under the same parent, and stands on the same
+-- it is live in both, with the same parent and references
 pub record IsLiveAlike (s : State) (k : ℕ) (q : Process) : Type 0 where
   pub process : Process
   pub at : process_at s k ≡ Some process
   pub parent : process.parent ≡ q.parent
-  pub stands : StandsAlike process q
+  pub appears : AppearsAlike process q
 
 pub live-alike : (s t : State) (pid k : ℕ) (q : Process) → seen pid s ≡ seen pid t → k ≢ pid → process_at t k ≡ Some q → IsLiveAlike s k q
 live-alike s t pid k q alike other at = by (find nat_cmp k s.processes) refl both
@@ -42,20 +42,20 @@ live-alike s t pid k q alike other at = by (find nat_cmp k s.processes) refl bot
         ∙ ap (λ b. Some (if b then own (live q) else seen_other (live q))) (ne_eqb k pid other)
 
     of : (r : ProcessRecord) → find nat_cmp k s.processes ≡ Some r → Some (seen_other r) ≡ Some (seen_other (live q)) → IsLiveAlike s k q
-    of (live p) found is = record { process = p; at = ap live_process found; parent = cc is; stands = record { directory = sym (cc is); descriptors = sym (cc is); held = sym (cc is) } }
+    of (live p) found is = record { process = p; at = ap live_process found; parent = cc is; appears = record { directory = sym (cc is); descriptors = sym (cc is); held = sym (cc is) } }
     of (ended_record parent status) found is = cc is
 
     by : (o : Option ProcessRecord) → find nat_cmp k s.processes ≡ o → option_map (seen_at pid k) o ≡ Some (seen_other (live q)) → IsLiveAlike s k q
     by None none is = cc is
     by (Some r) found is = of r found (sym (ap (λ b. Some (if b then own r else seen_other r)) (ne_eqb k pid other)) ∙ is)
 
--- ---- a state that takes an inside stays alike
+-- ---- replacing the inside of a process preserves the agreement
 
 seen-with : (pid k : ℕ) (f : Process → Process) → KeepsParent f → k ≢ pid → (es : List (ℕ × ProcessRecord)) → Fits k f es → map (seen_record pid) (changed k f es) ≡ map (seen_record pid) es
 seen-with pid k f keeps other [] fit = refl
 seen-with pid k f keeps other ((j, live p) ∷ es) fit = ap₂ (λ (x : ℕ × SeenRecord) xs. x ∷ xs) (ap (λ r. (j, r)) (by (j == k) refl)) (seen-with pid k f keeps other es fit.1)
   where
-    as-seen : StandsAlike p (f p) → seen_other (live (f p)) ≡ seen_other (live p)
+    as-seen : AppearsAlike p (f p) → seen_other (live (f p)) ≡ seen_other (live p)
     as-seen is = λ i. live_other (keeps.same p i) (is.directory i) (is.descriptors i) (is.held i)
 
     by : (b : Bool) → (j == k) ≡ b → seen_at pid j (if b then live (f p) else live p) ≡ seen_at pid j (live p)
@@ -74,10 +74,10 @@ seen-with pid k f keeps other ((j, ended_record parent status) ∷ es) fit =
 pub seen-changed : (s : State) (pid k : ℕ) (f : Process → Process) → KeepsParent f → k ≢ pid → Fits k f s.processes → seen pid (with_change s k f) ≡ seen pid s
 seen-changed s pid k f keeps other fit = ap (λ rs. record (seen pid s) { records = rs }) (seen-with pid k f keeps other s.processes fit)
 
--- ---- with all insides of the other state it is that state
+-- ---- with the insides of all other processes replaced, the state is the other one
 
 module _ (pid : ℕ) (ts : List (ℕ × ProcessRecord)) where
-  -- what is found there is found in the whole table
+  -- the records are found in the whole table
   abbrev pub AreIn : List (ℕ × ProcessRecord) → Type 0
   AreIn gs = (k : ℕ) (v : ProcessRecord) → find nat_cmp k gs ≡ Some v → find nat_cmp k ts ≡ Some v
 

@@ -1,4 +1,4 @@
--- The steps of worked runs, by computing.
+-- The steps of worked runs, by computation.
 use Rattle.std.proofs.Common.{◌≡◌, ◌≢◌, ℕ, Option, Some, option_map, refl, ap, sym, ◌∙◌}
 use Rattle.std.specs.FinMap.Entries.{find}
 use Rattle.std.specs.Ordering.{nat_cmp}

@@ -1,4 +1,4 @@
--- Lists of processes in which each process but one takes its inside from another list.
+-- Lists of processes in which all processes but one take their insides from another list.
 use Rattle.std.proofs.Common.{◌≡◌, ◌≢◌, ℕ, Bool, true, false, cond, ◌==◌, if◌then◌else◌, List, [], ◌∷◌, map, None, Some, refl, ap, ap₂, sym, ◌∙◌}
 use Rattle.std.specs.Cmp.{unsigned_ties}
 use Rattle.std.specs.FinMap.Entries.{find, below_all}
@@ -7,7 +7,7 @@ use Rattle.std.specs.declared.cmp.Ordering.{Ordering}
 use Rattle.std.specs.declared.cmp.Ordering.TheVariants.{Less, Equal, Greater}
 use Rattle.std.proofs.lemmas.Bool.{and_parts, eqb-true, ne_eqb}
 use Rattle.pv_model.specs.State.{Process, ProcessRecord, live, ended_record, State, live_process}
-use Rattle.pv_laws_commute.specs.Beside.{change_live, change_at, with_change, become}
+use Rattle.pv_laws_steps.specs.Beside.{change_live, change_at, with_change, become}
 use Rattle.pv_laws_steps.specs.Seen.{with_inside}
 
 abbrev pub inside_in : ℕ → List (ℕ × ProcessRecord) → ℕ × ProcessRecord → ℕ × ProcessRecord
@@ -20,7 +20,7 @@ map-along : {X : Type 0} (f g h : X → X) → ((x : X) → h x ≡ f (g x)) →
 map-along f g h is [] = refl
 map-along f g h is (x ∷ xs) = ap₂ (λ y ys. y ∷ ys) (is x) (map-along f g h is xs)
 
--- no inside is there to be taken
+-- the other list provides no inside
 pub inside-none : (pid : ℕ) (es : List (ℕ × ProcessRecord)) → map (inside_in pid []) es ≡ es
 inside-none pid [] = refl
 inside-none pid (e ∷ es) = ap₂ (λ (x : ℕ × ProcessRecord) xs. x ∷ xs) (ap (λ r. (e.0, r)) (by (e.0 == pid))) (inside-none pid es)
@@ -29,7 +29,7 @@ inside-none pid (e ∷ es) = ap₂ (λ (x : ℕ × ProcessRecord) xs. x ∷ xs) 
     by true = refl
     by false = refl
 
--- in a table that rises, the first number is not found again
+-- in a sorted table, the first number does not occur again
 pub free-after : (k : ℕ) (ts : List (ℕ × ProcessRecord)) → below_all nat_cmp k ts ≡ true → find nat_cmp k ts ≡ None
 free-after k [] below = refl
 free-after k (e ∷ ts) below =
@@ -53,7 +53,7 @@ module _ (pid k : ℕ) (ts : List (ℕ × ProcessRecord)) where
           let other : (e.0 == k) ≡ false = ap (λ n. e.0 == n) is ∙ away in
           ap (λ c. with_inside (live_process (cond c (Some v) (find nat_cmp e.0 ts))) e.1) (sym (unsigned_ties e.0 k) ∙ other)
 
-  -- one that has ended gives none
+  -- an ended process provides none
   ended-inside : (parent status : ℕ) → find nat_cmp k ts ≡ None → (e : ℕ × ProcessRecord) → inside_in pid ((k, ended_record parent status) ∷ ts) e ≡ inside_in pid ts e
   ended-inside parent status free e =
       ap (λ o. (e.0, if e.0 == pid then e.1 else with_inside o e.1)) (ap (λ c. live_process (cond c (Some (ended_record parent status)) (find nat_cmp e.0 ts))) (sym (unsigned_ties e.0 k)) ∙ by (e.0 == k) refl)
@@ -62,7 +62,7 @@ module _ (pid k : ℕ) (ts : List (ℕ × ProcessRecord)) where
       by true same = sym (ap (λ n. live_process (find nat_cmp n ts)) (eqb-true e.0 k same) ∙ ap live_process free)
       by false away = refl
 
-  -- a live one gives its own
+  -- a live process provides its own
   live-inside : (q : Process) → find nat_cmp k ts ≡ None → k ≢ pid → (e : ℕ × ProcessRecord) → inside_in pid ((k, live q) ∷ ts) e ≡ inside_in pid ts (change_at k (become q) e)
   live-inside q free other e = ap (λ r. (e.0, r)) (by (e.0 == pid) refl)
     where
@@ -77,7 +77,7 @@ module _ (pid k : ℕ) (ts : List (ℕ × ProcessRecord)) where
       by true same = ap (λ b. if b then change_live (become q) e.1 else e.1) (sym (ne_eqb e.0 k (λ is. other (sym is ∙ eqb-true e.0 pid same))))
       by false away = ap (λ c. with_inside (live_process (cond c (Some (live q)) (find nat_cmp e.0 ts))) e.1) (sym (unsigned_ties e.0 k)) ∙ of (e.0 == k) refl
 
-  -- so the insides are taken one after another
+  -- so the insides are taken one by one
   pub own-insides : (v : ProcessRecord) → k ≡ pid → (u : State) → insides pid ((k, v) ∷ ts) u ≡ insides pid ts u
   own-insides v is u = λ i. record u { processes = map (λ e. own-inside v is e i) u.processes }
 

@@ -1,4 +1,4 @@
--- Steps in two states that are alike in what they depend on.
+-- Steps in two states that agree in what they depend on.
 use Rattle.std.proofs.Common.{◌≡◌, ◌≢◌, ℕ, true, cond, List, [], ◌∷◌, Option, None, Some, ap, sym, subst, ◌∙◌, ⊎_elim}
 use Rattle.std.specs.FinMap.Entries.{find, is_sorted, below_all}
 use Rattle.std.specs.Ordering.{nat_cmp, is_eq}
@@ -6,44 +6,45 @@ use Rattle.std.proofs.lemmas.Bool.{and_parts, cases_eq}
 use Rattle.pv_model.specs.Bytes.{Bytes}
 use Rattle.pv_model.specs.State.{Program, Process, ProcessRecord, live, ended_record, State, process_at}
 use Rattle.pv_model.specs.Step.{Stepped, step}
-use Rattle.pv_laws_states.specs.States.{IsPlaced, IsWhole}
+use Rattle.pv_laws_states.specs.States.{IsPlaced, IsValid}
 use Rattle.pv_laws_states.proofs.Members.{find_number_after, found-live}
 use Rattle.pv_laws_states.proofs.Processes.{number-itself}
-use Rattle.pv_laws_commute.specs.Beside.{with_change, become, StepsBeside}
-use Rattle.pv_laws_commute.proofs.BesideSteps.{become-keeps, fits-become, others-alter-nothing}
+use Rattle.pv_laws_steps.specs.Beside.{with_change, become, StepsBeside}
+use Rattle.pv_laws_steps.proofs.BesideSteps.{become-keeps, fits-become, others-alter-nothing}
 use Rattle.pv_laws_steps.specs.Seen.{seen, StepsBesideAll}
 use Rattle.pv_laws_steps.proofs.Alike.{live-alike, AreIn, seen-changed, inside-whole}
 use Rattle.pv_laws_steps.proofs.Insides.{insides, inside-none, free-after, own-insides, ended-insides, live-insides}
 use Rattle.pv_laws_steps.proofs.Wholes.{whole-changed}
 
--- two steps of a process answer alike and tell the same lines, and leave the same but for insides from these processes
+-- two steps of a process have the same outcome and lines, and the next states differ only in insides, which are from
+-- these processes
 record StepsTo (pid : ℕ) (ts : List (ℕ × ProcessRecord)) (a b : Stepped) : Type 0 where
   outcome : b.outcome ≡ a.outcome
   lines : b.lines ≡ a.lines
   after : b.after ≡ insides pid ts a.after
 
-module _ (program_of : Bytes → Option Program) (t : State) (pid : ℕ) (whole_t : IsWhole t) where
-  -- a state that takes an inside of t, which is whole and alike, and the step there
+module _ (program_of : Bytes → Option Program) (t : State) (pid : ℕ) (whole_t : IsValid t) where
+  -- a state that takes the inside of a process of t is valid and agrees; the step from it
   record Takes (s : State) (k : ℕ) (q : Process) : Type 0 where
-    whole : IsWhole (with_change s k (become q))
+    whole : IsValid (with_change s k (become q))
     alike : seen pid (with_change s k (become q)) ≡ seen pid t
     steps : StepsBeside k (become q) (step program_of s pid) (step program_of (with_change s k (become q)) pid)
 
-  takes : (s : State) (k : ℕ) (q : Process) → IsWhole s → seen pid s ≡ seen pid t → k ≢ pid → process_at t k ≡ Some q → Takes s k q
+  takes : (s : State) (k : ℕ) (q : Process) → IsValid s → seen pid s ≡ seen pid t → k ≢ pid → process_at t k ≡ Some q → Takes s k q
   takes s k q whole alike other at =
       let there = live-alike s t pid k q alike other at in
-      let fit = fits-become s k there.process q whole there.at there.stands in
+      let fit = fits-become s k there.process q whole there.at there.appears in
       let placed : IsPlaced s.tree s.files q = subst (λ x. IsPlaced x.tree x.files q) (sym alike) (whole_t.processes.placed k q at) in
       record {
-        whole = whole-changed s k there.process q whole there.at there.stands (whole_t.processes.running k q at) placed;
+        whole = whole-changed s k there.process q whole there.at there.appears (whole_t.processes.running k q at) placed;
         alike = seen-changed s pid k (become q) (become-keeps q) other fit ∙ alike;
-        steps = others-alter-nothing program_of s pid k there.process q whole other there.at there.stands;
+        steps = others-alter-nothing program_of s pid k there.process q whole other there.at there.appears;
       }
 
-  -- ---- the insides are taken one after another
+  -- ---- the insides are taken one by one
 
   abbrev Along : List (ℕ × ProcessRecord) → Type 0
-  Along ts = (s : State) → IsWhole s → seen pid s ≡ seen pid t → StepsTo pid ts (step program_of s pid) (step program_of (insides pid ts s) pid)
+  Along ts = (s : State) → IsValid s → seen pid s ≡ seen pid t → StepsTo pid ts (step program_of s pid) (step program_of (insides pid ts s) pid)
 
   none-along : Along []
   none-along s whole alike =
@@ -54,7 +55,7 @@ module _ (program_of : Bytes → Option Program) (t : State) (pid : ℕ) (whole_
         after = ap (λ x. (step program_of x pid).after) (none s) ∙ sym (none (step program_of s pid).after);
       }
 
-  -- a record that gives none
+  -- a record that provides none
   passed-along : (g : ℕ × ProcessRecord) (ts : List (ℕ × ProcessRecord)) → ((u : State) → insides pid (g ∷ ts) u ≡ insides pid ts u) → Along ts → Along (g ∷ ts)
   passed-along g ts same rest s whole alike =
       let steps = rest s whole alike in
@@ -64,7 +65,7 @@ module _ (program_of : Bytes → Option Program) (t : State) (pid : ℕ) (whole_
         after = ap (λ x. (step program_of x pid).after) (same s) ∙ steps.after ∙ sym (same (step program_of s pid).after);
       }
 
-  -- one that gives its own
+  -- a record that provides its own
   taken-along : (k : ℕ) (q : Process) (ts : List (ℕ × ProcessRecord)) → find nat_cmp k ts ≡ None → k ≢ pid → process_at t k ≡ Some q → Along ts → Along ((k, live q) ∷ ts)
   taken-along k q ts free other at rest s whole alike =
       let now = takes s k q whole alike other at in
@@ -88,7 +89,7 @@ module _ (program_of : Bytes → Option Program) (t : State) (pid : ℕ) (whole_
       passed-along (k, ended_record parent status) ts (ended-insides pid k ts parent status (free-after k ts parts.0))
       (steps-along ts parts.1 (λ j v is. are j v (find_number_after j v (k, ended_record parent status) ts sorted is)))
 
-pub steps-by_seen : (program_of : Bytes → Option Program) (s t : State) (pid : ℕ) → IsWhole s → IsWhole t → seen pid s ≡ seen pid t
+pub steps-by_seen : (program_of : Bytes → Option Program) (s t : State) (pid : ℕ) → IsValid s → IsValid t → seen pid s ≡ seen pid t
     → StepsBesideAll pid t (step program_of s pid) (step program_of t pid)
 steps-by_seen program_of s t pid whole whole_t alike =
     let steps = steps-along program_of t pid whole_t t.processes whole_t.processes.ascending (λ k v is. is) s whole alike in

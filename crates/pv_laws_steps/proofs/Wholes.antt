@@ -1,4 +1,4 @@
--- A whole state stays whole where another process takes its inside from a whole state, which has the same tree and open files.
+-- A valid state stays valid if another process takes its inside from a valid state with the same tree and open files.
 use Rattle.std.proofs.Common.{◌≡◌, ◌≢◌, ℕ, ◌≤◌, Bool, true, false, ◌==◌, ◌&&◌, if◌then◌else◌, List, [], ◌∷◌, Option, None, Some, is_some, option_map, refl, ap, ap₂, sym, subst, ◌∙◌, ⊎_elim}
 use Rattle.std.specs.FinMap.Entries.{find, is_sorted, below_all}
 use Rattle.std.specs.List.{list_all}
@@ -7,11 +7,11 @@ use Rattle.std.proofs.lemmas.Bool.{cases_eq}
 use Rattle.pv_model.specs.declared.limits.TheConstants.{PROCESSES}
 use Rattle.pv_model.specs.Calls.Processes.{parent_of}
 use Rattle.pv_model.specs.State.{Process, ProcessRecord, live, ended_record, State, live_process, process_at}
-use Rattle.pv_laws_states.specs.States.{IsRunning, IsPlaced, is_number, AreProcesses, IsWhole}
+use Rattle.pv_laws_states.specs.States.{IsRunning, IsPlaced, is_number, AreProcesses, IsValid}
 use Rattle.pv_laws_states.proofs.Members.{live-found}
-use Rattle.pv_laws_commute.specs.Beside.{change_live, with_change, StandsAlike, become}
-use Rattle.pv_laws_commute.proofs.BesideSteps.{fits-become}
-use Rattle.pv_laws_commute.proofs.Exchange.{changed, change_of, change-itself, find-changed, length-changed, lives-changed, process-changed, trim-changed}
+use Rattle.pv_laws_steps.specs.Beside.{change_live, with_change, AppearsAlike, become}
+use Rattle.pv_laws_steps.proofs.BesideSteps.{fits-become}
+use Rattle.pv_laws_steps.proofs.Exchange.{changed, change_of, change-itself, find-changed, length-changed, lives-changed, process-changed, collect-changed}
 
 -- ---- numbers
 
@@ -27,14 +27,14 @@ numbers-changed : (k : ℕ) (f : Process → Process) (test : ℕ → Bool) (es 
 numbers-changed k f test [] = refl
 numbers-changed k f test (e ∷ es) = ap (λ b. test e.0 && b) (numbers-changed k f test es)
 
-module _ (s : State) (k : ℕ) (p q : Process) (whole : IsWhole s) (at : process_at s k ≡ Some p) (alike : StandsAlike p q) (running : IsRunning q) (placed : IsPlaced s.tree s.files q) where
+module _ (s : State) (k : ℕ) (p q : Process) (whole : IsValid s) (at : process_at s k ≡ Some p) (alike : AppearsAlike p q) (running : IsRunning q) (placed : IsPlaced s.tree s.files q) where
   abbrev f : Process → Process
   f = become q
 
   abbrev u : State
   u = with_change s k f
 
-  -- a live process of the changed state is the changed one, or as it was
+  -- a live process of the changed state is the changed one, or unchanged
   process-cases : (P : ℕ → Process → Type 0) → P k (f p) → ((j : ℕ) (x : Process) → process_at s j ≡ Some x → P j x) → (j : ℕ) (x : Process) → process_at u j ≡ Some x → P j x
   process-cases P here there j x found = ⊎_elim
       (λ same.
@@ -60,7 +60,7 @@ module _ (s : State) (k : ℕ) (p q : Process) (whole : IsWhole s) (at : process
       by true (ended_record n m) is = is
       by false r is = is
 
-  -- a record of the changed state is a changed one
+  -- a record of the changed state is the changed one, or unchanged
   record-cases : (P : ProcessRecord → Type 0) (j : ℕ) → ((r : ProcessRecord) → find nat_cmp j s.processes ≡ Some r → P (change_of k f j r)) → (v : ProcessRecord) → find nat_cmp j u.processes ≡ Some v → P v
   record-cases P j each v found = by (find nat_cmp j s.processes) refl (sym (find-changed k f j s.processes) ∙ found)
     where
@@ -87,12 +87,12 @@ module _ (s : State) (k : ℕ) (p q : Process) (whole : IsWhole s) (at : process
             (λ r there is. ps.ended j parent status (there ∙ ap Some (ended-of_change j r parent status is))) (ended_record parent status) found refl;
       }
 
-  pub whole-changed : IsWhole u
+  pub whole-changed : IsValid u
   whole-changed = record {
     tree = whole.tree;
     files = whole.files;
     processes = processes-changed;
-    trimmed = trim-changed k f s (fits-become s k p q whole at alike) ∙ ap (λ x. with_change x k f) whole.trimmed;
+    collected = collect-changed k f s (fits-become s k p q whole at alike) ∙ ap (λ x. with_change x k f) whole.collected;
     fits = whole.fits;
     not_too_long = whole.not_too_long;
   }

@@ -1,9 +1,9 @@
-//! Worked runs of two processes, by computing.
+//! Worked runs for the law of what a step depends on, by computation.
 
 ghost use Rattle.pv_laws_steps.specs.Examples.{SeenExamples};
 
-/// A getpid of a child leaves all that its parent's step depends on, which is the same step after it; an lseek of the child in an
-/// open file that both share does not, and the parent's lseek is told something else after it.
+/// A child's getpid leaves everything that its parent's step depends on unchanged, and that step is the same after it.
+/// A child's lseek in a shared open file does not, and the parent's lseek returns a different offset after it.
 pub fn seen_happens()
     ensures { SeenExamples }
 {}

@@ -1,11 +1,28 @@
-//! Laws of what a step depends on, of the machine's definitions in `pv_model`.
+//! Laws of single steps: what a step depends on, which steps commute, and what changes in a larger image.
 //!
-//! Each function has an empty body: its contract is the law, which the check proves. The statements stand in `specs/`, one
-//! file for a subject:
+//! Steps of two processes commute if, in either order, each has the same outcome and lines and the final state is the
+//! same. Each law is a function with an empty body whose contract is the statement, defined in `specs/`.
 //!
-//! - `seen`: what of a state a step depends on, and what it leaves in two states that are alike in this.
-//! - `examples`: two states that are alike, and two that are not.
+//! - Dependence: `seen`, `beside` (other processes), `offsets` (open files), `tableless` (unveil tables).
+//! - Commuting steps: `commuting`, and by calls `asking`, `offsets`, `writes`, `growing`, `holding`, `entries`.
+//! - Larger images: `larger_room`, `larger_runs`, `larger_images`. A larger image is of version 2 and has at least five
+//!   times as many data blocks and at least as many inodes.
+//! - `*examples`: worked runs and counterexamples.
 #![tactic(auto)]
 
+pub mod asking;
+pub mod beside;
+pub mod commute_examples;
+pub mod commuting;
+pub mod entries;
 pub mod examples;
+pub mod growing;
+pub mod holding;
+pub mod larger_examples;
+pub mod larger_images;
+pub mod larger_room;
+pub mod larger_runs;
+pub mod offsets;
 pub mod seen;
+pub mod tableless;
+pub mod writes;

@@ -1,4 +1,4 @@
--- Lemmas on the directories above another.
+-- The ancestors of a directory.
 use Rattle.std.proofs.Common.{◌≡◌, ◌≢◌, ◌↔◌, if◌then◌else◌, ℕ, zero, suc, ◌<◌, ◌≤◌, Bool, true, false, cond, not, ◌||◌, ◌==◌, eqb, List, [], ◌∷◌, ◌++◌, append-nil, flat_map, option_to_list, length, Option, None, Some, is_some, is_none, refl, ap, sym, ◌∙◌, arith, ⊎_elim}
 use Rattle.std.specs.List.{list_any, IsDistinct, AllByRecursion}
 use Rattle.std.proofs.lemmas.Bool.{eqb-true, eqb-false, eq-eqb, ne_eqb, or_cases, or_parts, or_left, or_right, cases_Bool, cases_eq}
@@ -6,22 +6,22 @@ use Rattle.std.proofs.lemmas.Map.Steps.{length-le_from_distinct_below}
 use Rattle.pv_model.specs.Bytes.{Bytes}
 use Rattle.pv_model.specs.Calls.Paths.{contains_directory}
 use Rattle.pv_model.specs.Tree.{Tree, root, is_directory_at, find_entry, parent, above_or_none, ancestors_within, ancestors, IsAtOrAbove, itself, above as is_above, is_removed, IsReached, from_root, by_entry, IsWellFormed}
-use Rattle.pv_laws_trees.specs.Tree.{IsSound, Stands}
+use Rattle.pv_laws_trees.specs.Tree.{IsSound, Appears}
 use Rattle.pv_laws_trees.proofs.Changes.{directory-below, some-below, has_entry-directory}
 use Rattle.pv_laws_trees.proofs.Trees.{ordered, sound, parent-entry, parent-none_named, entry-parent}
 
--- a directory that stands is reached
-pub stands-reached : (t : Tree) → IsSound t → (d : ℕ) → is_removed t d ≡ false → IsReached t d
-stands-reached t s d stands = by (parent t d) refl stands
+-- a directory that is not removed is reached from the root
+pub appears-reached : (t : Tree) → IsSound t → (d : ℕ) → is_removed t d ≡ false → IsReached t d
+appears-reached t s d appears = by (parent t d) refl appears
   where
     by : (o : Option ℕ) → parent t d ≡ o → is_none o ≡ false → IsReached t d
-    by None is stands = cc
-    by (Some a) is stands = ⊎_elim
+    by None is appears = cc
+    by (Some a) is appears = ⊎_elim
         (λ top. Rattle.std.proofs.Common.subst (IsReached t) (sym top) from_root)
         (λ other. let found = parent-entry t (ordered t s.each_node) d a other is in s.named_are_reached a found.0 d found.1)
         (cases_eq d root)
 
--- a directory with an entry stands
+-- a directory with an entry is not removed
 pub entry-reached : (t : Tree) → IsSound t → (d : ℕ) (name : Bytes) (n : ℕ) → find_entry t d name ≡ Some n → IsReached t d
 entry-reached t s d name n found = by (parent t d) refl
   where
@@ -30,9 +30,9 @@ entry-reached t s d name n found = by (parent t d) refl
         let top = parent-none_named t d is in
         let empty = s.removed_are_empty d (has_entry-directory t d name n found) top.0 top.1 in
         let none : find_entry t d name ≡ None = ap (λ es. Rattle.std.specs.FinMap.Entries.find Rattle.pv_laws_trees.proofs.Entries.by_name name es) empty in cc
-    by (Some a) is = stands-reached t s d (ap is_none is)
+    by (Some a) is = appears-reached t s d (ap is_none is)
 
--- so many steps below the root
+-- a directory is k steps below the root
 pub data IsBelow (t : Tree) : ℕ → ℕ → Type 0 where
   at_root : IsBelow t root 0
   one_below : (d above k : ℕ) → d ≢ root → parent t d ≡ Some above → IsBelow t above k → IsBelow t d (suc k)
@@ -48,7 +48,7 @@ module _ (t : Tree) (s : IsSound t) where
       let up = reached-below d above (has_entry-directory t d name n found) in
       (suc up.0, one_below n d up.0 (s.root_is_unnamed d name n found) (entry-parent t s n d name is found) up.1)
 
-  -- there is one way up
+  -- the path to the root is unique
   root_depth : (d k : ℕ) → IsBelow t d k → d ≡ root → k ≡ 0
   root_depth _ _ at_root same = refl
   root_depth _ _ (one_below d above k other up below) same = absurd (other same)
@@ -62,7 +62,7 @@ module _ (t : Tree) (s : IsSound t) where
       by _ above k other up same _ (one_below e above' i other' up' below') =
           let one : above' ≡ above = cc in ap suc (same i (Rattle.std.proofs.Common.subst (λ a. IsBelow t a i) one below'))
 
-  -- the directory and all above
+  -- the directory and its ancestors
   chain : (d k : ℕ) → IsBelow t d k → List ℕ
   chain _ _ at_root = root ∷ []
   chain _ _ (one_below d above k other up below) = d ∷ chain above k below
@@ -96,14 +96,14 @@ module _ (t : Tree) (s : IsSound t) where
   is_node_below _ _ (one_below d above k other up below) =
       let found = parent-entry t (ordered t s.each_node) d above other up in some-below t d (s.entries_are_nodes above found.0 d found.1)
 
-  -- fewer steps than there are numbers
+  -- the depth is less than the number of nodes
   pub depth-below : (d k : ℕ) → IsBelow t d k → k < length t.nodes
   depth-below d k b =
       let few = length-le_from_distinct_below (chain d k b) (length t.nodes) (distinct-chain d k b)
       (λ q is. let found = in_chain d k b q is in is_node_below q found.0 found.2) in
       omega (arith, few, length-chain d k b)
 
--- reached by directories that are not n
+-- a directory is reached without passing n
 pub data ReachedWithout (t : Tree) (n : ℕ) : ℕ → Type 0 where
   root_without : root ≢ n → ReachedWithout t n root
   entry_without : (d : ℕ) (name : Bytes) (e : ℕ) → ReachedWithout t n d → find_entry t d name ≡ Some e → e ≢ n → ReachedWithout t n e
@@ -115,7 +115,7 @@ module _ (t : Tree) (s : IsSound t) where
   above-is : (d above : ℕ) → d ≢ root → parent t d ≡ Some above → above_or_none t d ≡ above ∷ []
   above-is d above other up = ap (λ b. cond b [] (option_to_list (parent t d))) (ne_eqb d root other) ∙ ap option_to_list up
 
-  -- with steps enough
+  -- the ancestors, given enough steps
   ancestors-is : (d above steps : ℕ) → d ≢ root → parent t d ≡ Some above → ancestors_within t (suc steps) d ≡ d ∷ ancestors_within t steps above
   ancestors-is d above steps other up = ap (λ (ups : List ℕ). d ∷ flat_map (ancestors_within t steps) ups) (above-is d above other up) ∙ ap (λ (ups : List ℕ). d ∷ ups) (append-nil (ancestors_within t steps above))
 
@@ -127,11 +127,11 @@ module _ (t : Tree) (s : IsSound t) where
       let found = parent-entry t (ordered t s.each_node) d above other up in
       entry_without above found.0 d (without n above k below steps (omega arith) parts.1) found.1 (apart_from d n parts.0)
 
-  -- a directory that does not contain another does not stand above it
+  -- a directory that does not contain another is not an ancestor of it
   pub not_contained : (n d : ℕ) → is_directory_at t d ≡ true → is_removed t d ≡ false → contains_directory t n d ≡ false → ReachedWithout t n d
   unfolding ancestors
-  not_contained n d is stands none =
-      let below = reached-below t s d (stands-reached t s d stands) is in without n d below.0 below.1 (length t.nodes) (depth-below t s d below.0 below.1) none
+  not_contained n d is appears none =
+      let below = reached-below t s d (appears-reached t s d appears) is in without n d below.0 below.1 (length t.nodes) (depth-below t s d below.0 below.1) none
 
   leads : (d k : ℕ) → IsBelow t d k → (steps : ℕ) → k < steps → list_any (λ e. e == root) (ancestors_within t steps d) ≡ true
   leads _ _ b zero few = absurd (omega arith)
@@ -139,7 +139,7 @@ module _ (t : Tree) (s : IsSound t) where
   leads _ _ (one_below d above k other up below) (suc steps) few =
       ap (list_any (λ e. e == root)) (ancestors-is d above steps other up) ∙ or_right (d == root) _ (leads above k below steps (omega arith))
 
-  -- what stands above is no deeper
+  -- an ancestor is not deeper
   higher : (q d k : ℕ) → IsBelow t d k → (steps : ℕ) → list_any (λ e. e == q) (ancestors_within t steps d) ≡ true → (j : ℕ) × (j ≤ k) × IsBelow t q j
   higher q _ _ b zero is = cc
   higher q _ _ at_root (suc steps) is = ⊎_elim (λ here. (0, omega arith, Rattle.std.proofs.Common.subst (λ a. IsBelow t a 0) (eqb-true root q here) at_root)) (λ none. cc) (or_cases (root == q) false is)
@@ -148,22 +148,22 @@ module _ (t : Tree) (s : IsSound t) where
       (λ there. let found = higher q above k below steps there in (found.0, omega (arith, found.1), found.2))
       (or_cases (d == q) (list_any (λ e. e == q) (ancestors_within t steps above)) (sym (ap (list_any (λ e. e == q)) (ancestors-is d above steps other up)) ∙ is))
 
-pub parents-lead : (t : Tree) → IsWellFormed t → (d : ℕ) → Stands t d → list_any (λ e. e == root) (ancestors t d) ≡ true
+pub parents-lead : (t : Tree) → IsWellFormed t → (d : ℕ) → Appears t d → list_any (λ e. e == root) (ancestors t d) ≡ true
 unfolding ancestors
-parents-lead t w d stands =
+parents-lead t w d appears =
     let s = sound t w in
-    let below = reached-below t s d (stands-reached t s d stands.1) stands.0 in leads t s d below.0 below.1 (length t.nodes) (depth-below t s d below.0 below.1)
+    let below = reached-below t s d (appears-reached t s d appears.1) appears.0 in leads t s d below.0 below.1 (length t.nodes) (depth-below t s d below.0 below.1)
 
-pub none-above_itself : (t : Tree) → IsWellFormed t → (d above : ℕ) → Stands t d → d ≢ root → parent t d ≡ Some above → contains_directory t d above ≡ false
+pub none-above_itself : (t : Tree) → IsWellFormed t → (d above : ℕ) → Appears t d → d ≢ root → parent t d ≡ Some above → contains_directory t d above ≡ false
 unfolding ancestors
-none-above_itself t w d above stands other up =
+none-above_itself t w d above appears other up =
     let s = sound t w in
     let found = parent-entry t (ordered t s.each_node) d above other up in
     let top = reached-below t s above (entry-reached t s above found.0 d found.1) (has_entry-directory t above found.0 d found.1) in
     let deep = one_below d above top.0 other up top.1 in
     ⊎_elim (λ is. let high = higher t s d above top.0 top.1 (length t.nodes) is in absurd (omega (arith, high.1, depth t s d (suc top.0) high.0 deep high.2))) (λ none. none) (cases_Bool (list_any (λ e. e == d) (ancestors t above)))
 
--- ---- what climbing meets is what is above
+-- ---- climbing finds exactly the ancestors
 
 module _ (t : Tree) (e : ℕ) where
   abbrev Meets : List ℕ → Type 0
@@ -177,7 +177,7 @@ module _ (t : Tree) (e : ℕ) where
       by false top None up met = cc met
       by false top (Some a) up met = is_above d a (eqb-false d root top) up (on a (ap (list_any (λ x. x == e)) (sym (append-nil (ancestors_within t steps a))) ∙ met))
 
-  -- what is met is above
+  -- a directory that climbing finds is an ancestor
   met-above : (steps d : ℕ) → Meets (ancestors_within t steps d) → IsAtOrAbove t e d
   met-above zero d met = cc met
   met-above (suc steps) d met =
@@ -194,7 +194,7 @@ module _ (t : Tree) (s : IsSound t) (e : ℕ) where
   below-up _ _ (one_below d a k apart found below) other up is =
       let same : a ≡ up = cc in (k, refl, Rattle.std.proofs.Common.subst (λ x. IsBelow t x k) same below)
 
-  -- what is above is met, in steps enough
+  -- climbing finds each ancestor, given enough steps
   above-met : (d k : ℕ) → IsBelow t d k → (steps : ℕ) → k < steps → IsAtOrAbove t e d → Meets t e (ancestors_within t steps d)
   above-met d k b zero few is = absurd (omega arith)
   above-met _ k b (suc steps) few itself = or_left (e == e) _ (eq-eqb e e refl)

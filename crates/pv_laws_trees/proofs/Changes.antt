@@ -1,4 +1,4 @@
--- Lemmas on trees that are changed.
+-- Changes of trees.
 use Rattle.std.proofs.Common.{◌≡◌, ◌≢◌, ℕ, ◌<◌, true, bytes_eq, length, Option, None, Some, is_some, refl, ap, ap₂, sym, ◌∙◌, inl, inr, ◌⊎◌, ⊎_elim}
 use Rattle.std.specs.List.{list_all}
 use Rattle.std.specs.FinMap.Entries.{find, put, where_key, is_sorted, is_sorted-put, is_sorted-where_key}
@@ -6,14 +6,14 @@ use Rattle.std.proofs.lemmas.Bool.{and_parts, and_from, cases_eq, cases_Bool}
 use Rattle.std.proofs.lemmas.Cmp.{nat_list_cmp_total}
 use Rattle.pv_model.specs.Bytes.{Bytes}
 use Rattle.pv_model.specs.Tree.{Entries, Node, directory_node, file_node, link_node, Tree, node_at, entries_of, entries_at, is_directory, is_directory_at, find_entry, with_node, with_entry, without_entry, is_name, is_node}
-use Rattle.pv_laws_trees.proofs.Entries.{by_name, is_other, find-put_same, find-put_other, find-without_same, find-without_other, list_all-put, list_all-filter, bytes_eq-same, told, tell}
+use Rattle.pv_laws_trees.proofs.Entries.{by_name, is_other, find-put_same, find-put_other, find-without_same, find-without_other, list_all-put, list_all-filter, bytes_eq-same, reported, report}
 use Rattle.pv_laws_trees.proofs.Numbered.{at_number-below, length-with_number, with_number-same, with_number-other}
 
--- names are equal or not
+-- two names are equal or not
 pub cases_name : (a b : Bytes) → (a ≡ b) ⊎ (a ≢ b)
 cases_name a b = ⊎_elim (λ same. inl (bytes_eq-same a b same)) (λ other. inr (λ same. let is : bytes_eq a b ≡ true = ap (bytes_eq a) (sym same) ∙ Rattle.pv_laws_trees.proofs.Entries.bytes_eq-itself a in cc)) (cases_Bool (bytes_eq a b))
 
--- ---- a node in another's place
+-- ---- a node replaced by another
 
 pub node_at-same : (t : Tree) (n : ℕ) (node : Node) → n < length t.nodes → node_at (with_node t n node) n ≡ Some node
 node_at-same t n node below = with_number-same t.nodes n node below
@@ -21,7 +21,7 @@ node_at-same t n node below = with_number-same t.nodes n node below
 pub node_at-other : (t : Tree) (n : ℕ) (node : Node) (m : ℕ) → n < length t.nodes → m ≢ n → node_at (with_node t n node) m ≡ node_at t m
 node_at-other t n node m below other = with_number-other t.nodes n node m below other
 
--- a directory is a node
+-- a directory has a number below the length
 pub directory-below : (t : Tree) (d : ℕ) → is_directory_at t d ≡ true → d < length t.nodes
 directory-below t d is = by (node_at t d) refl is
   where
@@ -36,7 +36,7 @@ some-below t n is = by (node_at t n) refl is
     by None at is = cc
     by (Some node) at is = at_number-below t.nodes n node at
 
--- a directory with entries
+-- a node with an entry is a directory
 pub has_entry-directory : (t : Tree) (d : ℕ) (name : Bytes) (n : ℕ) → find_entry t d name ≡ Some n → is_directory_at t d ≡ true
 has_entry-directory t d name n is = by (node_at t d) is
   where
@@ -46,7 +46,7 @@ has_entry-directory t d name n is = by (node_at t d) is
     by (Some (file_node executable bytes)) is = cc
     by (Some (link_node text)) is = cc
 
--- trees with the same directories and the same numbers, and nodes that are well-formed
+-- trees with the same directories and numbers, and valid nodes
 pub record SameShape (t u : Tree) : Type 0 where
   pub numbers : length u.nodes ≡ length t.nodes
   pub blocks : u.blocks ≡ t.blocks
@@ -71,7 +71,7 @@ directory_is_some : (o : Option Node) → is_directory o ≡ true → is_some o 
 directory_is_some None is = cc
 directory_is_some (Some node) is = refl
 
--- a directory with other entries
+-- a directory with its entries replaced
 pub shape-entries : (t : Tree) (d : ℕ) (es : Entries) → is_directory_at t d ≡ true
     → ((n : ℕ) (node : Node) → node_at t n ≡ Some node → is_node t.version node ≡ true) → is_node t.version (directory_node es) ≡ true
     → SameShape t (with_node t d (directory_node es))
@@ -94,7 +94,7 @@ shape-entries t d es is each good =
           (λ other. each n node (sym (node_at-other t d (directory_node es) n below other) ∙ at)) (cases_eq n d);
     }
 
--- what the entries of a directory are, as a node
+-- the entries of a directory are valid as a node
 pub entries-good : (t : Tree) (d : ℕ) → ((n : ℕ) (node : Node) → node_at t n ≡ Some node → is_node t.version node ≡ true)
     → (is_sorted by_name (entries_at t d) ≡ true) × (list_all (λ (e : Bytes × ℕ). is_name t.version e.0) (entries_at t d) ≡ true)
 entries-good t d each = by (node_at t d) refl
@@ -110,17 +110,17 @@ pub shape-with_entry : (t : Tree) (d : ℕ) (name : Bytes) (n : ℕ) → is_dire
 shape-with_entry t d name n is each good =
     let old = entries-good t d each in
     shape-entries t d (put by_name name n (entries_at t d)) is each
-    (and_from _ _ (told _ (is_sorted-put by_name nat_list_cmp_total name n (entries_at t d) (tell _ old.0))) (list_all-put (is_name t.version) name n (entries_at t d) good old.1))
+    (and_from _ _ (reported _ (is_sorted-put by_name nat_list_cmp_total name n (entries_at t d) (report _ old.0))) (list_all-put (is_name t.version) name n (entries_at t d) good old.1))
 
 pub shape-without_entry : (t : Tree) (d : ℕ) (name : Bytes) → is_directory_at t d ≡ true
     → ((n : ℕ) (node : Node) → node_at t n ≡ Some node → is_node t.version node ≡ true) → SameShape t (without_entry t d name)
 shape-without_entry t d name is each =
     let old = entries-good t d each in
     shape-entries t d (where_key by_name (is_other name) (entries_at t d)) is each
-    (and_from _ _ (told _ (is_sorted-where_key by_name (is_other name) (entries_at t d) (tell _ old.0)))
+    (and_from _ _ (reported _ (is_sorted-where_key by_name (is_other name) (entries_at t d) (report _ old.0)))
     (list_all-filter (λ (e : Bytes × ℕ). is_name t.version e.0) (λ e. is_other name e.0) (entries_at t d) old.1))
 
--- ---- what is found after a change of entries
+-- ---- lookups after a change of entries
 
 pub entries-with_node : (t : Tree) (d : ℕ) (es : Entries) → d < length t.nodes → entries_at (with_node t d (directory_node es)) d ≡ es
 entries-with_node t d es below = ap entries_of (node_at-same t d (directory_node es) below)
@@ -138,7 +138,7 @@ module _ (t : Tree) (d : ℕ) (name : Bytes) (is : is_directory_at t d ≡ true)
   pub found-with_other : (n : ℕ) (q : Bytes) → q ≢ name → find_entry (with_entry t d name n) d q ≡ find_entry t d q
   found-with_other n q other = ap (find by_name q) (entries-with_node t d (put by_name name n (entries_at t d)) (directory-below t d is)) ∙ find-put_other q name n (entries_at t d) other
 
-  -- each entry is the new one, or was there
+  -- each entry is the new one, or existed before
   pub with_entry-cases : (n e : ℕ) (q : Bytes) (m : ℕ) → find_entry (with_entry t d name n) e q ≡ Some m
       → ((e ≡ d) × (q ≡ name) × (m ≡ n)) ⊎ (((e ≡ d) → (q ≡ name) → ⊥) × (find_entry t e q ≡ Some m))
   with_entry-cases n e q m found =
@@ -167,7 +167,7 @@ module _ (t : Tree) (d : ℕ) (name : Bytes) (is : is_directory_at t d ≡ true)
   pub found-without_other : (q : Bytes) → q ≢ name → find_entry (without_entry t d name) d q ≡ find_entry t d q
   found-without_other q other = ap (find by_name q) (entries-with_node t d (where_key by_name (is_other name) (entries_at t d)) (directory-below t d is)) ∙ find-without_other q name (entries_at t d) other
 
-  -- each entry was there, under another name
+  -- each entry existed before, under another name
   pub without_entry-was : (e : ℕ) (q : Bytes) (m : ℕ) → find_entry (without_entry t d name) e q ≡ Some m → ((e ≡ d) → (q ≡ name) → ⊥) × (find_entry t e q ≡ Some m)
   without_entry-was e q m found =
       ⊎_elim

@@ -1,4 +1,4 @@
--- Trees that stay well-formed.
+-- Changes that keep a tree well-formed.
 use Rattle.std.proofs.Common.{◌≡◌, ◌≢◌, ℕ, suc, ◌<◌, ◌≤◌, true, false, [], ◌∷◌, drop, length, Option, None, Some, is_some, refl, ap, ap₂, sym, subst, ◌∙◌, arith, inl, inr, ◌⊎◌, ⊎_elim}
 use Rattle.std.specs.FinMap.Entries.{find}
 use Rattle.std.proofs.lemmas.Bool.{cases_eq}
@@ -7,8 +7,8 @@ use Rattle.pv_model.specs.Calls.Descriptors.{with_content, with_content_of}
 use Rattle.pv_model.specs.Calls.Paths.{contains_directory, entries_there}
 use Rattle.pv_model.specs.Numbered.{Numbered, at_number, least_free}
 use Rattle.pv_model.specs.Tree.{Node, directory_node, file_node, link_node, Tree, root, node_at, entries_of, entries_at, is_directory, is_directory_at, find_entry, parent, with_node, new_number, with_new_node, with_entry, without_entry, is_name, is_node, IsReached, from_root, by_entry, IsWellFormed}
-use Rattle.pv_laws_trees.specs.Tree.{IsSound, Stands}
-use Rattle.pv_laws_trees.proofs.Above.{stands-reached, entry-reached, ReachedWithout, root_without, entry_without, not_contained}
+use Rattle.pv_laws_trees.specs.Tree.{IsSound, Appears}
+use Rattle.pv_laws_trees.proofs.Above.{appears-reached, entry-reached, ReachedWithout, root_without, entry_without, not_contained}
 use Rattle.pv_laws_trees.proofs.Changes.{SameShape, shape-along, shape-with_entry, shape-without_entry, node_at-same, node_at-other, some-below, directory-below, has_entry-directory, entries-beside, found-with, with_entry-cases, with_entry-stays, without_entry-was, without_entry-stays, found-without}
 use Rattle.pv_laws_trees.proofs.Entries.{by_name}
 use Rattle.pv_laws_trees.proofs.Numbered.{at_number-below, length-with_number, least_free-free}
@@ -18,19 +18,19 @@ use Rattle.pv_laws_trees.proofs.Keeping.{reached-along}
 not_some : (o : Option Node) → o ≡ None → is_some o ≡ true → ⊥
 not_some o none is = let said = ap is_some none in cc
 
--- an entry is among no empty entries
+-- there is no entry among no entries
 no_entry : {P : Type 0} (t : Tree) (d : ℕ) (name : Bytes) (n : ℕ) → entries_at t d ≡ [] → find_entry t d name ≡ Some n → P
 no_entry t d name n empty found = let none : find_entry t d name ≡ None = ap (λ es. find by_name name es) empty in cc
 
--- ---- another node without entries in a place
+-- ---- a node replaced by one without entries
 
--- where the node's entries stay, all entries do
+-- if the node's entries stay, all entries stay
 pub same_entries : (t : Tree) (m : ℕ) (node : Node) → m < length t.nodes → entries_of (Some node) ≡ entries_at t m → (d : ℕ) → entries_at (with_node t m node) d ≡ entries_at t d
 same_entries t m node below same d =
     ⊎_elim (λ here. ap (entries_at (with_node t m node)) here ∙ ap entries_of (node_at-same t m node below) ∙ same ∙ ap (entries_at t) (sym here))
     (λ away. entries-beside t m node d below away) (cases_eq d m)
 
--- a node with the same entries, where it is a directory only if it was or is not named
+-- a node with the same entries, which is a directory only if it was one or has no name
 pub sound-with_node : (t : Tree) → IsSound t → (m : ℕ) (node : Node) → m ≢ 0 → m < length t.nodes → is_node t.version node ≡ true
     → entries_of (Some node) ≡ entries_at t m
     → (is_directory_at t m ≡ true → is_directory (Some node) ≡ true)
@@ -69,7 +69,7 @@ sound-with_node t s m node positive below good same stays was empty =
           (λ away. es d ∙ s.removed_are_empty d (sym (ap is_directory (node_at-other t m node d below away)) ∙ is) other (λ e name found. none e name (finds e name ∙ found))) (cases_eq d m);
     }
 
--- a file's bytes may change
+-- the bytes of a file may change
 content_of : (t : Tree) → IsSound t → (f : ℕ) (bytes : Bytes) (o : Option Node) → node_at t f ≡ o → IsSound (with_content_of t f o bytes)
 content_of t s f bytes None at = s
 content_of t s f bytes (Some (directory_node es)) at = s
@@ -81,7 +81,7 @@ content_of t s f bytes (Some (file_node executable old)) at =
 pub sound-content : (t : Tree) → IsSound t → (f : ℕ) (bytes : Bytes) → IsSound (with_content t f bytes)
 sound-content t s f bytes = content_of t s f bytes (node_at t f) refl
 
--- ---- one entry more
+-- ---- one more entry
 
 pub shape-no_zero : (t u : Tree) → IsSound t → SameShape t u → (m : ℕ) (node : Node) → node_at u m ≡ Some node → m ≢ 0
 shape-no_zero t u s shape m node at none = by (node_at t m) refl (sym (shape.there m) ∙ ap is_some at)
@@ -90,7 +90,7 @@ shape-no_zero t u s shape m node at none = by (node_at t m) refl (sym (shape.the
     by None is there = cc
     by (Some x) is there = s.no_zero m x is none
 
--- a directory that is reached, the root aside, is named
+-- a directory that is reached, other than the root, has a name
 pub reached-named : (t : Tree) (d : ℕ) → d ≢ root → IsReached t d → (e : ℕ) × (q : Bytes) × (find_entry t e q ≡ Some d)
 reached-named t _ below from_root = absurd (below refl)
 reached-named t _ below (by_entry d name n above found) = (d, name, found)
@@ -130,7 +130,7 @@ sound-with_entry t s d name n is reached free good there other unnamed =
 
 -- ---- one entry less
 
--- what has entries is still reached when an entry goes whose node has none
+-- a node with entries is still reached after the removal of an entry whose node has none
 still : (t : Tree) → IsSound t → (d : ℕ) (name : Bytes) (n : ℕ) → find_entry t d name ≡ Some n → entries_at t n ≡ []
     → ((e : ℕ) (q : Bytes) (m : ℕ) → find_entry t e q ≡ Some m → ((e ≡ d) → (q ≡ name) → ⊥) → find_entry (without_entry t d name) e q ≡ Some m)
     → (x : ℕ) → IsReached t x → (q : Bytes) (m : ℕ) → find_entry t x q ≡ Some m → IsReached (without_entry t d name) x
@@ -169,7 +169,7 @@ sound-without_entry t s d name n found empty =
           (cases_eq x n);
     }
 
--- ---- another name
+-- ---- a rename
 
 module _ (t : Tree) (s : IsSound t) (d : ℕ) (name : Bytes) (e : ℕ) (new : Bytes) (n : ℕ)
     (found : find_entry t d name ≡ Some n) (is : is_directory_at t e ≡ true) (good : is_name t.version new ≡ true)
@@ -194,7 +194,7 @@ module _ (t : Tree) (s : IsSound t) (d : ℕ) (name : Bytes) (e : ℕ) (new : By
       shape-along t between moved shape_between
       (shape-with_entry between e new n into shape_between.each_node (ap (λ v. is_name v new) shape_between.version ∙ good))
 
-  -- each entry is the new one, or was there under another name than either
+  -- each entry is the new one, or existed before under a third name
   parts : (a : ℕ) (q : Bytes) (m : ℕ) → find_entry moved a q ≡ Some m
       → ((a ≡ e) × (q ≡ new) × (m ≡ n)) ⊎ (((a ≡ d) → (q ≡ name) → ⊥) × (find_entry t a q ≡ Some m))
   parts a q m has = ⊎_elim (λ at_new. inl at_new) (λ old. inr (without_entry-was t d name from a q m old.1)) (with_entry-cases between e new into n a q m has)
@@ -202,15 +202,15 @@ module _ (t : Tree) (s : IsSound t) (d : ℕ) (name : Bytes) (e : ℕ) (new : By
   stays : (a : ℕ) (q : Bytes) (m : ℕ) → find_entry t a q ≡ Some m → ((a ≡ d) → (q ≡ name) → ⊥) → ((a ≡ e) → (q ≡ new) → ⊥) → find_entry moved a q ≡ Some m
   stays a q m has other beside = with_entry-stays between e new into n a q m (without_entry-stays t d name from a q m has other) beside
 
-  -- the entry that goes is for n
+  -- the removed entry names n
   for_n : (a : ℕ) (q : Bytes) (x : ℕ) → find_entry t a q ≡ Some x → a ≡ d → q ≡ name → x ≡ n
   for_n a q x has here same = let value : Some n ≡ Some x = sym found ∙ ap₂ (find_entry t) (sym here) (sym same) ∙ has in cc value
 
-  -- what the new name had has no entries
+  -- the node that the new name had has no entries
   bare : (a : ℕ) (q : Bytes) (x : ℕ) → find_entry t a q ≡ Some x → a ≡ e → q ≡ new → entries_at t x ≡ []
   bare a q x has here same = empty x (ap₂ (find_entry t) (sym here) (sym same) ∙ has)
 
-  -- the way to e goes round n
+  -- the path to e avoids n
   to_e : (x : ℕ) → ReachedWithout t n x → (x ≡ e) ⊎ ((q : Bytes) × (m : ℕ) × (find_entry t x q ≡ Some m)) → IsReached moved x
   to_e _ (root_without other) why = from_root
   to_e _ (entry_without a q x above has other) why =
@@ -304,28 +304,28 @@ sound-with_new_node t s d name node is reached none good fine empty below =
 pub stays-content : (t : Tree) → IsWellFormed t → (f : ℕ) (bytes : Bytes) → IsWellFormed (with_content t f bytes)
 stays-content t w f bytes = well_formed (with_content t f bytes) (sound-content t (sound t w) f bytes)
 
-pub stays-new_node : (t : Tree) → IsWellFormed t → (d : ℕ) (name : Bytes) (node : Node) → Stands t d → find_entry t d name ≡ None → is_name t.version name ≡ true
+pub stays-new_node : (t : Tree) → IsWellFormed t → (d : ℕ) (name : Bytes) (node : Node) → Appears t d → find_entry t d name ≡ None → is_name t.version name ≡ true
     → is_node t.version node ≡ true → entries_of (Some node) ≡ [] → new_number t ≤ t.inodes → IsWellFormed (with_new_node t d name node)
-stays-new_node t w d name node stands none good fine empty within =
+stays-new_node t w d name node appears none good fine empty within =
     let s = sound t w in
     well_formed (with_new_node t d name node)
-    (sound-with_new_node t s d name node stands.0 (stands-reached t s d stands.1) none good fine empty (omega (arith, s.numbers)))
+    (sound-with_new_node t s d name node appears.0 (appears-reached t s d appears.1) none good fine empty (omega (arith, s.numbers)))
 
-pub stays-with_entry : (t : Tree) → IsWellFormed t → (d : ℕ) (name : Bytes) (n : ℕ) → Stands t d → find_entry t d name ≡ None → is_name t.version name ≡ true
+pub stays-with_entry : (t : Tree) → IsWellFormed t → (d : ℕ) (name : Bytes) (n : ℕ) → Appears t d → find_entry t d name ≡ None → is_name t.version name ≡ true
     → is_some (node_at t n) ≡ true → is_directory_at t n ≡ false → IsWellFormed (with_entry t d name n)
-stays-with_entry t w d name n stands none good there plain =
+stays-with_entry t w d name n appears none good there plain =
     let s = sound t w in
     well_formed (with_entry t d name n)
-    (sound-with_entry t s d name n stands.0 (stands-reached t s d stands.1) none good there
+    (sound-with_entry t s d name n appears.0 (appears-reached t s d appears.1) none good there
     (λ top. let dir = s.root_is_directory in let isnt : is_directory_at t root ≡ false = ap (is_directory_at t) (sym top) ∙ plain in cc)
     (λ dir. cc))
 
 pub stays-without_entry : (t : Tree) → IsWellFormed t → (d : ℕ) (name : Bytes) (n : ℕ) → find_entry t d name ≡ Some n → entries_at t n ≡ [] → IsWellFormed (without_entry t d name)
 stays-without_entry t w d name n found empty = well_formed (without_entry t d name) (sound-without_entry t (sound t w) d name n found empty)
 
-pub stays-renamed : (t : Tree) → IsWellFormed t → (d : ℕ) (name : Bytes) (e : ℕ) (new : Bytes) (n : ℕ) → find_entry t d name ≡ Some n → Stands t e → is_name t.version new ≡ true
+pub stays-renamed : (t : Tree) → IsWellFormed t → (d : ℕ) (name : Bytes) (e : ℕ) (new : Bytes) (n : ℕ) → find_entry t d name ≡ Some n → Appears t e → is_name t.version new ≡ true
     → contains_directory t n e ≡ false → find_entry t e new ≢ Some n → entries_there t (find_entry t e new) ≡ [] → IsWellFormed (with_entry (without_entry t d name) e new n)
-stays-renamed t w d name e new n found stands good clear another empty =
+stays-renamed t w d name e new n found appears good clear another empty =
     let s = sound t w in
     well_formed (with_entry (without_entry t d name) e new n)
-    (sound-moved t s d name e new n found stands.0 good (not_contained t s n e stands.0 stands.1 clear) another (λ m has. ap (entries_there t) (sym has) ∙ empty))
+    (sound-moved t s d name e new n found appears.0 good (not_contained t s n e appears.0 appears.1 clear) another (λ m has. ap (entries_there t) (sym has) ∙ empty))

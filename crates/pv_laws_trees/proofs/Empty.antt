@@ -1,4 +1,4 @@
--- The tree of the root alone.
+-- The tree with only the root.
 use Rattle.std.proofs.Common.{◌≡◌, ℕ, zero, suc, ◌-◌, ◌≤◌, true, false, [], length, replicate, None, Some, refl, ap, arith}
 use Rattle.std.specs.FinMap.Entries.{find}
 use Rattle.std.proofs.lemmas.Bool.{le-leb}
@@ -11,7 +11,7 @@ use Rattle.pv_model.specs.Tree.{Node, directory_node, Tree, root, node_at, entri
 use Rattle.pv_laws_trees.specs.Tree.{IsSound}
 use Rattle.pv_laws_trees.proofs.Entries.{by_name}
 
--- so many numbers with nothing under them
+-- a map without values
 abbrev pub empties : ℕ → Numbered Node
 empties k = replicate k None
 

@@ -1,4 +1,4 @@
--- Lemmas on the entries of one directory.
+-- The entries of one directory.
 use Rattle.std.proofs.Common.{◌≡◌, ◌≢◌, ℕ, Bool, true, false, cond, not, ◌==◌, List, [], ◌∷◌, filter, bytes_eq, None, Some, T, refl, ap, sym, subst, ◌∙◌, ⊎_elim}
 use Rattle.std.specs.Cmp.Lexicographic.{slice_cmp}
 use Rattle.std.specs.Ordering.{nat_cmp, is_eq, eq_by_cmp}
@@ -16,7 +16,7 @@ use Rattle.pv_model.specs.Tree.{Entries, names_node}
 abbrev pub by_name : Bytes → Bytes → Ordering
 by_name = slice_cmp nat_cmp
 
--- the order of names tells equal bytes as the test of bytes does
+-- the order of names treats two names as equal if and only if their bytes are equal
 pub ties-bytes_eq : (a b : Bytes) → eq_by_cmp by_name a b ≡ bytes_eq a b
 ties-bytes_eq a b = is_eq-slice_cmp a b
 
@@ -39,14 +39,14 @@ pub bytes_eq-other : (a b : Bytes) → a ≢ b → bytes_eq a b ≡ false
 bytes_eq-other a b other = sym (ties-bytes_eq a b) ∙ not_tied a b other
 
 -- T and an equation with true
-pub told : (b : Bool) → T b → b ≡ true
-told true t = refl
-told false t = absurd t
+pub reported : (b : Bool) → T b → b ≡ true
+reported true t = refl
+reported false t = absurd t
 
-pub tell : (b : Bool) → b ≡ true → T b
-tell b is = subst T (sym is) tt
+pub report : (b : Bool) → b ≡ true → T b
+report b is = subst T (sym is) tt
 
--- what is found after a change
+-- lookups after a change
 
 pub find-put_same : {X : Type 0} (name : Bytes) (n : X) (es : List (Bytes × X)) → find by_name name (put by_name name n es) ≡ Some n
 find-put_same name n es = find-put by_name nat_list_cmp_total name name n es ∙ ap (λ b. cond b (Some n) (find by_name name es)) (tied_itself name)
@@ -88,7 +88,7 @@ list_all-filter test keeps (x ∷ xs) all =
     let rest = list_all-filter test keeps xs parts.1 in
     elim (keeps x) as (λ b. list_all test (cond b (x ∷ filter keeps xs) (filter keeps xs)) ≡ true) [ true ↦ and_from _ _ parts.0 rest | false ↦ rest ]
 
--- what is found is there
+-- an entry that is found passes a test that all pass
 pub find-list_all : {X : Type 0} (test : Bytes × X → Bool) (name : Bytes) (n : X) (es : List (Bytes × X)) → list_all test es ≡ true → find by_name name es ≡ Some n → test (name, n) ≡ true
 find-list_all test name n [] all is = cc
 find-list_all test name n (e ∷ es) all is =
@@ -108,7 +108,7 @@ find-names_node n name (e ∷ es) is =
       | false ↦ λ there. or_right (e.1 == n) _ (find-names_node n name es there)
     ] is
 
--- a name below all others is none of them
+-- a name below all others is not one of them
 find_below : {X : Type 0} (q : Bytes) (es : List (Bytes × X)) → below_all by_name q es ≡ true → find by_name q es ≡ None
 find_below q [] below = refl
 find_below q (e ∷ es) below =
@@ -116,7 +116,7 @@ find_below q (e ∷ es) below =
     ap (λ b. cond b (Some e.1) (find by_name q es)) (elim (by_name q e.0) as (λ o. Rattle.std.specs.Ordering.is_lt o ≡ true → is_eq o ≡ false) [ Less ↦ λ _. refl | Equal ↦ λ h. cc h | Greater ↦ λ h. refl ] parts.0)
     ∙ find_below q es parts.1
 
--- what is found after the first is found
+-- a lookup after the first entry
 pub find_after : {X : Type 0} (q : Bytes) (n : X) (e : Bytes × X) (es : List (Bytes × X)) → is_sorted by_name (e ∷ es) ≡ true
     → find by_name q es ≡ Some n → (q ≢ e.0) × (find by_name q (e ∷ es) ≡ Some n)
 find_after q n e es sorted is =

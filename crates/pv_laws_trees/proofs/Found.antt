@@ -1,4 +1,4 @@
--- What directories have under names, before and after a change.
+-- Lookups of names in directories before and after a change.
 use Rattle.std.proofs.Common.{◌≡◌, ◌≢◌, ℕ, ◌≤◌, true, List, [], length, Option, None, Some, refl, ap, sym, ◌∙◌, ⊎_elim}
 use Rattle.std.specs.FinMap.Entries.{find}
 use Rattle.std.proofs.lemmas.Bool.{cases_eq}
@@ -6,7 +6,7 @@ use Rattle.pv_model.specs.Bytes.{Bytes}
 use Rattle.pv_model.specs.Calls.Descriptors.{with_content, with_content_of}
 use Rattle.pv_model.specs.Tree.{Node, directory_node, file_node, link_node, Tree, node_at, entries_of, is_directory_at, find_entry, with_node, with_entry, without_entry, new_number, with_new_node, IsWellFormed}
 use Rattle.pv_laws_trees.specs.Found.{Alike, AlikeBut, AlikeButTwo}
-use Rattle.pv_laws_trees.specs.Kept.{wanted, kept}
+use Rattle.pv_laws_trees.specs.Preserved.{wanted, preserved}
 use Rattle.pv_laws_trees.proofs.Changes.{cases_name, shape-without_entry, found-with_beside, found-with_other, found-without_beside, found-without_other}
 use Rattle.pv_laws_trees.proofs.Edits.{same_entries}
 use Rattle.pv_laws_trees.proofs.Entries.{by_name}
@@ -15,7 +15,7 @@ use Rattle.pv_laws_trees.proofs.NewNodes.{entries-new, dir-new}
 use Rattle.pv_laws_trees.proofs.Numbered.{at_number-below}
 use Rattle.pv_laws_trees.proofs.Trees.{sound}
 
--- trees that differ for one name in one directory
+-- trees that differ at one name of one directory
 alike-beside : (t u : Tree) (d : ℕ) (name : Bytes) → ((e : ℕ) (q : Bytes) → e ≢ d → find_entry u e q ≡ find_entry t e q)
     → ((q : Bytes) → q ≢ name → find_entry u d q ≡ find_entry t d q) → AlikeBut d name (find_entry t) (find_entry u)
 alike-beside t u d name beside others e q other =
@@ -27,15 +27,15 @@ alike-beside t u d name beside others e q other =
     (λ away. beside e q away)
     (cases_eq e d)
 
--- a change, and then none
+-- a change followed by no change
 pub alike-then : (d : ℕ) (name : Bytes) (map next last : ℕ → Bytes → Option ℕ) → AlikeBut d name map next → Alike next last → AlikeBut d name map last
 alike-then d name map next last changed same e q other = same e q ∙ changed e q other
 
--- an entry more, or another in its place
+-- an entry is added or replaced
 pub alike-with : (t : Tree) (d : ℕ) (name : Bytes) (n : ℕ) → is_directory_at t d ≡ true → AlikeBut d name (find_entry t) (find_entry (with_entry t d name n))
 alike-with t d name n is = alike-beside t (with_entry t d name n) d name (found-with_beside t d name is n) (found-with_other t d name is n)
 
--- an entry less
+-- an entry is removed
 pub alike-without : (t : Tree) (d : ℕ) (name : Bytes) → is_directory_at t d ≡ true → AlikeBut d name (find_entry t) (find_entry (without_entry t d name))
 alike-without t d name is = alike-beside t (without_entry t d name) d name (found-without_beside t d name is) (found-without_other t d name is)
 
@@ -47,18 +47,18 @@ alike-new t d name node is free bare within e q other =
     alike-with u d name (new_number t) (dir-new t d name node is free bare within) e q other
     ∙ ap (find by_name q) (entries-new t d name node is free bare within e)
 
--- an entry less, and one more
+-- an entry is removed and another is added
 pub alike-moved : (t : Tree) → IsWellFormed t → (d : ℕ) (name : Bytes) (e : ℕ) (new : Bytes) (n : ℕ) → is_directory_at t d ≡ true → is_directory_at t e ≡ true
     → AlikeButTwo d name e new (find_entry t) (find_entry (with_entry (without_entry t d name) e new n))
 alike-moved t w d name e new n from to =
     let u : Tree = without_entry t d name in
     (find_entry u, alike-without t d name from, alike-with u e new n ((shape-without_entry t d name from w.each_node).directory e ∙ to))
 
--- nodes without names let go
-pub alike-kept : (t : Tree) → IsWellFormed t → (held : List ℕ) → Alike (find_entry t) (find_entry (kept t held))
-alike-kept t w held = find-only t (wanted t held) (sound t w) (wanted-covers t held)
+-- unreferenced nodes are collected
+pub alike-preserved : (t : Tree) → IsWellFormed t → (held : List ℕ) → Alike (find_entry t) (find_entry (preserved t held))
+alike-preserved t w held = find-only t (wanted t held) (sound t w) (wanted-covers t held)
 
--- other bytes of a file
+-- the bytes of a file are replaced
 pub alike-content : (t : Tree) (f : ℕ) (bytes : Bytes) → Alike (find_entry t) (find_entry (with_content t f bytes))
 alike-content t f bytes d q = by (node_at t f) refl
   where

@@ -1,4 +1,4 @@
--- Lemmas on trim.
+-- The collection of unreferenced nodes.
 use Rattle.std.proofs.Common.{◌≡◌, ℕ, Bool, true, false, ◌&&◌, ◌||◌, ◌==◌, [], List, Option, None, Some, is_some, refl, ap, ◌∙◌, sym, ⊎_elim}
 use Rattle.std.specs.Cmp.{both_ways}
 use Rattle.std.proofs.lemmas.Bool.{eq-eqb, cases_eq, cases_Bool, or_left, or_right, or_cases}
@@ -7,16 +7,16 @@ use Rattle.pv_model.specs.Bytes.{Bytes}
 use Rattle.pv_model.specs.Held.{among, only_nodes}
 use Rattle.pv_model.specs.Numbered.{keep_if}
 use Rattle.pv_model.specs.Tree.{Node, directory_node, file_node, link_node, Tree, root, node_at, entries_of, entries_at, is_directory, is_directory_at, find_entry, named_numbers, IsReached, from_root, by_entry, IsWellFormed}
-use Rattle.pv_laws_trees.specs.Kept.{EachIsNamed, wanted, kept}
+use Rattle.pv_laws_trees.specs.Preserved.{EachIsNamed, wanted, preserved}
 use Rattle.pv_laws_trees.specs.Tree.{IsSound}
 use Rattle.pv_laws_trees.proofs.Numbered.{keep-all, keep-keep, keep-agree, keep-some, keep-passes, keep-fails, at_number-keep, length-keep}
 use Rattle.pv_laws_trees.proofs.Trees.{ordered, among-entry, entry-among, sound}
 
--- a tree of which each node is among the numbers stays as it is
+-- a tree whose nodes are all among the numbers is unchanged
 pub only_nodes_all : (t : Tree) (ns : List ℕ) → ((n : ℕ) (node : Node) → node_at t n ≡ Some node → among ns n ≡ true) → only_nodes t ns ≡ t
 only_nodes_all t ns all = ap (λ nodes. record t { nodes = nodes }) (keep-all (among ns) t.nodes all)
 
--- ---- what is wanted
+-- ---- the wanted numbers
 
 pub wanted-is : (t : Tree) (held : List ℕ) (n : ℕ) → among (wanted t held) n ≡ ((root == n) || (among (named_numbers t) n || among held n))
 wanted-is t held n = ap (λ b. (root == n) || b) (list_any-append (λ m. m == n) (named_numbers t) held)
@@ -27,16 +27,16 @@ wanted-named t held n named = wanted-is t held n ∙ or_right (root == n) _ (or_
 pub wanted-held : (t : Tree) (held : List ℕ) (n : ℕ) → among held n ≡ true → among (wanted t held) n ≡ true
 wanted-held t held n is = wanted-is t held n ∙ or_right (root == n) _ (or_right (among (named_numbers t) n) (among held n) is)
 
--- where each node but the root has a name, no node is trimmed, whatever is held
-pub kept_all : (t : Tree) (held : List ℕ) → EachIsNamed t → kept t held ≡ t
-kept_all t held each =
+-- if each node other than the root has a name, no node is collected, whatever is referenced
+pub preserved_all : (t : Tree) (held : List ℕ) → EachIsNamed t → preserved t held ≡ t
+preserved_all t held each =
     only_nodes_all t (wanted t held) (λ n node is.
     ⊎_elim
     (λ same. or_left (root == n) _ (eq-eqb root n (sym same)))
     (λ other. wanted-named t held n (each.named n other (ap is_some is)))
     (cases_eq n root))
 
--- ---- what stays in a well-formed tree
+-- ---- the parts of a well-formed tree that stay
 
 no_entries : (o : Option Node) → (is_directory o ≡ true → entries_of o ≡ []) → entries_of o ≡ []
 no_entries None empty = refl
@@ -44,7 +44,7 @@ no_entries (Some (directory_node es)) empty = empty refl
 no_entries (Some (file_node executable bytes)) empty = refl
 no_entries (Some (link_node text)) empty = refl
 
--- numbers that hold the root and what is named
+-- numbers that include the root and all named nodes
 pub record Covers (t : Tree) (ns : List ℕ) : Type 0 where
   pub top : among ns root ≡ true
   pub named : (n : ℕ) → among (named_numbers t) n ≡ true → among ns n ≡ true
@@ -52,7 +52,7 @@ pub record Covers (t : Tree) (ns : List ℕ) : Type 0 where
 pub wanted-covers : (t : Tree) (held : List ℕ) → Covers t (wanted t held)
 wanted-covers t held = record { top = refl; named = wanted-named t held }
 
--- what is not among them has no entries
+-- a node that is not among them has no entries
 unwanted_is_empty : (t : Tree) (ns : List ℕ) → IsSound t → Covers t ns → (d : ℕ) → among ns d ≡ false → entries_at t d ≡ []
 unwanted_is_empty t ns s covers d out =
     no_entries (node_at t d) (λ is. s.removed_are_empty d is
@@ -70,7 +70,7 @@ entries-only t ns s covers d =
 pub find-only : (t : Tree) (ns : List ℕ) → IsSound t → Covers t ns → (d : ℕ) (name : Bytes) → find_entry (only_nodes t ns) d name ≡ find_entry t d name
 find-only t ns s covers d name = ap (λ es. Rattle.std.specs.FinMap.Entries.find Rattle.pv_laws_trees.proofs.Entries.by_name name es) (entries-only t ns s covers d)
 
--- a way from the root stays where its entries stay
+-- a path from the root stays if its entries stay
 pub reached-along : (t u : Tree) → ((d : ℕ) (name : Bytes) (n : ℕ) → find_entry t d name ≡ Some n → find_entry u d name ≡ Some n) → (n : ℕ) → IsReached t n → IsReached u n
 reached-along t u stay _ from_root = from_root
 reached-along t u stay _ (by_entry d name n above is) = by_entry d name n (reached-along t u stay d above) (stay d name n is)
@@ -79,7 +79,7 @@ was_directory : (b : Bool) (o : Option Node) → is_directory (keep_if b o) ≡ 
 was_directory true o is = is
 was_directory false o is = cc
 
--- a trimmed tree is well-formed
+-- a collected tree is well-formed
 pub only-sound : (t : Tree) (ns : List ℕ) → IsSound t → Covers t ns → IsSound (only_nodes t ns)
 only-sound t ns s covers =
     let u : Tree = only_nodes t ns in
@@ -114,10 +114,10 @@ implied : (a b : Bool) → (a ≡ true → b ≡ true) → (a && b) ≡ a
 implied true b is = is refl
 implied false b is = refl
 
--- what fewer hold can be let go one by one
-pub kept_in_turn : (t : Tree) (many few : List ℕ) → IsSound t → ((n : ℕ) → among few n ≡ true → among many n ≡ true) → kept (kept t many) few ≡ kept t few
-kept_in_turn t many few s fewer =
-    let u : Tree = kept t many in
+-- references can be released one at a time
+pub preserved_in_turn : (t : Tree) (many few : List ℕ) → IsSound t → ((n : ℕ) → among few n ≡ true → among many n ≡ true) → preserved (preserved t many) few ≡ preserved t few
+preserved_in_turn t many few s fewer =
+    let u : Tree = preserved t many in
     let same : (n : ℕ) → among (wanted u few) n ≡ among (wanted t few) n = λ n.
     wanted-is u few n ∙ ap (λ b. (root == n) || (b || among few n)) (among-only t (wanted t many) s (wanted-covers t many) n) ∙ sym (wanted-is t few n) in
     let weaker : (n : ℕ) → among (wanted t few) n ≡ true → among (wanted t many) n ≡ true = λ n is.
@@ -129,5 +129,5 @@ kept_in_turn t many few s fewer =
     ∙ keep-agree (λ n. among (wanted u few) n && among (wanted t many) n) (among (wanted t few)) t.nodes
     (λ n. ap (λ b. b && among (wanted t many) n) (same n) ∙ implied (among (wanted t few) n) (among (wanted t many) n) (weaker n)))
 
-pub in_turn : (t : Tree) (many few : List ℕ) → IsWellFormed t → ((n : ℕ) → among few n ≡ true → among many n ≡ true) → kept (kept t many) few ≡ kept t few
-in_turn t many few w fewer = kept_in_turn t many few (sound t w) fewer
+pub in_turn : (t : Tree) (many few : List ℕ) → IsWellFormed t → ((n : ℕ) → among few n ≡ true → among many n ≡ true) → preserved (preserved t many) few ≡ preserved t few
+in_turn t many few w fewer = preserved_in_turn t many few (sound t w) fewer

@@ -1,17 +1,20 @@
--- Lemmas of trees and walks. Public, since trees and walks in code are proved with them.
--- - lists under numbers: Numbered (with a number, without one, kept by a test, the least free one)
--- - entries: Entries (lists in the order of names), NameOrder (past the last name), Members (what is in lists), Trees (a well-formed tree by its entries; parents), Spelled (bytes of names)
--- - what stays: Keeping (letting go one by one is letting go at once), Rooms (what nodes need), Empty (the root alone)
--- - changes: Changes (one node in another's place), NewNodes (a new node under a new name), Edits (each change keeps a tree
---   well-formed), Above (parents lead to the root; climbing meets just what is above), Found (names before and after a change)
--- - walks: Walks (the function answers what the cases say), Places (what a place is, and what a walk reads)
+-- Lemmas about trees, walks and images. They are public because proofs of code use them.
+-- - Trees: Numbered (maps from numbers), Entries (the entries of a directory), NameOrder, Members (membership in
+--   lists), Trees (well-formed trees by their entries; parents), Encoded (bytes of names).
+-- - Collection and room: Keeping, Rooms, Empty (the tree with only the root).
+-- - Changes: Changes (one node replaced), NewNodes, Edits (changes that keep a tree well-formed), Above (ancestors),
+--   Found (lookups before and after a change).
+-- - Walks: Walks (the function computes the relation), Places (valid places, and what a walk reads).
+-- - Image bytes: Ranges, Directories, Inodes, Nodes, Blocks, ImagePlaces, Names, Reached, Slots, Faults, Starts.
+-- - Mounting: Passed and ImageTrees (inodes that pass all tests hold a well-formed tree), Images (the bytes are an
+--   image of it), and conversely Held, ImageEntries, Listed and Back. Accepted: booting.
 pub mod Numbered
 pub mod Entries
 pub mod Trees
 pub mod Keeping
 pub mod Rooms
 pub mod Changes
-pub mod Spelled
+pub mod Encoded
 pub mod Above
 pub mod Edits
 pub mod Walks
@@ -21,3 +24,24 @@ pub mod NewNodes
 pub mod Found
 pub mod Members
 pub mod NameOrder
+-- ---- image bytes
+pub mod Faults
+pub mod Slots
+pub mod Starts
+pub mod Ranges
+pub mod Directories
+pub mod Inodes
+pub mod Nodes
+pub mod Names
+pub mod Blocks
+pub mod ImagePlaces
+pub mod Reached
+-- ---- mounting
+pub mod Passed
+pub mod ImageTrees
+pub mod Images
+pub mod Held
+pub mod Listed
+pub mod ImageEntries
+pub mod Back
+pub mod Accepted

@@ -1,4 +1,4 @@
--- Lemmas on what is in a list, and on the lists that are made of a state: what stands under numbers, names, directories above.
+-- Membership in lists, and in the lists computed from a state: values of maps, names, ancestors.
 use Rattle.std.proofs.Common.{◌≡◌, ℕ, zero, suc, ◌+◌, ◌≤◌, Bool, true, false, cond, ◌==◌, List, [], ◌∷◌, ◌++◌, map, filter, flat_map, fold, min, Option, None, Some, refl, ap, sym, subst, ◌∙◌, ◌⊎◌, inl, inr, ⊎_elim, arith}
 use Rattle.std.specs.List.{list_any}
 use Rattle.std.specs.Prelude.{filter_map}
@@ -37,7 +37,7 @@ pub in-filter : (X : Type 0) (test : X → Bool) (xs : List X) (x : X) → In X 
 in-filter X test [] x is passes = is
 in-filter X test (y ∷ ys) x is passes =
     elim (test y) as (λ b. test y ≡ b → In X x (cond b (y ∷ filter test ys) (filter test ys))) [
-      | true ↦ λ kept. ⊎_elim (λ same. inl same) (λ later. inr (in-filter X test ys x later passes)) is
+      | true ↦ λ preserved. ⊎_elim (λ same. inl same) (λ later. inr (in-filter X test ys x later passes)) is
       | false ↦ λ dropped. ⊎_elim (λ same. let no : false ≡ true = sym dropped ∙ ap test same ∙ passes in cc no) (λ later. in-filter X test ys x later passes) is
     ] refl
 
@@ -45,20 +45,20 @@ pub filter-in : (X : Type 0) (test : X → Bool) (xs : List X) (x : X) → In X 
 filter-in X test [] x is = absurd is
 filter-in X test (y ∷ ys) x is =
     elim (test y) as (λ b. test y ≡ b → In X x (cond b (y ∷ filter test ys) (filter test ys)) → In X x (y ∷ ys) × (test x ≡ true)) [
-      | true ↦ λ kept there. ⊎_elim (λ same. (inl same, ap test (sym same) ∙ kept)) (λ later. let found = filter-in X test ys x later in (inr found.0, found.1)) there
+      | true ↦ λ preserved there. ⊎_elim (λ same. (inl same, ap test (sym same) ∙ preserved)) (λ later. let found = filter-in X test ys x later in (inr found.0, found.1)) there
       | false ↦ λ dropped there. let found = filter-in X test ys x there in (inr found.0, found.1)
     ] refl is
 
--- those that are there
-pub in-kept : (X : Type 0) (xs : List (Option X)) (x : X) → In (Option X) (Some x) xs → In X x (filter_map (λ (k : Option X). k) xs)
-in-kept X [] x is = is
-in-kept X (None ∷ ys) x is = ⊎_elim (λ same. cc same) (λ later. in-kept X ys x later) is
-in-kept X (Some y ∷ ys) x is = ⊎_elim (λ same. let value : y ≡ x = cc same in inl value) (λ later. inr (in-kept X ys x later)) is
+-- the values that are present
+pub in-preserved : (X : Type 0) (xs : List (Option X)) (x : X) → In (Option X) (Some x) xs → In X x (filter_map (λ (k : Option X). k) xs)
+in-preserved X [] x is = is
+in-preserved X (None ∷ ys) x is = ⊎_elim (λ same. cc same) (λ later. in-preserved X ys x later) is
+in-preserved X (Some y ∷ ys) x is = ⊎_elim (λ same. let value : y ≡ x = cc same in inl value) (λ later. inr (in-preserved X ys x later)) is
 
-pub kept-in : (X : Type 0) (xs : List (Option X)) (x : X) → In X x (filter_map (λ (k : Option X). k) xs) → In (Option X) (Some x) xs
-kept-in X [] x is = is
-kept-in X (None ∷ ys) x is = inr (kept-in X ys x is)
-kept-in X (Some y ∷ ys) x is = ⊎_elim (λ same. inl (ap Some same)) (λ later. inr (kept-in X ys x later)) is
+pub preserved-in : (X : Type 0) (xs : List (Option X)) (x : X) → In X x (filter_map (λ (k : Option X). k) xs) → In (Option X) (Some x) xs
+preserved-in X [] x is = is
+preserved-in X (None ∷ ys) x is = inr (preserved-in X ys x is)
+preserved-in X (Some y ∷ ys) x is = ⊎_elim (λ same. inl (ap Some same)) (λ later. inr (preserved-in X ys x later)) is
 
 pub in-left : (X : Type 0) (xs ys : List X) (x : X) → In X x xs → In X x (xs ++ ys)
 in-left X [] ys x is = absurd is
@@ -82,7 +82,7 @@ flat-in X Y g [] y is = absurd is
 flat-in X Y g (z ∷ zs) y is =
     ⊎_elim (λ left. (z, inl refl, left)) (λ right. let found = flat-in X Y g zs y right in (found.0, inr found.1, found.2)) (in-either Y (g z) (flat_map g zs) y is)
 
--- a number that a test finds
+-- a number that satisfies a test of equality
 pub any-in : (e : ℕ) (xs : List ℕ) → list_any (λ x. x == e) xs ≡ true → In ℕ e xs
 any-in e [] is = cc is
 any-in e (x ∷ xs) is = ⊎_elim (λ here. inl (eqb-true x e here)) (λ later. inr (any-in e xs later)) (or_cases (x == e) (list_any (λ x. x == e) xs) is)
@@ -91,7 +91,7 @@ pub in-any : (e : ℕ) (xs : List ℕ) → In ℕ e xs → list_any (λ x. x == 
 in-any e [] is = absurd is
 in-any e (x ∷ xs) is = ⊎_elim (λ same. or_left (x == e) _ (eq-eqb x e same)) (λ later. or_right (x == e) _ (in-any e xs later)) is
 
--- the least is one of them, and no other is less
+-- the least element is a member, and no member is less
 pub least-in : (k : ℕ) (ks : List ℕ) → In ℕ (fold min k ks) (k ∷ ks)
 least-in k [] = inl refl
 least-in k (x ∷ xs) = ⊎_elim (λ first. one first) (λ later. inr (inr later)) (least-in (min k x) xs)
@@ -106,7 +106,7 @@ least-low k (y ∷ ys) x is =
     ⊎_elim (λ same. omega (arith, same, low, min-le_left k y))
     (λ later. ⊎_elim (λ same. omega (arith, same, low, min-le_right k y)) (λ following. least-low (min k y) ys x (inr following)) later) is
 
--- ---- what stands under numbers
+-- ---- values of maps
 
 pub in-numbered : (X : Type 0) (k : ℕ) (xs : Numbered X) (i : ℕ) (x : X) → at_number xs i ≡ Some x → In (ℕ × X) (k + i, x) (numbered_from k xs)
 in-numbered X k [] i x is = cc is
@@ -174,8 +174,8 @@ in-entry t sorted f x is =
     let node : Node = at.0.1 in
     let there : node_at t d ≡ Some node = at-numbered Node t.nodes at.0 at.1 in
     let entry = map-in (Bytes × ℕ) (ℕ × Bytes) (λ (y : Bytes × ℕ). (d, y.0)) (filter (λ (y : Bytes × ℕ). y.1 == f) (entries_of (Some node))) x at.2 in
-    let kept = filter-in (Bytes × ℕ) (λ (y : Bytes × ℕ). y.1 == f) (entries_of (Some node)) entry.0 entry.1 in
+    let preserved = filter-in (Bytes × ℕ) (λ (y : Bytes × ℕ). y.1 == f) (entries_of (Some node)) entry.0 entry.1 in
     let order : is_sorted by_name (entries_of (Some node)) ≡ true = ap (λ o. is_sorted by_name (entries_of o)) (sym there) ∙ sorted d in
-    let found : find by_name entry.0.0 (entries_of (Some node)) ≡ Some entry.0.1 = in-found entry.0.1 entry.0.0 (entries_of (Some node)) order kept.0 in
-    let one : find_entry t d entry.0.0 ≡ Some f = ap (λ o. find by_name entry.0.0 (entries_of o)) there ∙ found ∙ ap Some (eqb-true entry.0.1 f kept.1) in
+    let found : find by_name entry.0.0 (entries_of (Some node)) ≡ Some entry.0.1 = in-found entry.0.1 entry.0.0 (entries_of (Some node)) order preserved.0 in
+    let one : find_entry t d entry.0.0 ≡ Some f = ap (λ o. find by_name entry.0.0 (entries_of o)) there ∙ found ∙ ap Some (eqb-true entry.0.1 f preserved.1) in
     subst (λ (y : ℕ × Bytes). find_entry t y.0 y.1 ≡ Some f) entry.2 one

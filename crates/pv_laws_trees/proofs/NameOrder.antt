@@ -1,4 +1,4 @@
--- The order of names, as past the last one.
+-- Names that come after the last name listed.
 use Rattle.std.proofs.Common.{◌≡◌, true, false, Option, None, Some, refl, ap, sym, ◌∙◌}
 use Rattle.std.specs.Ordering.{is_lt, ordering_reverse}
 use Rattle.std.specs.declared.cmp.Ordering.{Ordering}
@@ -13,7 +13,7 @@ less_from Less is = refl
 less_from Equal is = cc
 less_from Greater is = cc
 
--- a name is not past one that it comes before
+-- a name does not come after one that it precedes
 pub not_after : (a b : Bytes) → by_name a b ≡ Less → is_past (Some b) a ≡ false
 not_after a b less = ap is_lt (nat_list_cmp_total.antisymm b a ∙ ap ordering_reverse less)
 
@@ -24,7 +24,7 @@ not_after_itself a =
       | false ↦ λ is. refl
     ] refl
 
--- what is past a name past the last one is past the last one
+-- a name after one that comes after the last also comes after the last
 pub after_more : (last : Option Bytes) (a b : Bytes) → is_past last a ≡ true → is_lt (by_name a b) ≡ true → is_past last b ≡ true
 after_more None a b is less = refl
 after_more (Some l) a b is less = ap is_lt (nat_list_cmp_total.trans l a b (less_from (by_name l a) is) (less_from (by_name a b) less))

@@ -1,18 +1,18 @@
--- A new node under a new name: what was named stays so.
+-- A new node under a new name: named nodes stay named.
 use Rattle.std.proofs.Common.{◌≡◌, ◌≢◌, ℕ, ◌≤◌, true, false, [], length, Option, None, Some, is_some, refl, ap, ap₂, sym, ◌∙◌, inl, inr, ◌⊎◌, ⊎_elim}
 use Rattle.std.specs.FinMap.Entries.{find, put}
 use Rattle.std.proofs.lemmas.Bool.{cases_eq}
 use Rattle.pv_model.specs.Bytes.{Bytes}
 use Rattle.pv_model.specs.Held.{among}
 use Rattle.pv_model.specs.Tree.{Node, directory_node, Tree, node_at, entries_of, entries_at, is_directory, is_directory_at, find_entry, named_numbers, with_node, new_number, with_new_node, with_entry}
-use Rattle.pv_laws_trees.specs.Kept.{EachIsNamed}
+use Rattle.pv_laws_trees.specs.Preserved.{EachIsNamed}
 use Rattle.pv_laws_trees.proofs.Changes.{node_at-other, directory-below, found-with, with_entry-stays, still-there}
 use Rattle.pv_laws_trees.proofs.Edits.{new_number-free}
 use Rattle.pv_laws_trees.proofs.Entries.{by_name}
 use Rattle.pv_laws_trees.proofs.Numbered.{with_number-same_within, with_number-other_within}
 use Rattle.pv_laws_trees.proofs.Trees.{IsOrdered, among-entry, entry-among}
 
--- each node of another tree is named there, or was named here, where each entry stays
+-- each node of the changed tree has a name, if each entry stays and each other node had one
 named-along : (t u : Tree) → IsOrdered t → EachIsNamed t → ((n : ℕ) → is_some (node_at u n) ≡ true → (is_some (node_at t n) ≡ true) ⊎ (among (named_numbers u) n ≡ true))
     → ((d : ℕ) (name : Bytes) (n : ℕ) → find_entry t d name ≡ Some n → find_entry u d name ≡ Some n) → EachIsNamed u
 named-along t u ordered each was stay = record {
@@ -22,12 +22,12 @@ named-along t u ordered each was stay = record {
 }
 
 module _ (t : Tree) (d : ℕ) (name : Bytes) (dir : is_directory_at t d ≡ true) (free : find_entry t d name ≡ None) where
-  -- a further entry leaves the others
+  -- adding an entry leaves the others unchanged
   pub entry-stays : (m e : ℕ) (q : Bytes) (x : ℕ) → find_entry t e q ≡ Some x → find_entry (with_entry t d name m) e q ≡ Some x
   entry-stays m e q x found =
       with_entry-stays t d name dir m e q x found (λ here same. let none : find_entry t e q ≡ None = ap₂ (find_entry t) here same ∙ free in cc)
 
-  -- and is for no further node
+  -- adding an entry adds no node
   pub entry-was : (m n : ℕ) → is_some (node_at (with_entry t d name m) n) ≡ true → is_some (node_at t n) ≡ true
   entry-was m n is =
       ⊎_elim
@@ -55,7 +55,7 @@ module _ (t : Tree) (d : ℕ) (name : Bytes) (node : Node) (dir : is_directory_a
   pub new-same : node_at t1 m0 ≡ Some node
   new-same = with_number-same_within t.nodes m0 node within
 
-  new-other : (n : ℕ) → n ≢ m0 → node_at t1 n ≡ node_at t n
+  pub new-other : (n : ℕ) → n ≢ m0 → node_at t1 n ≡ node_at t n
   new-other n other = with_number-other_within t.nodes m0 node n within other
 
   pub entries-new : (e : ℕ) → entries_at t1 e ≡ entries_at t e
@@ -69,17 +69,17 @@ module _ (t : Tree) (d : ℕ) (name : Bytes) (node : Node) (dir : is_directory_a
   pub dir-new : is_directory_at t1 d ≡ true
   dir-new = ap is_directory (new-other d apart) ∙ dir
 
-  free-new : find_entry t1 d name ≡ None
+  pub free-new : find_entry t1 d name ≡ None
   free-new = ap (find by_name name) (entries-new d) ∙ free
 
-  -- what was there, and the new node, are there
+  -- the old nodes and the new node exist
   pub there-new : (n : ℕ) → is_some (node_at t1 n) ≡ true → is_some (node_at u1 n) ≡ true
   there-new n is = still-there t1 d (directory_node (put by_name name m0 (entries_at t1 d))) (directory-below t1 d dir-new) n is
 
   pub there-old : (n : ℕ) → is_some (node_at t n) ≡ true → is_some (node_at u1 n) ≡ true
   there-old n is = there-new n (⊎_elim (λ eq. ap is_some (ap (node_at t1) eq ∙ new-same)) (λ other. ap is_some (new-other n other) ∙ is) (cases_eq n m0))
 
-  -- each entry stays, and the new one is there
+  -- each entry stays, and the new one exists
   pub stays-new : (e : ℕ) (q : Bytes) (x : ℕ) → find_entry t e q ≡ Some x → find_entry u1 e q ≡ Some x
   stays-new e q x found = entry-stays t1 d name dir-new free-new m0 e q x (ap (find by_name q) (entries-new e) ∙ found)
 

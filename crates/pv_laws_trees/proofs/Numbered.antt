@@ -1,15 +1,15 @@
--- Lemmas on maps from numbers.
+-- Maps from numbers.
 use Rattle.std.proofs.Common.{◌≡◌, ◌≢◌, ℕ, zero, suc, ◌+◌, ◌<◌, ◌≤◌, Bool, true, false, ◌&&◌, [], ◌∷◌, length, Option, None, Some, is_some, refl, ap, ap₂, sym, ◌∙◌, arith, suc-le-suc, le_of_suc-le-suc, zero-le, drop}
 use Rattle.pv_model.specs.Numbered.{Numbered, at_number, with_number, without_number, least_free, keep_if, keep_from, keep, present}
 
 module _ {X : Type 0} where
-  -- what is there is below the length
+  -- a number with a value is below the length
   pub at_number-below : (xs : Numbered X) (n : ℕ) (x : X) → at_number xs n ≡ Some x → n < length xs
   at_number-below [] n x is = cc
   at_number-below (o ∷ xs) zero x is = suc-le-suc zero-le
   at_number-below (o ∷ xs) (suc n) x is = suc-le-suc (at_number-below xs n x is)
 
-  -- maps of one length that agree at each number are one
+  -- maps of equal length that agree at each number are equal
   pub same_numbered : (xs ys : Numbered X) → length xs ≡ length ys → ((n : ℕ) → at_number xs n ≡ at_number ys n) → xs ≡ ys
   same_numbered [] [] long same = refl
   same_numbered [] (y ∷ ys) long same = absurd (omega arith)
@@ -17,7 +17,7 @@ module _ {X : Type 0} where
   same_numbered (x ∷ xs) (y ∷ ys) long same =
       ap₂ (λ o (os : Numbered X). o ∷ os) (same zero) (same_numbered xs ys (omega arith) (λ n. same (suc n)))
 
-  -- a change at a number
+  -- a value is replaced
 
   pub length-with_number : (xs : Numbered X) (n : ℕ) (v : X) → n < length xs → length (with_number xs n v) ≡ length xs
   length-with_number [] n v below = absurd (omega arith)
@@ -74,7 +74,7 @@ module _ {X : Type 0} where
   least_free-within (None ∷ xs) = zero-le
   least_free-within (Some x ∷ xs) = suc-le-suc (least_free-within xs)
 
-  -- what is kept
+  -- ---- the values that are kept
 
   keep_if_passes : (b : Bool) (o : Option X) → ((x : X) → o ≡ Some x → b ≡ true) → keep_if b o ≡ o
   keep_if_passes true o passes = refl
@@ -89,7 +89,7 @@ module _ {X : Type 0} where
   keep_if-both true b o = refl
   keep_if-both false b o = refl
 
-  -- what is kept was there, and passes
+  -- a kept value was present and passes
   pub keep_if-some : (b : Bool) (o : Option X) (x : X) → keep_if b o ≡ Some x → (b ≡ true) × (o ≡ Some x)
   keep_if-some true o x is = (refl, is)
   keep_if-some false o x is = cc
@@ -107,11 +107,11 @@ module _ {X : Type 0} where
   at_number-keep_from k test (x ∷ xs) zero m at = let same : k ≡ m = omega arith in ap (λ j. keep_if (test j) x) same
   at_number-keep_from k test (x ∷ xs) (suc n) m at = at_number-keep_from (suc k) test xs n m (omega arith)
 
-  -- a number that passes has what it had, and another has nothing
+  -- a number that passes keeps its value, and another loses it
   pub at_number-keep : (test : ℕ → Bool) (xs : Numbered X) (n : ℕ) → at_number (keep test xs) n ≡ keep_if (test n) (at_number xs n)
   at_number-keep test xs n = at_number-keep_from 0 test xs n n (omega arith)
 
-  -- what is kept is there, and passes
+  -- a kept value is present, and its number passes
   pub keep-some : (test : ℕ → Bool) (xs : Numbered X) (n : ℕ) (x : X) → at_number (keep test xs) n ≡ Some x → (test n ≡ true) × (at_number xs n ≡ Some x)
   keep-some test xs n x is = keep_if-some (test n) (at_number xs n) x (sym (at_number-keep test xs n) ∙ is)
 
@@ -121,12 +121,12 @@ module _ {X : Type 0} where
   pub keep-fails : (test : ℕ → Bool) (xs : Numbered X) (n : ℕ) → test n ≡ false → at_number (keep test xs) n ≡ None
   keep-fails test xs n fails = at_number-keep test xs n ∙ ap (λ b. keep_if b (at_number xs n)) fails
 
-  -- where all that is there passes, nothing goes
+  -- if all numbers with values pass, the map is unchanged
   pub keep-all : (test : ℕ → Bool) (xs : Numbered X) → ((n : ℕ) (x : X) → at_number xs n ≡ Some x → test n ≡ true) → keep test xs ≡ xs
   keep-all test xs passes =
       same_numbered (keep test xs) xs (length-keep test xs) (λ n. at_number-keep test xs n ∙ keep_if_passes (test n) (at_number xs n) (passes n))
 
-  -- what passes one test and then another passes both
+  -- keeping by two tests is keeping by both
   pub keep-keep : (first second : ℕ → Bool) (xs : Numbered X) → keep second (keep first xs) ≡ keep (λ n. second n && first n) xs
   keep-keep first second xs =
       same_numbered (keep second (keep first xs)) (keep (λ n. second n && first n) xs)
@@ -134,13 +134,13 @@ module _ {X : Type 0} where
       (λ n. at_number-keep second (keep first xs) n ∙ ap (keep_if (second n)) (at_number-keep first xs n)
       ∙ keep_if-both (second n) (first n) (at_number xs n) ∙ sym (at_number-keep (λ m. second m && first m) xs n))
 
-  -- tests that agree keep the same
+  -- tests that agree keep the same values
   pub keep-agree : (f g : ℕ → Bool) (xs : Numbered X) → ((n : ℕ) → f n ≡ g n) → keep f xs ≡ keep g xs
   keep-agree f g xs same =
       same_numbered (keep f xs) (keep g xs) (length-keep f xs ∙ sym (length-keep g xs))
       (λ n. at_number-keep f xs n ∙ ap (λ b. keep_if b (at_number xs n)) (same n) ∙ sym (at_number-keep g xs n))
 
-  -- ---- how many are there
+  -- ---- the number of values
 
   pub least_free-below : (xs : Numbered X) (n : ℕ) → n < least_free xs → is_some (at_number xs n) ≡ true
   least_free-below [] n below = absurd (omega arith)

@@ -1,4 +1,4 @@
--- Where walks lead, and what they read.
+-- The places that walks lead to, and what walks read.
 use Rattle.std.proofs.Common.{◌≡◌, ℕ, zero, suc, Bool, true, false, cond, if◌then◌else◌, not, ◌&&◌, ◌||◌, ◌==◌, nat_lt, nat_le, List, [], ◌∷◌, ◌++◌, filter, bytes_eq, codes, length, Option, None, Some, is_none, Ok, Err, refl, ap, ap₂, sym, subst, ◌∙◌, ⊎_elim}
 use Rattle.std.specs.FinMap.Entries.{find}
 use Rattle.std.specs.List.{list_all}
@@ -37,33 +37,33 @@ list_all-filtered p q (x ∷ xs) all =
     ] refl
 
 module _ (test : ℕ → Bool) where
-  -- bytes that pass, and no slash
-  abbrev pub is_spelled : Bytes → Bool
-  is_spelled component = list_all (λ b. not (b == 47) && test b) component
+  -- bytes that pass a test, without slashes
+  abbrev pub is_encoded : Bytes → Bool
+  is_encoded component = list_all (λ b. not (b == 47) && test b) component
 
-  -- some such bytes
+  -- a nonempty string of such bytes
   abbrev pub is_component : Bytes → Bool
-  is_component component = not (is_empty component) && is_spelled component
+  is_component component = not (is_empty component) && is_encoded component
 
-  onto : (b : ℕ) (ps : List Bytes) → (not (b == 47) && test b) ≡ true → list_all is_spelled ps ≡ true → list_all is_spelled (onto_first b ps) ≡ true
+  onto : (b : ℕ) (ps : List Bytes) → (not (b == 47) && test b) ≡ true → list_all is_encoded ps ≡ true → list_all is_encoded (onto_first b ps) ≡ true
   onto b [] good all = and_from _ true (and_from _ true good refl) refl
-  onto b (p ∷ ps) good all = let parts = and_parts (is_spelled p) (list_all is_spelled ps) all in and_from _ (list_all is_spelled ps) (and_from _ (is_spelled p) good parts.0) parts.1
+  onto b (p ∷ ps) good all = let parts = and_parts (is_encoded p) (list_all is_encoded ps) all in and_from _ (list_all is_encoded ps) (and_from _ (is_encoded p) good parts.0) parts.1
 
-  split_spelled : (path : Bytes) → list_all test path ≡ true → list_all is_spelled (split_slashes path) ≡ true
-  split_spelled [] all = refl
-  split_spelled (b ∷ path) all =
+  split_encoded : (path : Bytes) → list_all test path ≡ true → list_all is_encoded (split_slashes path) ≡ true
+  split_encoded [] all = refl
+  split_encoded (b ∷ path) all =
       let parts = and_parts (test b) (list_all test path) all in
-      let rest = split_spelled path parts.1 in
-      elim (b == 47) as (λ c. (b == 47) ≡ c → list_all is_spelled (cond c ([] ∷ split_slashes path) (onto_first b (split_slashes path))) ≡ true) [
+      let rest = split_encoded path parts.1 in
+      elim (b == 47) as (λ c. (b == 47) ≡ c → list_all is_encoded (cond c ([] ∷ split_slashes path) (onto_first b (split_slashes path))) ≡ true) [
         | true ↦ λ is. rest
         | false ↦ λ is. onto b (split_slashes path) (and_from (not (b == 47)) (test b) (ap not is) parts.0) rest
       ] refl
 
   -- the components of a path whose bytes pass
-  pub components-spelled : (path : Bytes) → list_all test path ≡ true → list_all is_component (components path) ≡ true
-  components-spelled path all = list_all-filtered (λ component. not (is_empty component)) is_spelled (split_slashes path) (split_spelled path all)
+  pub components-encoded : (path : Bytes) → list_all test path ≡ true → list_all is_component (components path) ≡ true
+  components-encoded path all = list_all-filtered (λ component. not (is_empty component)) is_encoded (split_slashes path) (split_encoded path all)
 
-  -- ---- where a walk leads
+  -- ---- the result of a walk
 
   abbrev pub IsGoodPlace : Tree → Place → Type 0
   IsGoodPlace t (Unnamed d) = is_directory_at t d ≡ true
@@ -89,22 +89,22 @@ module _ (test : ℕ → Bool) where
     walks-good _ _ _ _ _ (Walk.Walks.no_parent links component rest mark at is up) dir all = tt
     walks-good _ _ _ _ _ (Walk.Walks.name_too_long links component rest mark at dot dots long) dir all = tt
     walks-good _ _ _ _ _ (Walk.Walks.in_removed links component rest mark at name is) dir all = tt
-    walks-good _ _ _ _ _ (Walk.Walks.absent links component rest mark at name stands none more) dir all = tt
-    walks-good _ _ _ _ _ (Walk.Walks.vacant links component at name stands none) dir all = (dir, stands, none, name, (and_parts (is_component component) _ all).0)
+    walks-good _ _ _ _ _ (Walk.Walks.absent links component rest mark at name appears none more) dir all = tt
+    walks-good _ _ _ _ _ (Walk.Walks.vacant links component at name appears none) dir all = (dir, appears, none, name, (and_parts (is_component component) _ all).0)
     walks-good _ _ _ _ _ (Walk.Walks.out_of_links component rest mark at n text leads followed) dir all = tt
     walks-good _ _ _ _ _ (Walk.Walks.too_heavy links component rest mark at n text leads followed heavy) dir all = tt
     walks-good _ _ _ _ _ (Walk.Walks.through links component rest mark at n text r leads followed light more) dir all =
         walks-good links (components text ++ rest) (mark || (is_empty rest && ends_in_slash text)) (if is_absolute text then root else at) r more
         (elim (is_absolute text) as (λ b. is_directory_at t (cond b root at) ≡ true) [ true ↦ s.root_is_directory | false ↦ dir ])
-        (list_all-append is_component (components text) rest ∙ and_from _ _ (components-spelled text (links_pass n text leads.is)) (and_parts (is_component component) _ all).1)
+        (list_all-append is_component (components text) rest ∙ and_from _ _ (components-encoded text (links_pass n text leads.is)) (and_parts (is_component component) _ all).1)
     walks-good _ _ _ _ _ (Walk.Walks.enters links component next rest mark at n es r leads more) dir all =
         walks-good links (next ∷ rest) mark n r more (ap is_directory leads.is) (and_parts (is_component component) _ all).1
     walks-good _ _ _ _ _ (Walk.Walks.not_entered links component next rest mark at n executable bytes leads) dir all = tt
-    walks-good _ _ _ _ _ (Walk.Walks.finds_directory links component mark at n es leads) dir all = (dir, leads.stands, leads.entry, leads.name, (and_parts (is_component component) _ all).0)
-    walks-good _ _ _ _ _ (Walk.Walks.finds_file links component at n executable bytes leads) dir all = (dir, leads.stands, leads.entry, leads.name, (and_parts (is_component component) _ all).0)
-    walks-good _ _ _ _ _ (Walk.Walks.finds_link links component rest mark at n text leads followed) dir all = (dir, leads.stands, leads.entry, leads.name, (and_parts (is_component component) _ all).0)
+    walks-good _ _ _ _ _ (Walk.Walks.finds_directory links component mark at n es leads) dir all = (dir, leads.appears, leads.entry, leads.name, (and_parts (is_component component) _ all).0)
+    walks-good _ _ _ _ _ (Walk.Walks.finds_file links component at n executable bytes leads) dir all = (dir, leads.appears, leads.entry, leads.name, (and_parts (is_component component) _ all).0)
+    walks-good _ _ _ _ _ (Walk.Walks.finds_link links component rest mark at n text leads followed) dir all = (dir, leads.appears, leads.entry, leads.name, (and_parts (is_component component) _ all).0)
     walks-good _ _ _ _ _ (Walk.Walks.wants_directory links component at n executable bytes leads) dir all = tt
-    walks-good _ _ _ _ _ (Walk.Walks.lost links component rest mark at n name stands found none) dir all = tt
+    walks-good _ _ _ _ _ (Walk.Walks.lost links component rest mark at n name appears found none) dir all = tt
 
   -- a path whose bytes pass leads from a directory to a place whose name passes
   pub resolve-good : (t : Tree) → IsSound t → ((n : ℕ) (text : Bytes) → node_at t n ≡ Some (link_node text) → list_all test text ≡ true)
@@ -117,9 +117,9 @@ module _ (test : ℕ → Bool) where
       by _ (Walk.Resolves.too_long long) = tt
       by r (Walk.Resolves.walks _ filled short more) =
           walks-good t s links_pass (follows_last follow) 32 (components path) (end_mark follow path) (if is_absolute path then root else start) r more
-          (elim (is_absolute path) as (λ b. is_directory_at t (cond b root start) ≡ true) [ true ↦ s.root_is_directory | false ↦ dir ]) (components-spelled path all)
+          (elim (is_absolute path) as (λ b. is_directory_at t (cond b root start) ≡ true) [ true ↦ s.root_is_directory | false ↦ dir ]) (components-encoded path all)
 
--- ---- places of well-formed trees
+-- ---- valid places of well-formed trees
 
 abbrev pub not_zero : ℕ → Bool
 not_zero b = not (b == 0)
@@ -131,10 +131,10 @@ link-text t s n text is = s.each_node n (link_node text) is
 link_passes : (t : Tree) → IsSound t → (n : ℕ) (text : Bytes) → node_at t n ≡ Some (link_node text) → list_all not_zero text ≡ true
 link_passes t s n text is = (and_parts (not (is_empty text) && nat_le (length text) 1023) (list_all not_zero text) (link-text t s n text is)).1
 
--- a component that is looked up is a name
+-- a component that is looked up is a valid name
 pub component-name : (t : Tree) (component : Bytes) → Walk.IsLookedUp t component → is_component not_zero component ≡ true → is_name t.version component ≡ true
 component-name t component name good =
-    let parts = and_parts (not (is_empty component)) (is_spelled not_zero component) good in
+    let parts = and_parts (not (is_empty component)) (is_encoded not_zero component) good in
     and_from _ (not (bytes_eq component (codes "..")))
     (and_from _ (not (bytes_eq component (codes ".")))
     (and_from _ (list_all is_name_byte component)
@@ -152,7 +152,7 @@ pub leads-to_place : (t : Tree) → IsWellFormed t → (follow : Follow) (start 
 leads-to_place t w follow start path place dir all is =
     let s = sound t w in good-place t place (resolve-good not_zero t s (link_passes t s) follow start path place dir all is)
 
--- ---- what a walk reads
+-- ---- the parts that a walk reads
 
 parent_step : (n k : ℕ) (o : Option Node) (xs : Numbered Node)
     → first_parent n (numbered_from k (o ∷ xs)) ≡ cond (names_node n (entries_of o)) (Some k) (first_parent n (numbered_from (suc k) xs))

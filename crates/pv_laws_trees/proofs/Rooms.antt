@@ -1,4 +1,4 @@
--- Lemmas on the room that nodes need.
+-- The room that nodes need.
 use Rattle.std.proofs.Common.{◌≡◌, ℕ, zero, suc, ◌≤◌, Bool, true, false, cond, nat_le, nat_lt, List, [], ◌∷◌, filter, length, sum_by, Option, None, Some, refl, ap, subst, ◌∙◌, sym, arith, ⊎_elim}
 use Rattle.std.specs.FinMap.Entries.{where_key}
 use Rattle.std.specs.List.{list_any}
@@ -11,7 +11,7 @@ use Rattle.pv_model.specs.Held.{among}
 use Rattle.pv_model.specs.Numbered.{Numbered, at_number, present}
 use Rattle.pv_model.specs.Room.{entry_length, node_length, rounded_up, index_blocks, need, greatest_length, is_too_long, fits}
 use Rattle.pv_model.specs.Tree.{Node, directory_node, file_node, link_node, Tree, node_at, entries_of, entries_at, is_directory, is_directory_at, without_entry}
-use Rattle.pv_laws_trees.specs.Kept.{wanted, kept}
+use Rattle.pv_laws_trees.specs.Preserved.{wanted, preserved}
 use Rattle.pv_laws_trees.specs.Room.{IsNoLonger, IsNoLarger}
 use Rattle.pv_laws_trees.proofs.Changes.{node_at-same, node_at-other, directory-below}
 use Rattle.pv_laws_trees.proofs.Entries.{by_name, is_other}
@@ -72,7 +72,7 @@ module _ (v : Version) where
       ⊎_elim (λ here. or_left (longer other) _ (lt-ltb (greatest_length v) (node_length v other) (omega (arith, less zero, ltb-true (greatest_length v) (node_length v node) here))))
       (λ there. or_right (longer other) _ (longer_there xs ys (λ n. less (suc n)) there)) (or_cases (longer node) (list_any longer (present xs)) is)
 
-  -- one node that is too long is found
+  -- a node that is too long is found
   found_longer : (xs : Numbered Node) (n : ℕ) (node : Node) → at_number xs n ≡ Some node → longer node ≡ true → list_any longer (present xs) ≡ true
   found_longer [] n node at is = cc
   found_longer (None ∷ xs) zero node at is = cc
@@ -80,7 +80,7 @@ module _ (v : Version) where
   found_longer (Some other ∷ xs) zero node at is = let same : other ≡ node = cc at in or_left (longer other) _ (ap longer same ∙ is)
   found_longer (Some other ∷ xs) (suc n) node at is = or_right (longer other) _ (found_longer xs n node at is)
 
-  -- what is not too long
+  -- no node is too long
   pub not_longer : (xs : Numbered Node) (n : ℕ) (node : Node) → at_number xs n ≡ Some node → list_any longer (present xs) ≡ false → node_length v node ≤ greatest_length v
   not_longer xs n node at fails =
       ⊎_elim (λ is. let found = found_longer xs n node at is in cc) (λ is. ltb-false (greatest_length v) (node_length v node) is) (cases_Bool (longer node))
@@ -100,7 +100,7 @@ unfolding is_too_long
 smaller-not_too_long t u less is =
     longer_there t.version u.nodes t.nodes less.nodes (ap (λ v. list_any (longer v) (present u.nodes)) (sym less.version) ∙ is)
 
--- a node's length in a tree that is not too long
+-- the length of a node in a tree without nodes that are too long
 pub length-within : (t : Tree) (n : ℕ) (node : Node) → node_at t n ≡ Some node → is_too_long t ≡ false → node_length t.version node ≤ greatest_length t.version
 unfolding is_too_long
 length-within t n node at fails = not_longer t.version t.nodes n node at fails
@@ -109,22 +109,22 @@ pub too_long-at : (t : Tree) (n : ℕ) (node : Node) → node_at t n ≡ Some no
 unfolding is_too_long
 too_long-at t n node at is = found_longer t.version t.nodes n node at is
 
--- ---- a trimmed tree is no larger
+-- ---- collection does not enlarge a tree
 
 no_longer : (v : Rattle.pv_model.specs.declared.version.Version.Version) (b : Bool) (o : Option Node) → IsNoLonger v (Rattle.pv_model.specs.Numbered.keep_if b o) o
 no_longer v true None = tt
 no_longer v true (Some node) = Rattle.std.proofs.Common.le_refl _
 no_longer v false o = tt
 
-pub kept-no_larger : (t : Tree) (held : List ℕ) → IsNoLarger (kept t held) t
-kept-no_larger t held = record {
+pub preserved-no_larger : (t : Tree) (held : List ℕ) → IsNoLarger (preserved t held) t
+preserved-no_larger t held = record {
   blocks = refl;
   inodes = refl;
   version = refl;
   nodes = λ n. subst (λ o. IsNoLonger t.version o (node_at t n)) (sym (at_number-keep (among (wanted t held)) t.nodes n)) (no_longer t.version (among (wanted t held) n) (node_at t n));
 }
 
--- ---- an entry less
+-- ---- one entry less
 
 length-filter : {X : Type 0} (p : X → Bool) (xs : List X) → length (filter p xs) ≤ length xs
 length-filter p [] = omega arith

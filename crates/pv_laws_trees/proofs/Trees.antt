@@ -1,4 +1,4 @@
--- Lemmas on trees and their entries.
+-- Trees and their entries.
 use Rattle.std.proofs.Common.{◌≡◌, ◌≢◌, ◌↔◌, ℕ, zero, suc, ◌+◌, ◌≤◌, Bool, true, false, cond, ◌||◌, ◌==◌, List, [], ◌∷◌, ◌++◌, map, filter, flat_map, length, Option, None, Some, IsTrue, refl, ap, ap₂, sym, ◌∙◌, arith, inl, inr, ◌⊎◌, ⊎_elim}
 use Rattle.std.specs.Ordering.{eq_by_cmp}
 use Rattle.std.specs.FinMap.Entries.{find, is_sorted, below_all}
@@ -13,7 +13,7 @@ use Rattle.pv_model.specs.Tree.{Entries, Node, directory_node, file_node, link_n
 use Rattle.pv_laws_trees.specs.Tree.{IsSound}
 use Rattle.pv_laws_trees.proofs.Entries.{by_name, tied_itself, tied-same, find-names_node, names_node-find, find_after}
 
--- what is in the entries of the node at a number
+-- whether an entry of the node at a number names n
 abbrev pub names_at : ℕ → Numbered Node → ℕ → Bool
 names_at n xs d = names_node n (entries_of (at_number xs d))
 
@@ -71,7 +71,7 @@ parent-none n k (Some node ∷ xs) none i =
     by zero names rest = names
     by (suc i) names rest = rest i
 
--- ---- how many names
+-- ---- the number of names
 
 abbrev pairs : ℕ → Entries → List (ℕ × Bytes)
 pairs d es = map (λ e. (d, e.0)) es
@@ -118,7 +118,7 @@ uncounted_from n k (None ∷ xs) none = uncounted_from n (suc k) xs (λ d. none 
 uncounted_from n k (Some node ∷ xs) none =
     ap₂ (λ (a b : List (ℕ × Bytes)). a ++ b) (uncounted n k (entries_of (Some node)) (none 0)) (uncounted_from n (suc k) xs (λ d. none (suc d)))
 
--- what a name is found at: the first entry, or one after it
+-- a lookup finds the first entry, or one after it
 found_at : (n : ℕ) (name : Bytes) (e : Bytes × ℕ) (es : Entries) → find by_name name (e ∷ es) ≡ Some n
     → ((name ≡ e.0) × (e.1 ≡ n)) ⊎ (find by_name name es ≡ Some n)
 found_at n name e es is =
@@ -128,7 +128,7 @@ found_at n name e es is =
       | false ↦ λ tied there. inr there
     ] refl is
 
--- one name in a directory
+-- at most one name in a directory
 crowded : {P : Type 0} (n d : ℕ) (e : Bytes × ℕ) (es : Entries) → length (names_in n (e ∷ es) d) ≤ 1 → e.1 ≡ n → (name : Bytes) → find by_name name es ≡ Some n → P
 crowded n d e es once here name there =
     let more : 1 ≤ length (names_in n es d) = counted n d es (find-names_node n name es there) in
@@ -161,7 +161,7 @@ at_once n d (e ∷ es) sorted same =
     (λ other. omega (arith, ap length (names_in-other n d e es other)))
     (cases_Bool (e.1 == n))
 
--- one directory
+-- at most one directory
 once_at : (n k : ℕ) (xs : Numbered Node) → length (names_from n k xs) ≤ 1 → (d e : ℕ) → names_at n xs d ≡ true → names_at n xs e ≡ true → d ≡ e
 once_at n k [] once d e a b = cc
 once_at n k (None ∷ xs) once zero e a b = cc
@@ -179,7 +179,7 @@ once_at n k (Some node ∷ xs) once (suc d) zero a b =
 once_at n k (Some node ∷ xs) once (suc d) (suc e) a b =
     ap suc (once_at n (suc k) xs (omega (arith, length-append (names_in n (entries_of (Some node)) k) (names_from n (suc k) xs))) d e a b)
 
--- a directory's own names are no more than all
+-- the names in one directory are at most as many as all names
 as_many : (n a b : ℕ) (es : Entries) → length (names_in n es a) ≡ length (names_in n es b)
 as_many n a b es = length-map {B = ℕ × Bytes} (filter (λ e. e.1 == n) es) (λ e. (a, e.0)) ∙ sym (length-map {B = ℕ × Bytes} (filter (λ e. e.1 == n) es) (λ e. (b, e.0)))
 
@@ -192,7 +192,7 @@ no_more n k (Some node ∷ xs) zero m =
 no_more n k (Some node ∷ xs) (suc d) m =
     omega (arith, no_more n (suc k) xs d m, length-append (names_in n (entries_of (Some node)) k) (names_from n (suc k) xs))
 
--- what has one entry has one name
+-- a node with one entry has one name
 abbrev entry_at : Numbered Node → ℕ → Bytes → ℕ → Type 0
 entry_at xs d name n = find by_name name (entries_of (at_number xs d)) ≡ Some n
 
@@ -221,26 +221,26 @@ one_name n k (Some node ∷ xs) sorted same =
 
 -- ---- trees
 
--- an entry is one of its directory's
+-- an entry belongs to its directory
 pub entry-names : (t : Tree) (d : ℕ) (name : Bytes) (n : ℕ) → find_entry t d name ≡ Some n → names_at n t.nodes d ≡ true
 entry-names t d name n is = find-names_node n name (entries_at t d) is
 
--- what is in an entry is a named number
+-- the node of an entry is a named number
 pub entry-among : (t : Tree) (d : ℕ) (name : Bytes) (n : ℕ) → find_entry t d name ≡ Some n → among (named_numbers t) n ≡ true
 entry-among t d name n is = at-named n 0 t.nodes d (entry-names t d name n is)
 
--- each directory's entries rise in order
+-- the entries of each directory are in ascending order
 abbrev pub IsOrdered : Tree → Type 0
 IsOrdered t = (d : ℕ) → is_sorted by_name (entries_at t d) ≡ true
 
--- a named number is in an entry
+-- a named number has an entry
 pub among-entry : (t : Tree) → IsOrdered t → (n : ℕ) → among (named_numbers t) n ≡ true → (d : ℕ) × (name : Bytes) × (find_entry t d name ≡ Some n)
 among-entry t ordered n is =
     let found = named-at n 0 t.nodes is in
     let name = names_node-find n (entries_at t found.0) (ordered found.0) found.1 in
     (found.0, name.0, name.1)
 
--- what has an entry is not the root of none: it has a parent
+-- a node with an entry has a parent
 pub parent-entry : (t : Tree) → IsOrdered t → (n d : ℕ) → n ≢ root → parent t n ≡ Some d → (name : Bytes) × (find_entry t d name ≡ Some n)
 unfolding parent
 parent-entry t ordered n d other is =
@@ -256,7 +256,7 @@ parent-none_named t n none =
     let first : first_parent n (numbered t.nodes) ≡ None = ap (λ b. cond b (Some root) (first_parent n (numbered t.nodes))) (sym (ne_eqb n root other)) ∙ none in
     (other, λ d name is. let no = parent-none n 0 t.nodes first d in let yes = entry-names t d name n is in cc)
 
--- what has no entry has no parent
+-- a node without an entry has no parent
 pub parent-unnamed : (t : Tree) → IsOrdered t → (n : ℕ) → n ≢ root → ((d : ℕ) (name : Bytes) → find_entry t d name ≢ Some n) → parent t n ≡ None
 parent-unnamed t ordered n other none =
     elim (parent t n) as (λ p. parent t n ≡ p → p ≡ None) [ None ↦ λ is. refl | Some d ↦ λ is. let found = parent-entry t ordered n d other is in absurd (none d found.0 found.1) ] refl
@@ -265,7 +265,7 @@ pub parent-root : (t : Tree) → parent t root ≡ Some root
 unfolding parent
 parent-root t = refl
 
--- ---- well-formed is sound
+-- ---- a well-formed tree satisfies the conditions on its entries
 
 pub ordered : (t : Tree) → ((n : ℕ) (node : Node) → node_at t n ≡ Some node → IsTrue (is_node t.version node)) → IsOrdered t
 ordered t each d = by (node_at t d) refl

@@ -1,4 +1,4 @@
--- Lemmas on walks.
+-- Walks.
 use Rattle.std.proofs.Common.{◌≡◌, ◌↔◌, ℕ, zero, suc, ◌<◌, ◌≤◌, Bool, true, false, cond, if◌then◌else◌, not, ◌&&◌, ◌||◌, ◌==◌, nat_lt, List, [], ◌∷◌, ◌++◌, codes, length, Option, None, Some, Ok, Err, refl, ap, sym, subst, ◌∙◌, arith}
 use Rattle.std.specs.List.{list_all}
 use Rattle.std.proofs.lemmas.Bool.{ltb-true, ltb-false, lt-ltb, le-ltb, cases_Bool}
@@ -15,14 +15,14 @@ dot_is_not_dots component is =
     let same = Rattle.pv_laws_trees.proofs.Entries.bytes_eq-same component (codes "..") is in ap is_dot same
 
 module _ (t : Tree) (last : Bool) where
-  -- a right way on after links
+  -- a correct continuation after links
   abbrev IsRight : ℕ → PastLink → Type 0
   IsRight links following = (component : Bytes) (rest : List Bytes) (mark : Bool) (at n : ℕ) (text : Bytes) → Walk.LeadsTo t at component n (link_node text)
       → Walk.is_followed rest mark last ≡ true → Walk.Walks t last links (component ∷ rest) mark at (following text rest mark at)
 
-  module _ (links : ℕ) (following : PastLink) (right : IsRight links following) (component : Bytes) (rest : List Bytes) (mark : Bool) (at : ℕ) (name : Walk.IsLookedUp t component) (stands : is_removed t at ≡ false) where
+  module _ (links : ℕ) (following : PastLink) (right : IsRight links following) (component : Bytes) (rest : List Bytes) (mark : Bool) (at : ℕ) (name : Walk.IsLookedUp t component) (appears : is_removed t at ≡ false) where
     here : (n : ℕ) (node : Node) → find_entry t at component ≡ Some n → node_at t n ≡ Some node → Walk.LeadsTo t at component n node
-    here n node found is = record { name = name; stands = stands; entry = found; is = is }
+    here n node found is = record { name = name; appears = appears; entry = found; is = is }
 
     link_walks : (n : ℕ) (text : Bytes) → Walk.LeadsTo t at component n (link_node text) → (b : Bool) → (is_empty rest && not mark && not last) ≡ b
         → Walk.Walks t last links (component ∷ rest) mark at (cond b (Ok (At at component (Some n))) (following text rest mark at))
@@ -30,33 +30,33 @@ module _ (t : Tree) (last : Bool) where
     link_walks n text leads false is = right component rest mark at n text leads (ap not is)
 
   module _ (links : ℕ) (following : PastLink) (right : IsRight links following) where
-    -- what is at the entry's node
+    -- the walk at the node of an entry
     node_walks : (component : Bytes) (rest : List Bytes) (mark : Bool) (at : ℕ) → Walk.IsLookedUp t component → is_removed t at ≡ false
         → ((m : ℕ) → Walk.Walks t last links rest mark m (along t last following rest mark m))
         → (n : ℕ) → find_entry t at component ≡ Some n → (o : Option Node) → node_at t n ≡ o
         → Walk.Walks t last links (component ∷ rest) mark at (at_node t last following (along t last following rest mark) at component rest mark n o)
-    node_walks component rest mark at name stands onward n found None is = Walk.Walks.lost links component rest mark at n name stands found is
-    node_walks component rest mark at name stands onward n found (Some (link_node text)) is =
-        link_walks links following right component rest mark at name stands n text (record { name = name; stands = stands; entry = found; is = is }) (is_empty rest && not mark && not last) refl
-    node_walks component [] mark at name stands onward n found (Some (directory_node es)) is =
-        Walk.Walks.finds_directory links component mark at n es (record { name = name; stands = stands; entry = found; is = is })
-    node_walks component (next ∷ rest) mark at name stands onward n found (Some (directory_node es)) is =
-        Walk.Walks.enters links component next rest mark at n es _ (record { name = name; stands = stands; entry = found; is = is }) (onward n)
-    node_walks component [] true at name stands onward n found (Some (file_node executable bytes)) is =
-        Walk.Walks.wants_directory links component at n executable bytes (record { name = name; stands = stands; entry = found; is = is })
-    node_walks component [] false at name stands onward n found (Some (file_node executable bytes)) is =
-        Walk.Walks.finds_file links component at n executable bytes (record { name = name; stands = stands; entry = found; is = is })
-    node_walks component (next ∷ rest) mark at name stands onward n found (Some (file_node executable bytes)) is =
-        Walk.Walks.not_entered links component next rest mark at n executable bytes (record { name = name; stands = stands; entry = found; is = is })
+    node_walks component rest mark at name appears onward n found None is = Walk.Walks.lost links component rest mark at n name appears found is
+    node_walks component rest mark at name appears onward n found (Some (link_node text)) is =
+        link_walks links following right component rest mark at name appears n text (record { name = name; appears = appears; entry = found; is = is }) (is_empty rest && not mark && not last) refl
+    node_walks component [] mark at name appears onward n found (Some (directory_node es)) is =
+        Walk.Walks.finds_directory links component mark at n es (record { name = name; appears = appears; entry = found; is = is })
+    node_walks component (next ∷ rest) mark at name appears onward n found (Some (directory_node es)) is =
+        Walk.Walks.enters links component next rest mark at n es _ (record { name = name; appears = appears; entry = found; is = is }) (onward n)
+    node_walks component [] true at name appears onward n found (Some (file_node executable bytes)) is =
+        Walk.Walks.wants_directory links component at n executable bytes (record { name = name; appears = appears; entry = found; is = is })
+    node_walks component [] false at name appears onward n found (Some (file_node executable bytes)) is =
+        Walk.Walks.finds_file links component at n executable bytes (record { name = name; appears = appears; entry = found; is = is })
+    node_walks component (next ∷ rest) mark at name appears onward n found (Some (file_node executable bytes)) is =
+        Walk.Walks.not_entered links component next rest mark at n executable bytes (record { name = name; appears = appears; entry = found; is = is })
 
     entry_walks : (component : Bytes) (rest : List Bytes) (mark : Bool) (at : ℕ) → Walk.IsLookedUp t component → is_removed t at ≡ false
         → ((m : ℕ) → Walk.Walks t last links rest mark m (along t last following rest mark m))
         → (o : Option ℕ) → find_entry t at component ≡ o
         → Walk.Walks t last links (component ∷ rest) mark at (at_entry t last following (along t last following rest mark) at component rest mark o)
-    entry_walks component [] true at name stands onward None found = Walk.Walks.absent links component [] true at name stands found refl
-    entry_walks component [] false at name stands onward None found = Walk.Walks.vacant links component at name stands found
-    entry_walks component (next ∷ rest) mark at name stands onward None found = Walk.Walks.absent links component (next ∷ rest) mark at name stands found refl
-    entry_walks component rest mark at name stands onward (Some n) found = node_walks component rest mark at name stands onward n found (node_at t n) refl
+    entry_walks component [] true at name appears onward None found = Walk.Walks.absent links component [] true at name appears found refl
+    entry_walks component [] false at name appears onward None found = Walk.Walks.vacant links component at name appears found
+    entry_walks component (next ∷ rest) mark at name appears onward None found = Walk.Walks.absent links component (next ∷ rest) mark at name appears found refl
+    entry_walks component rest mark at name appears onward (Some n) found = node_walks component rest mark at name appears onward n found (node_at t n) refl
 
     parent_walks : (component : Bytes) (rest : List Bytes) (mark : Bool) (at : ℕ) → is_dot_dot component ≡ true
         → ((m : ℕ) → Walk.Walks t last links rest mark m (along t last following rest mark m))
@@ -92,7 +92,7 @@ module _ (t : Tree) (last : Bool) where
     along-walks [] mark at = Walk.Walks.arrives links mark at
     along-walks (component ∷ rest) mark at = dots_walk component rest mark at (λ m. along-walks rest mark m) (is_dot component) (is_dot_dot component) refl refl
 
-  -- each walk obeys the relation
+  -- each computed walk satisfies the relation
   pub walk-walks : (links : ℕ) (ps : List Bytes) (mark : Bool) (at : ℕ) → Walk.Walks t last links ps mark at (walk t last links ps mark at)
   walk-walks zero ps mark at = along-walks zero (no_link_left t last) (λ component rest mark at n text leads followed. Walk.Walks.out_of_links component rest mark at n text leads followed) ps mark at
   walk-walks (suc links) ps mark at =
@@ -109,7 +109,7 @@ module _ (t : Tree) (last : Bool) where
           Walk.Walks.through links component rest mark at n text _ leads followed (ltb-false 1024 (weight (components text ++ rest)) is)
           (on (components text ++ rest) (mark || (is_empty rest && ends_in_slash text)) (if is_absolute text then root else at))
 
-  -- ---- and the relation gives no other answer
+  -- ---- the relation has no other result
 
   abbrev after_of : ℕ → PastLink
   after_of zero = no_link_left t last
@@ -147,12 +147,12 @@ module _ (t : Tree) (last : Bool) where
     along-short : Walk.IsLookedUp t component → along t last following (component ∷ rest) mark at ≡ by_removed (is_removed t at)
     along-short name = along-name name.no_dot name.no_dot_dot ∙ ap by_length (le-ltb (greatest_name t.version) (length component) name.short)
 
-    along-stands : Walk.IsLookedUp t component → is_removed t at ≡ false → along t last following (component ∷ rest) mark at ≡ at_entry t last following onward_from at component rest mark (find_entry t at component)
-    along-stands name stands = along-short name ∙ ap by_removed stands
+    along-appears : Walk.IsLookedUp t component → is_removed t at ≡ false → along t last following (component ∷ rest) mark at ≡ at_entry t last following onward_from at component rest mark (find_entry t at component)
+    along-appears name appears = along-short name ∙ ap by_removed appears
 
     along-leads : (n : ℕ) (node : Node) → Walk.LeadsTo t at component n node → along t last following (component ∷ rest) mark at ≡ at_node t last following onward_from at component rest mark n (Some node)
     along-leads n node leads =
-        along-stands leads.name leads.stands ∙ ap (at_entry t last following onward_from at component rest mark) leads.entry ∙ ap (at_node t last following onward_from at component rest mark n) leads.is
+        along-appears leads.name leads.appears ∙ ap (at_entry t last following onward_from at component rest mark) leads.entry ∙ ap (at_node t last following onward_from at component rest mark n) leads.is
 
     along-link : (n : ℕ) (text : Bytes) (b : Bool) → Walk.LeadsTo t at component n (link_node text) → Walk.is_followed rest mark last ≡ b
         → along t last following (component ∷ rest) mark at ≡ (if b then following text rest mark at else Ok (At at component (Some n)))
@@ -181,11 +181,11 @@ module _ (t : Tree) (last : Bool) where
       ∙ ap (by_length (after_of links) component rest mark at) (lt-ltb (greatest_name t.version) (length component) long)
   walks-walk _ _ _ _ _ (Walk.Walks.in_removed links component rest mark at name is) =
       walk-along links (component ∷ rest) mark at ∙ along-short (after_of links) component rest mark at name ∙ ap (by_removed (after_of links) component rest mark at) is
-  walks-walk _ _ _ _ _ (Walk.Walks.absent links component rest mark at name stands none more) =
-      walk-along links (component ∷ rest) mark at ∙ along-stands (after_of links) component rest mark at name stands
+  walks-walk _ _ _ _ _ (Walk.Walks.absent links component rest mark at name appears none more) =
+      walk-along links (component ∷ rest) mark at ∙ along-appears (after_of links) component rest mark at name appears
       ∙ ap (at_entry t last (after_of links) (along t last (after_of links) rest mark) at component rest mark) none ∙ no_last rest mark more (Ok (At at component None))
-  walks-walk _ _ _ _ _ (Walk.Walks.vacant links component at name stands none) =
-      walk-along links (component ∷ []) false at ∙ along-stands (after_of links) component [] false at name stands
+  walks-walk _ _ _ _ _ (Walk.Walks.vacant links component at name appears none) =
+      walk-along links (component ∷ []) false at ∙ along-appears (after_of links) component [] false at name appears
       ∙ ap (at_entry t last (after_of links) (along t last (after_of links) [] false) at component [] false) none
   walks-walk _ _ _ _ _ (Walk.Walks.out_of_links component rest mark at n text leads followed) = along-link (after_of 0) component rest mark at n text true leads followed
   walks-walk _ _ _ _ _ (Walk.Walks.too_heavy links component rest mark at n text leads followed heavy) =
@@ -210,8 +210,8 @@ module _ (t : Tree) (last : Bool) where
       walk-along links (component ∷ rest) mark at ∙ along-link (after_of links) component rest mark at n text false leads followed
   walks-walk _ _ _ _ _ (Walk.Walks.wants_directory links component at n executable bytes leads) =
       walk-along links (component ∷ []) true at ∙ along-leads (after_of links) component [] true at n (file_node executable bytes) leads
-  walks-walk _ _ _ _ _ (Walk.Walks.lost links component rest mark at n name stands found none) =
-      walk-along links (component ∷ rest) mark at ∙ along-stands (after_of links) component rest mark at name stands
+  walks-walk _ _ _ _ _ (Walk.Walks.lost links component rest mark at n name appears found none) =
+      walk-along links (component ∷ rest) mark at ∙ along-appears (after_of links) component rest mark at name appears
       ∙ ap (at_entry t last (after_of links) (along t last (after_of links) rest mark) at component rest mark) found
       ∙ ap (at_node t last (after_of links) (along t last (after_of links) rest mark) at component rest mark n) none
 
@@ -258,7 +258,7 @@ pub resolves-as_walked : (t : Tree) (follow : Follow) (start : ℕ) (path : Byte
 resolves-as_walked t follow start path r =
     (λ is. subst (Walk.Resolves t follow start path) is (resolve-resolves t follow start path), resolves-resolve t follow start path r)
 
--- ---- slashes alone
+-- ---- paths of slashes
 
 slash_components : (path : Bytes) → list_all (λ b. b == 47) path ≡ true → components path ≡ []
 slash_components [] all = refl

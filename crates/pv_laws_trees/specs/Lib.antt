@@ -1,6 +1,11 @@
 pub mod Found
-pub mod Kept
+pub mod Preserved
 pub mod Room
-pub mod Spelled
+pub mod Encoded
 pub mod Tree
 pub mod Walk
+pub mod Faults
+pub mod Slots
+pub mod Starts
+pub mod Inodes
+pub mod Mounts

@@ -1,4 +1,4 @@
--- Laws of trees.
+-- Laws of directory trees.
 use Rattle.std.specs.Prelude.{◌≡◌, ◌≢◌, ◌↔◌, ℕ, suc, ◌≤◌, ◌==◌, IsTrue, IsFalse, [], length, None, Some, is_some, bytes_eq}
 use Rattle.std.specs.List.{list_any}
 use Rattle.std.specs.Cmp.Lexicographic.{slice_cmp}
@@ -8,7 +8,7 @@ use Rattle.pv_model.specs.Calls.Descriptors.{with_content}
 use Rattle.pv_model.specs.Calls.Paths.{contains_directory, entries_there}
 use Rattle.pv_model.specs.Tree.{Node, Tree, root, node_at, entries_of, entries_at, is_directory_at, find_entry, parent, ancestors, IsAtOrAbove, is_removed, with_entry, without_entry, new_number, with_new_node, is_name, is_node, IsReached, IsWellFormed}
 
--- what a well-formed tree is, said of its entries alone
+-- the conditions on individual entries that make a tree well-formed
 pub record IsSound (t : Tree) : Type 0 where
   pub numbers : length t.nodes ≡ suc t.inodes
   pub no_zero : (n : ℕ) (node : Node) → node_at t n ≡ Some node → n ≢ 0
@@ -22,61 +22,62 @@ pub record IsSound (t : Tree) : Type 0 where
   pub removed_are_empty : (d : ℕ) → IsTrue (is_directory_at t d) → d ≢ root
       → ((e : ℕ) (name : Bytes) → find_entry t e name ≢ Some d) → entries_at t d ≡ []
 
--- a tree is well-formed exactly where its entries say so
+-- a tree is well-formed if and only if it satisfies the conditions on its entries
 abbrev pub SoundIsWellFormed : Type 0
 SoundIsWellFormed = (t : Tree) → IsWellFormed t ↔ IsSound t
 
--- an entry for a directory stands in its parent, the one directory that has it
+-- the parent of a directory is the one directory that has an entry for it
 abbrev pub ParentHasEntry : Type 0
 ParentHasEntry =
     (t : Tree) → IsWellFormed t → (n d : ℕ) → n ≢ root → IsTrue (is_directory_at t n)
     → (parent t n ≡ Some d) ↔ ((name : Bytes) × (find_entry t d name ≡ Some n))
 
--- the order of names tells equal bytes as the test of bytes does
+-- the order of names treats two names as equal if and only if their bytes are equal
 abbrev pub NamesTie : Type 0
 NamesTie = (a b : Bytes) → eq_by_cmp (slice_cmp nat_cmp) a b ≡ bytes_eq a b
 
--- a directory that stands in the tree: the root, or one that an entry is for
-abbrev pub Stands : Tree → ℕ → Type 0
-Stands t d = IsTrue (is_directory_at t d) × IsFalse (is_removed t d)
+-- a directory that is not removed: the root, or one that an entry names
+abbrev pub Appears : Tree → ℕ → Type 0
+Appears t d = IsTrue (is_directory_at t d) × IsFalse (is_removed t d)
 
--- the directories above one that stands lead to the root
+-- the root is among the ancestors of each directory that is not removed
 abbrev pub ParentsLeadToRoot : Type 0
-ParentsLeadToRoot = (t : Tree) → IsWellFormed t → (d : ℕ) → Stands t d → IsTrue (list_any (λ e. e == root) (ancestors t d))
+ParentsLeadToRoot = (t : Tree) → IsWellFormed t → (d : ℕ) → Appears t d → IsTrue (list_any (λ e. e == root) (ancestors t d))
 
--- and none of them is the directory itself
+-- a directory is not below itself
 abbrev pub NoneAboveItself : Type 0
 NoneAboveItself =
-    (t : Tree) → IsWellFormed t → (d above : ℕ) → Stands t d → d ≢ root → parent t d ≡ Some above → IsFalse (contains_directory t d above)
+    (t : Tree) → IsWellFormed t → (d above : ℕ) → Appears t d → d ≢ root → parent t d ≡ Some above → IsFalse (contains_directory t d above)
 
--- the directories above a node, and the node, are those from which its parents lead to it
+-- climbing finds exactly the directory itself and its ancestors
 abbrev pub AncestorsAreAbove : Type 0
 AncestorsAreAbove = (t : Tree) → IsWellFormed t → (d e : ℕ) → IsTrue (contains_directory t e d) ↔ IsAtOrAbove t e d
 
--- a file's bytes may change
+-- the bytes of a file may change
 abbrev pub StaysWithContent : Type 0
 StaysWithContent = (t : Tree) → IsWellFormed t → (f : ℕ) (bytes : Bytes) → IsWellFormed (with_content t f bytes)
 
--- a new node, a directory without entries, a file or a link, may stand under a new name in a directory that stands, where a number is free
+-- a new node without entries may get a new name in a directory that is not removed, if a number is free
 abbrev pub StaysWithNewNode : Type 0
 StaysWithNewNode =
-    (t : Tree) → IsWellFormed t → (d : ℕ) (name : Bytes) (node : Node) → Stands t d → find_entry t d name ≡ None → IsTrue (is_name t.version name)
+    (t : Tree) → IsWellFormed t → (d : ℕ) (name : Bytes) (node : Node) → Appears t d → find_entry t d name ≡ None → IsTrue (is_name t.version name)
     → IsTrue (is_node t.version node) → entries_of (Some node) ≡ [] → new_number t ≤ t.inodes → IsWellFormed (with_new_node t d name node)
 
--- a node that is no directory may have one more name
+-- a node that is not a directory may get another name
 abbrev pub StaysWithEntry : Type 0
 StaysWithEntry =
-    (t : Tree) → IsWellFormed t → (d : ℕ) (name : Bytes) (n : ℕ) → Stands t d → find_entry t d name ≡ None → IsTrue (is_name t.version name)
+    (t : Tree) → IsWellFormed t → (d : ℕ) (name : Bytes) (n : ℕ) → Appears t d → find_entry t d name ≡ None → IsTrue (is_name t.version name)
     → IsTrue (is_some (node_at t n)) → IsFalse (is_directory_at t n) → IsWellFormed (with_entry t d name n)
 
--- an entry may go whose node has no entries
+-- an entry whose node has no entries may be removed
 abbrev pub StaysWithoutEntry : Type 0
 StaysWithoutEntry =
     (t : Tree) → IsWellFormed t → (d : ℕ) (name : Bytes) (n : ℕ) → find_entry t d name ≡ Some n → entries_at t n ≡ [] → IsWellFormed (without_entry t d name)
 
--- a node may get another name in a directory that stands, neither the node itself nor below it, where there is nothing, or another node without entries
+-- a node may get a new name in a directory that is not removed and is neither the node nor below it, where the name is
+-- absent or names another node without entries
 abbrev pub StaysRenamed : Type 0
 StaysRenamed =
-    (t : Tree) → IsWellFormed t → (d : ℕ) (name : Bytes) (e : ℕ) (new : Bytes) (n : ℕ) → find_entry t d name ≡ Some n → Stands t e → IsTrue (is_name t.version new)
+    (t : Tree) → IsWellFormed t → (d : ℕ) (name : Bytes) (e : ℕ) (new : Bytes) (n : ℕ) → find_entry t d name ≡ Some n → Appears t e → IsTrue (is_name t.version new)
     → IsFalse (contains_directory t n e) → find_entry t e new ≢ Some n → entries_there t (find_entry t e new) ≡ []
     → IsWellFormed (with_entry (without_entry t d name) e new n)

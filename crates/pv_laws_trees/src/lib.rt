@@ -1,16 +1,17 @@
-//! Laws of trees and walks, whose definitions stand in `pv_model`.
+//! Laws of directory trees, path walks and disk images.
 //!
-//! Each function has an empty body: its contract is the law, which the check proves. The statements stand in `specs/`, one
-//! file for a subject, and contracts of other crates may cite their words:
+//! Each law is a function with an empty body whose contract is the statement. Statements are in `specs/`, one file per
+//! subject, and contracts of other crates may cite them. Lemmas are in `proofs/`; those that proofs of code use are
+//! public.
 //!
-//! - `tree`: well-formed trees by their entries; parents; the changes under which a tree stays well-formed.
-//! - `walk`: the walk as a relation, case by case; what a place is; what a walk reads.
-//! - `kept`: what a tree keeps of its nodes. `room`: what fits.
-//!
-//! The lemmas stand in `proofs/`, and those that code is proved with are public.
+//! - `tree`: well-formed trees, parents, and the changes that keep a tree well-formed. `walk`: the walk along a path as
+//!   a relation, what a place is, and what a walk reads.
+//! - `preserved`: the nodes that remain after unreferenced nodes are collected. `room`: which trees fit in an image.
+//! - `image_bytes`: the bytes of an image and the tree that they hold.
 #![tactic(auto)]
 
-pub mod kept;
+pub mod image_bytes;
+pub mod preserved;
 pub mod room;
 pub mod tree;
 pub mod walk;

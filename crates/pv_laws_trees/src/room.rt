@@ -2,17 +2,17 @@
 
 ghost use Rattle.pv_laws_trees.specs.Room.{NeedGrows, SmallerFits, SmallerIsNotTooLong};
 
-/// A longer content needs no fewer blocks.
+/// A longer content needs at least as many blocks.
 pub fn need_grows()
     ensures { NeedGrows }
 {}
 
-/// A tree that fits still fits with nodes less, or with shorter ones.
+/// A tree that fits still fits if nodes are removed or become shorter.
 pub fn smaller_fits()
     ensures { SmallerFits }
 {}
 
-/// A tree with nodes less, or with shorter ones, has no node that is too long where there was none.
+/// If no node of a tree is too long, none is after nodes are removed or become shorter.
 pub fn smaller_is_not_too_long()
     ensures { SmallerIsNotTooLong }
 {}

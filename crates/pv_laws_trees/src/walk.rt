@@ -1,28 +1,29 @@
-//! Laws of walks: symlink(7).
+//! Laws of the walk along a path, symlink(7).
 
 ghost use Rattle.pv_laws_trees.specs.Walk.{ResolvesAsWalked, WalksOnce, SlashesAreRoot, LeadsToPlace, WalksAlike};
 
-/// A path is resolved exactly as the walk's cases say.
+/// `resolve` computes the result that the cases of the walk define.
 pub fn resolves_as_walked()
     ensures { ResolvesAsWalked }
 {}
 
-/// The walk's cases give one answer.
+/// The cases of the walk define at most one result.
 pub fn walks_once()
     ensures { WalksOnce }
 {}
 
-/// A path of slashes alone is the root.
+/// A path that consists of slashes names the root.
 pub fn slashes_are_root()
     ensures { SlashesAreRoot }
 {}
 
-/// A place names a directory that stands, and what it has under a name that an entry may have.
+/// A path without zero bytes resolves to a place in the tree: a directory, or a valid name in a directory that is not
+/// removed, with the node that the name has there.
 pub fn leads_to_place()
     ensures { LeadsToPlace }
 {}
 
-/// A walk reads the entries of directories and the texts of links, and nothing else.
+/// A walk reads the entries of directories, the kinds of nodes and the texts of links, and nothing else.
 pub fn walks_alike()
     ensures { WalksAlike }
 {}

@@ -1,4 +1,4 @@
--- Facts of concrete trees and images, one by one.
+-- Facts about concrete trees and images, proved element by element.
 use Rattle.std.proofs.Common.{◌≡◌, ℕ, zero, suc, ◌<◌, true, false, cond, List, [], ◌∷◌, Option, None, Some, ap, subst, refl, arith}
 use Rattle.std.specs.Prelude.{⊤, IsTrue}
 use Rattle.std.specs.Cmp.Lexicographic.{slice_cmp}
@@ -8,7 +8,7 @@ use Rattle.pv_model.specs.Bytes.{Bytes}
 use Rattle.pv_model.specs.Numbered.{Numbered, at_number}
 use Rattle.pv_model.specs.Tree.{Entries, Tree, node_at, entries_of, is_directory, is_directory_at, find_entry}
 
--- P holds of the numbers below k
+-- P holds for the numbers below k
 abbrev pub Below : (ℕ → Type 0) → ℕ → Type 0
 Below P zero = ⊤
 Below P (suc k) = P 0 × Below (λ n. P (suc n)) k
@@ -28,7 +28,7 @@ abbrev some_or : {X : Type 0} → X → Option X → X
 some_or x None = x
 some_or x (Some y) = y
 
--- P holds of each that is there
+-- P holds for each value of the map
 abbrev pub Each : {X : Type 0} → (ℕ → X → Type 0) → Numbered X → Type 0
 Each P [] = ⊤
 Each P (None ∷ xs) = Each (λ n. P (suc n)) xs
@@ -41,15 +41,15 @@ each P (None ∷ xs) all (suc n) x is = each (λ m. P (suc m)) xs all n x is
 each P (Some y ∷ xs) all zero x is = subst (P 0) (ap (some_or y) is) all.0
 each P (Some y ∷ xs) all (suc n) x is = each (λ m. P (suc m)) xs all.1 n x is
 
--- a fact of each directory
+-- a fact about each directory
 pub each_directory : (t : Tree) (P : ℕ → Type 0) → Each (λ n node. IsTrue (is_directory (Some node)) → P n) t.nodes → (n : ℕ) → IsTrue (is_directory_at t n) → P n
 each_directory t P all n is =
     elim (node_at t n) as (λ o. node_at t n ≡ o → IsTrue (is_directory o) → P n) [
       | None ↦ λ at h. absurd cc
-      | Some node ↦ λ at h. each (λ m kept. IsTrue (is_directory (Some kept)) → P m) t.nodes all n node at h
+      | Some node ↦ λ at h. each (λ m preserved. IsTrue (is_directory (Some preserved)) → P m) t.nodes all n node at h
     ] refl is
 
--- P holds of each number that entries are for
+-- P holds for each node number of the entries
 abbrev pub Named : (ℕ → Type 0) → Entries → Type 0
 Named P [] = ⊤
 Named P (e ∷ es) = P e.1 × Named P es
@@ -62,11 +62,11 @@ named P name (e ∷ es) all n is =
       | false ↦ λ h. named P name es all.1 n h
     ] is
 
--- a fact of each directory and each number that it has an entry for
+-- a fact about each directory and each node that it names
 pub each_entry : (t : Tree) (Q : ℕ → ℕ → Type 0) → Each (λ d node. Named (Q d) (entries_of (Some node))) t.nodes
     → (d : ℕ) (name : Bytes) (n : ℕ) → find_entry t d name ≡ Some n → Q d n
 each_entry t Q all d name n is =
     elim (node_at t d) as (λ o. node_at t d ≡ o → find (slice_cmp nat_cmp) name (entries_of o) ≡ Some n → Q d n) [
       | None ↦ λ at h. absurd cc
-      | Some node ↦ λ at h. named (Q d) name (entries_of (Some node)) (each (λ e kept. Named (Q e) (entries_of (Some kept))) t.nodes all d node at) n h
+      | Some node ↦ λ at h. named (Q d) name (entries_of (Some node)) (each (λ e preserved. Named (Q e) (entries_of (Some preserved))) t.nodes all d node at) n h
     ] refl is

@@ -40,13 +40,13 @@ whole = record {
 }
 
 slot_1 : IsSlot V1 (slot_bytes 4 (codes "init")) (codes "init") 4
-slot_1 = record { number = 4 ∷ 0 ∷ []; unread = 0; left = replicate 56 0; is_spelled = refl; two_bytes = refl; is_number = refl; is_whole = refl }
+slot_1 = record { number = 4 ∷ 0 ∷ []; unread = 0; left = replicate 56 0; is_encoded = refl; two_bytes = refl; is_number = refl; is_whole = refl }
 
 slot_2 : IsSlot V1 (slot_bytes 2 (codes "etc")) (codes "etc") 2
-slot_2 = record { number = 2 ∷ 0 ∷ []; unread = 0; left = replicate 57 0; is_spelled = refl; two_bytes = refl; is_number = refl; is_whole = refl }
+slot_2 = record { number = 2 ∷ 0 ∷ []; unread = 0; left = replicate 57 0; is_encoded = refl; two_bytes = refl; is_number = refl; is_whole = refl }
 
 slot_3 : IsSlot V1 (slot_bytes 3 (codes "motd")) (codes "motd") 3
-slot_3 = record { number = 3 ∷ 0 ∷ []; unread = 0; left = replicate 56 0; is_spelled = refl; two_bytes = refl; is_number = refl; is_whole = refl }
+slot_3 = record { number = 3 ∷ 0 ∷ []; unread = 0; left = replicate 56 0; is_encoded = refl; two_bytes = refl; is_number = refl; is_whole = refl }
 
 root_slots : AreSlots V1 (content V1 example 1) ((codes "init", 4) ∷ (codes "etc", 2) ∷ [])
 root_slots =

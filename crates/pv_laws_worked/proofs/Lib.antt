@@ -1,5 +1,5 @@
--- Lemmas of worked images: Concrete (facts of concrete trees and images), Smallest (the smallest image), Example (that of a run that reads
--- one file), PastSlot (a root with a name past its one slot).
+-- Lemmas about the worked images: Concrete (facts about concrete trees and images), Smallest (the smallest image),
+-- Example (the image of a run that reads one file), PastSlot (a root with a name that exceeds its slot).
 pub mod Concrete
 pub mod Example
 pub mod PastSlot

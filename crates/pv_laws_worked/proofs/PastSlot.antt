@@ -1,4 +1,4 @@
--- A root that has one slot, with a name past it, is the root of no tree.
+-- A root whose one slot states a name longer than the slot is not the root of a tree.
 use Rattle.std.proofs.Common.{◌≡◌, ℕ, suc, ◌+◌, ◌<◌, ◌≤◌, [], ◌∷◌, ◌++◌, length, length-append, slice_index, Option, None, Some, ap, sym, subst, ◌∙◌, refl, arith}
 use Rattle.std.specs.Prelude.{IsTrue}
 use Rattle.pv_model.specs.declared.version.Version.{Version}
@@ -8,7 +8,7 @@ use Rattle.pv_model.specs.Image.{magic, content, AreSlots, no_slot, one_more, Ho
 use Rattle.pv_model.specs.Tree.{Entries, Node, directory_node, file_node, link_node, Tree, node_at, is_directory}
 use Rattle.pv_laws_worked.specs.Images.{past_slot}
 
--- the length that stands in a slot, and how long the slot is
+-- the length stated in a slot fits in the slot
 measured : (number name left rest : Bytes) (unread : ℕ) → length number ≡ 2
     → (slice_index ((number ++ length name ∷ unread ∷ name ++ left) ++ rest) 2 ≡ length name) × (length (number ++ length name ∷ unread ∷ name ++ left) ≡ 4 + (length name + length left))
 measured [] name left rest unread two = absurd (omega arith)
@@ -16,14 +16,14 @@ measured (a ∷ []) name left rest unread two = absurd (omega arith)
 measured (a ∷ b ∷ []) name left rest unread two = (refl, ap (λ n. suc (suc (suc (suc n)))) (length-append name left) ∙ omega arith)
 measured (a ∷ b ∷ c ∷ number) name left rest unread two = absurd (omega arith)
 
--- the length that the first slot of some tells is that of a name in it
+-- the length stated in the first of several slots is that of its name
 first_length : (bytes : Bytes) (es : Entries) → AreSlots V1 bytes es → 0 < length bytes → slice_index bytes 2 ≤ 60
 first_length _ _ no_slot some = absurd (omega arith)
 first_length _ _ (one_more slot rest name n others is more) some =
     let parts = measured is.number name is.left rest is.unread is.two_bytes in
-    let told : slice_index (slot ++ rest) 2 ≡ length name = ap (λ (bs : Bytes). slice_index (bs ++ rest) 2) is.is_spelled ∙ parts.0 in
-    let long : 64 ≡ 4 + (length name + length is.left) = sym is.is_whole ∙ ap length is.is_spelled ∙ parts.1 in
-    omega (arith, told, long)
+    let reported : slice_index (slot ++ rest) 2 ≡ length name = ap (λ (bs : Bytes). slice_index (bs ++ rest) 2) is.is_encoded ∙ parts.0 in
+    let long : 64 ≡ 4 + (length name + length is.left) = sym is.is_whole ∙ ap length is.is_encoded ∙ parts.1 in
+    omega (arith, reported, long)
 
 root_held : (long : ℕ) (t : Tree) (o : Option Node) → 60 < long → IsTrue (is_directory o) → HoldsAny V1 (past_slot long) t 1 o → ⊥
 root_held long t None more is held = cc

@@ -1,4 +1,4 @@
--- The record of all that worked runs show.
+-- The record of all worked examples.
 use Rattle.pv_laws_worked.specs.Audits
 use Rattle.pv_laws_worked.specs.Errors
 use Rattle.pv_laws_worked.specs.Execve
@@ -20,7 +20,7 @@ use Rattle.pv_laws_worked.specs.Texts
 use Rattle.pv_laws_worked.specs.Unveils
 use Rattle.pv_laws_worked.specs.Walks
 
--- what a theorem states
+-- the statement of a theorem
 abbrev pub Stated : {A : Type 0} → A → Type 0
 Stated {A} theorem = A
 
@@ -71,7 +71,7 @@ pub record AllExecve : Type 0 where
 pub record AllExplored : Type 0 where
   pub a_loop_has_two_states : Stated Explored.a_loop_has_two_states
   pub a_loop_leads_back : Stated Explored.a_loop_leads_back
-  pub each_text_has_its_way : Stated Explored.each_text_has_its_way
+  pub each_text_has_its_witness : Stated Explored.each_text_has_its_witness
   pub a_state_is_left_out : Stated Explored.a_state_is_left_out
   pub two_orders_end_apart : Stated Explored.two_orders_end_apart
 
@@ -197,11 +197,11 @@ pub record AllPromises : Type 0 where
   pub create_without_promise : Stated Promises.create_without_promise
 
 pub record AllQuestions : Type 0 where
-  pub each_is_told : Stated Questions.each_is_told
+  pub each_is_reported : Stated Questions.each_is_reported
   pub places_are_reached : Stated Questions.places_are_reached
   pub removed_is_reached : Stated Questions.removed_is_reached
   pub refusals_are_explained : Stated Questions.refusals_are_explained
-  pub stints_ask : Stated Questions.stints_ask
+  pub process_images_ask : Stated Questions.process_images_ask
   pub turns_are_taken : Stated Questions.turns_are_taken
 
 pub record AllRooms : Type 0 where
@@ -227,7 +227,7 @@ pub record AllSources : Type 0 where
   pub faults_of_the_tree : Stated Sources.faults_of_the_tree
   pub init_is_a_directory : Stated Sources.init_is_a_directory
   pub exec_at_fault : Stated Sources.exec_at_fault
-  pub twenty_are_told : Stated Sources.twenty_are_told
+  pub twenty_are_reported : Stated Sources.twenty_are_reported
   pub instructions_too_many : Stated Sources.instructions_too_many
 
 pub record AllStarts : Type 0 where
@@ -267,7 +267,7 @@ pub record AllUnveils : Type 0 where
   pub child_has_table : Stated Unveils.child_has_table
 
 pub record AllWalks : Type 0 where
-  pub kept_link : Stated Walks.kept_link
+  pub preserved_link : Stated Walks.preserved_link
   pub link_with_slash : Stated Walks.link_with_slash
   pub file_with_slash : Stated Walks.file_with_slash
   pub absent_with_slash : Stated Walks.absent_with_slash

@@ -1,10 +1,10 @@
--- What is found of a file after a run, and of all files.
+-- Audits after a run, of one file and of all files.
 use Rattle.std.specs.Prelude.{◌≡◌, [], ◌∷◌, codes, Some, refl}
 use Rattle.pv_model.specs.Listing.{report}
 use Rattle.pv_model.specs.Sealed.{verdict_line}
 use Rattle.pv_laws_worked.specs.Bundles.{audited_of, reported_of, lines_text, bundles_on_literals}
 
--- a path with nothing there is not audited
+-- a path without a file
 pub audit_absent : audited_of (
     codes "image 64 64" ∷
     codes "dir \"/pub\"" ∷
@@ -20,7 +20,7 @@ pub audit_absent : audited_of (
 unfolding bundles_on_literals
 audit_absent = refl
 
--- a directory is not audited
+-- a directory
 pub audit_directory : audited_of (
     codes "image 64 64" ∷
     codes "dir \"/pub\"" ∷
@@ -36,7 +36,7 @@ pub audit_directory : audited_of (
 unfolding bundles_on_literals
 audit_directory = refl
 
--- two processes restrained by a locked table
+-- two processes with locked tables
 pub sealed_by_table : audited_of (
     codes "image 64 64" ∷
     codes "dir \"/pub\"" ∷
@@ -52,7 +52,7 @@ pub sealed_by_table : audited_of (
 unfolding bundles_on_literals
 sealed_by_table = refl
 
--- a process that promised stdio alone
+-- a process that is pledged to stdio
 pub sealed_by_pledge : audited_of (
     codes "image 64 64" ∷
     codes "dir \"/pub\"" ∷
@@ -64,7 +64,7 @@ pub sealed_by_pledge : audited_of (
 unfolding bundles_on_literals
 sealed_by_pledge = refl
 
--- a process that may write what it can't read
+-- a process that may write but not read the file
 pub sealed_not_frozen : audited_of (
     codes "image 64 64" ∷
     codes "dir \"/pub\"" ∷
@@ -76,7 +76,7 @@ pub sealed_not_frozen : audited_of (
 unfolding bundles_on_literals
 sealed_not_frozen = refl
 
--- a program that is executed keeps its restraints
+-- an execve that keeps the restraints
 pub sealed_under_exec : audited_of (
     codes "image 64 64" ∷
     codes "dir \"/pub\"" ∷
@@ -101,7 +101,7 @@ pub exposed_at_first : audited_of (
 unfolding bundles_on_literals
 exposed_at_first = refl
 
--- a descriptor that reads the file
+-- a descriptor that is open for reading on the file
 pub exposed_by_descriptor : audited_of (
     codes "image 64 64" ∷
     codes "dir \"/pub\"" ∷
@@ -114,7 +114,7 @@ pub exposed_by_descriptor : audited_of (
 unfolding bundles_on_literals
 exposed_by_descriptor = refl
 
--- a program that is executed has no restraints
+-- an execve that drops the restraints
 pub exposed_by_exec : audited_of (
     codes "image 64 64" ∷
     codes "dir \"/pub\"" ∷
@@ -128,7 +128,7 @@ pub exposed_by_exec : audited_of (
 unfolding bundles_on_literals
 exposed_by_exec = refl
 
--- a second name of the file is given
+-- an entry that grants access to a second name of the file
 pub exposed_second_name : audited_of (
     codes "image 64 64" ∷
     codes "dir \"/pub\"" ∷
@@ -145,7 +145,7 @@ pub exposed_second_name : audited_of (
 unfolding bundles_on_literals
 exposed_second_name = refl
 
--- one of the two has not locked its table
+-- one of two processes has not locked its table
 pub exposed_unlocked : audited_of (
     codes "image 64 64" ∷
     codes "dir \"/pub\"" ∷
@@ -161,7 +161,7 @@ pub exposed_unlocked : audited_of (
 unfolding bundles_on_literals
 exposed_unlocked = refl
 
--- the file can be moved out
+-- the file can be moved out of its directory
 pub exposed_above : audited_of (
     codes "image 64 64" ∷
     codes "dir \"/s\"" ∷
@@ -176,7 +176,7 @@ pub exposed_above : audited_of (
 unfolding bundles_on_literals
 exposed_above = refl
 
--- a process that may move names about
+-- a process that may change names
 pub exposed_by_names : audited_of (
     codes "image 64 64" ∷
     codes "dir \"/pub\"" ∷
@@ -188,7 +188,7 @@ pub exposed_by_names : audited_of (
 unfolding bundles_on_literals
 exposed_by_names = refl
 
--- an entry that lets it rename the file
+-- an entry that allows renaming the file
 pub exposed_by_permission_c : audited_of (
     codes "image 64 64" ∷
     codes "dir \"/pub\"" ∷
@@ -218,7 +218,7 @@ pub exposed_two_above : audited_of (
 unfolding bundles_on_literals
 exposed_two_above = refl
 
--- a table that is not locked is no frozen one
+-- a table without a lock does not make a file frozen
 pub sealed_without_lock : audited_of (
     codes "image 64 64" ∷
     codes "dir \"/pub\"" ∷
@@ -231,7 +231,7 @@ pub sealed_without_lock : audited_of (
 unfolding bundles_on_literals
 sealed_without_lock = refl
 
--- every name of a file, in the order of a listing, and nothing of directories and links
+-- every name of a file in the order of a listing, without directories and links
 pub all_reported : reported_of (
     codes "image 64 64" ∷
     codes "dir \"/pub\"" ∷

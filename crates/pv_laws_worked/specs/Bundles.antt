@@ -1,4 +1,4 @@
--- What worked runs have in common: a bundle, line by line, is read and run.
+-- Runs of bundles: common definitions of the worked examples.
 use Rattle.std.specs.Prelude.{⊤, Bool, true, false, if◌then◌else◌, ◌==◌, ℕ, List, [], ◌++◌, flat_map, filter, map, codes, Option, option_map, option_and_then, Result, Ok, Err}
 use Rattle.std.specs.Fmt.{decimal}
 use Rattle.std.specs.Result.{result_ok}
@@ -19,16 +19,15 @@ use Rattle.pv_model.specs.Step.{Run, Schedule, steps_of, boot, run}
 use Rattle.pv_model.specs.Trace.{Word, call_word, nami_word, Line, pad_right, word_name, word_text, trace_bytes}
 use Rattle.pv_model.specs.Tree.{Tree}
 
--- what a proof by computing unfolds
+-- the definitions to unfold in a proof by computation
 unfoldable pub bundles_on_literals : ⊤
 unfolding machine_on_literals read_manifest read_bundle entry_by add_entry read_program instruction_by text_at flags_of
 bundles_on_literals = tt
 
--- the text of lines
 abbrev pub lines_text : List Bytes → Bytes
 lines_text lines = flat_map with_line_end lines
 
--- the tree of the manifest that lines are
+-- the tree of a manifest, given its lines
 abbrev pub tree_of_lines : List Bytes → Option Tree
 tree_of_lines lines = option_and_then (λ m. result_ok (tree_of m)) (result_ok (read_manifest (lines_text lines)))
 
@@ -39,11 +38,11 @@ abbrev pub run_of_parts : Manifest → Option Run
 run_of_parts m =
     option_and_then (λ t. option_and_then (run_on t) (result_ok (schedule_of_lines m.listed.following))) (result_ok (tree_of m))
 
--- the run of the bundle that lines are
+-- the run of a bundle, given its lines
 abbrev pub run_of : List Bytes → Option Run
 run_of lines = option_and_then run_of_parts (result_ok (read_bundle (lines_text lines)))
 
--- its text
+-- the trace of that run
 abbrev pub text_of : List Bytes → Option Bytes
 text_of lines = option_map (λ r. trace_bytes r.lines) (run_of lines)
 
@@ -58,7 +57,7 @@ number_shown pid = if pid == 1 then [] else decimal pid ++ codes " "
 abbrev pub shown_line : Line → Bytes
 shown_line l = number_shown l.pid ++ pad_right 4 (word_name l.word) ++ codes "  " ++ word_text l.word
 
--- its lines without CALL and NAMI, and without the number of process 1
+-- the lines of that run without CALL and NAMI, and without the number of process 1
 abbrev pub shown_of : List Bytes → Option (List Bytes)
 shown_of lines = option_map (λ r. map shown_line (filter (λ l. is_shown l.word) r.lines)) (run_of lines)
 
@@ -67,10 +66,10 @@ audited_text (Ok found) = verdict_text found
 audited_text (Err (Walk e)) = codes "errno " ++ decimal (errno_number e) ++ codes " " ++ errno_name e
 audited_text (Err NotFile) = codes "not a file"
 
--- what is found of a path after it
+-- the audit of a path after that run
 abbrev pub audited_of : List Bytes → Bytes → Option Bytes
 audited_of lines path = option_map (λ r. audited_text (audit r.final path)) (run_of lines)
 
--- what is reported of all files after it
+-- the report of all files after that run
 abbrev pub reported_of : List Bytes → Option Bytes
 reported_of lines = option_map (λ r. report r.final) (run_of lines)

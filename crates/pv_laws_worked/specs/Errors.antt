@@ -1,8 +1,8 @@
--- Each error of each call.
+-- Every error of every call.
 use Rattle.std.specs.Prelude.{◌≡◌, [], ◌∷◌, ◌++◌, replicate, codes, Some, refl}
 use Rattle.pv_laws_worked.specs.Bundles.{bundles_on_literals, shown_of}
 
--- what pledge answers: an unknown keyword, and one that was given up
+-- pledge: an unknown keyword, and one that the process gave up
 pub of_pledge : shown_of (
     codes "image 64 64" ∷
     codes "exec \"/init\" 5" ∷
@@ -23,7 +23,7 @@ pub of_pledge : shown_of (
 unfolding bundles_on_literals
 of_pledge = refl
 
--- what unveil answers: its arguments, the walk, an entry that would gain a permission, the lock
+-- unveil: its arguments, the walk, an entry that would gain a permission, the lock
 pub of_unveil : shown_of (
     codes "image 64 64" ∷
     codes "bytes \"/f\" \"abc\"" ∷
@@ -59,7 +59,7 @@ pub of_unveil : shown_of (
 unfolding bundles_on_literals
 of_unveil = refl
 
--- what execve answers: the walk, what is not there, what is no program
+-- execve: the walk, an absent file, a file that is not a program
 pub of_execve : shown_of (
     codes "image 64 64" ∷
     codes "bytes \"/f\" \"abc\"" ∷
@@ -90,7 +90,7 @@ pub of_execve : shown_of (
 unfolding bundles_on_literals
 of_execve = refl
 
--- what open answers: its flags, the walk, what is there and what is not
+-- open: its flags, the walk, existing and absent files
 pub of_open : shown_of (
     codes "image 64 64" ∷
     codes "bytes \"/f\" \"abc\"" ∷
@@ -127,7 +127,7 @@ pub of_open : shown_of (
 unfolding bundles_on_literals
 of_open = refl
 
--- what openat answers: a descriptor that is none, or no directory's, and then as open
+-- openat: an invalid descriptor, a descriptor that is not a directory's, and the errors of open
 pub of_openat : shown_of (
     codes "image 64 64" ∷
     codes "bytes \"/f\" \"abc\"" ∷
@@ -168,7 +168,7 @@ pub of_openat : shown_of (
 unfolding bundles_on_literals
 of_openat = refl
 
--- a number that is no descriptor's
+-- a number that is not an open descriptor
 pub of_descriptors : shown_of (
     codes "image 64 64" ∷
     codes "exec \"/init\" 12" ∷
@@ -201,7 +201,7 @@ pub of_descriptors : shown_of (
 unfolding bundles_on_literals
 of_descriptors = refl
 
--- what calls on open files answer
+-- calls on open files
 pub of_open_files : shown_of (
     codes "image 64 64" ∷
     codes "bytes \"/f\" \"abc\"" ∷
@@ -294,7 +294,7 @@ pub of_full_descriptors : shown_of (
 unfolding bundles_on_literals
 of_full_descriptors = refl
 
--- each call with a path meets each error of a walk
+-- the errors of a walk, for each call with a path
 pub of_walks : shown_of (
     codes "image 64 64" ∷
     codes "bytes \"/f\" \"abc\"" ∷
@@ -370,7 +370,7 @@ pub of_walks : shown_of (
 unfolding bundles_on_literals
 of_walks = refl
 
--- so does each path of link and rename
+-- the errors of a walk, for both paths of link and rename
 pub of_two_walks : shown_of (
     codes "image 64 64" ∷
     codes "bytes \"/f\" \"abc\"" ∷
@@ -414,7 +414,7 @@ pub of_two_walks : shown_of (
 unfolding bundles_on_literals
 of_two_walks = refl
 
--- a path that no entry governs, and one whose entry lacks the permission
+-- a path that no entry governs, and a path whose entry lacks the permission
 pub of_judgements : shown_of (
     codes "image 64 64" ∷
     codes "bytes \"/f\" \"abc\"" ∷
@@ -513,7 +513,7 @@ pub of_judgements : shown_of (
 unfolding bundles_on_literals
 of_judgements = refl
 
--- the second path of link and rename is judged after the first
+-- the table decides about the second path of link and rename after the first
 pub of_second_judgements : shown_of (
     codes "image 64 64" ∷
     codes "bytes \"/f\" \"abc\"" ∷
@@ -543,7 +543,7 @@ pub of_second_judgements : shown_of (
 unfolding bundles_on_literals
 of_second_judgements = refl
 
--- what is there, what is not, and of another kind
+-- existing and absent objects, and objects of the wrong kind
 pub of_objects : shown_of (
     codes "image 64 64" ∷
     codes "bytes \"/f\" \"abc\"" ∷
@@ -609,7 +609,7 @@ pub of_objects : shown_of (
 unfolding bundles_on_literals
 of_objects = refl
 
--- a text that a link has no room for
+-- a text that is too long for a link
 pub of_long_text : shown_of (
     codes "image 64 64" ∷
     codes "exec \"/init\" 1" ∷

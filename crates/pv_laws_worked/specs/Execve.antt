@@ -2,7 +2,7 @@
 use Rattle.std.specs.Prelude.{◌≡◌, [], ◌∷◌, codes, Some, refl}
 use Rattle.pv_laws_worked.specs.Bundles.{bundles_on_literals, shown_of}
 
--- what execve refuses
+-- the errors of execve
 pub execve_refusals : shown_of (
     codes "image 64 64" ∷
     codes "bytes \"/t\" \"x\"" ∷
@@ -20,7 +20,7 @@ pub execve_refusals : shown_of (
 unfolding bundles_on_literals
 execve_refusals = refl
 
--- an execve under execpromises keeps the table
+-- execve with execpromises keeps the table
 pub execve_under_execpromises : shown_of (
     codes "image 64 64" ∷
     codes "dir \"/etc\"" ∷
@@ -45,7 +45,7 @@ pub execve_under_execpromises : shown_of (
 unfolding bundles_on_literals
 execve_under_execpromises = refl
 
--- an execve under execpromises keeps the lock too
+-- execve with execpromises keeps the lock
 pub execve_keeps_lock : shown_of (
     codes "image 64 64" ∷
     codes "dir \"/pub\"" ∷
@@ -75,7 +75,7 @@ pub execve_keeps_lock : shown_of (
 unfolding bundles_on_literals
 execve_keeps_lock = refl
 
--- any other execve drops promises and table
+-- execve without execpromises drops promises and table
 pub execve_without_execpromises : shown_of (
     codes "image 64 64" ∷
     codes "dir \"/etc\"" ∷
@@ -98,7 +98,7 @@ pub execve_without_execpromises : shown_of (
 unfolding bundles_on_literals
 execve_without_execpromises = refl
 
--- an execve closes the descriptors that are marked so
+-- execve closes the descriptors that are marked close-on-exec
 pub close_on_exec : shown_of (
     codes "image 64 64" ∷
     codes "bytes \"/f\" \"abcdef\"" ∷

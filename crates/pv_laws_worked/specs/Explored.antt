@@ -1,4 +1,4 @@
--- What can happen in small programs under any schedule, and how the states hang together.
+-- Searches of all schedules of small programs, and their state graphs.
 use Rattle.std.specs.Prelude.{◌≡◌, ℕ, Bool, false, List, [], ◌∷◌, codes, Option, Some, option_map, refl}
 use Rattle.pv_model.specs.Answers.Explore.{explore_lines}
 use Rattle.pv_model.specs.Answers.Graph.{graph_lines}
@@ -8,15 +8,15 @@ use Rattle.pv_model.specs.Grammar.Programs.{program_of}
 use Rattle.pv_laws_worked.specs.Bundles.{lines_text}
 use Rattle.pv_laws_worked.specs.Questions.{questions_on_literals, started}
 
--- the text of what can happen from where a bundle starts, with at most so many states
+-- the text of `explore` for a bundle, with a limit on the number of states
 abbrev pub explore_text : ℕ → List Bytes → Option Bytes
 explore_text limit lines = option_map (λ s. answer_bytes (explore_lines program_of limit s.state)) (started lines)
 
--- of how its states hang together
+-- the text of `graph` for a bundle
 abbrev pub graph_text : ℕ → Bool → List Bytes → Option Bytes
 graph_text limit trees lines = option_map (λ s. answer_bytes (graph_lines program_of limit trees s.state)) (started lines)
 
--- a program that goes round, with no line but those on registers
+-- a loop with only instructions on registers
 abbrev pub goes_round : List Bytes
 goes_round =
     codes "image 64 64" ∷
@@ -27,7 +27,7 @@ goes_round =
     codes "schedule" ∷
     codes "1 5" ∷ []
 
--- a parent that waits, maybe too early
+-- a parent that may wait before its child exits
 abbrev pub waits_for_child : List Bytes
 waits_for_child =
     codes "image 64 64" ∷
@@ -39,7 +39,7 @@ waits_for_child =
     codes "schedule" ∷
     codes "1 1" ∷ []
 
--- the second state leads back to the first, and it never ends
+-- the second state leads back to the first, and the program never ends
 pub a_loop_has_two_states : explore_text 10 goes_round ≡ Some (lines_text (
     codes "    0 DONE  2 states, complete" ∷
     codes "    0 DONE  0 endings" ∷ []))
@@ -71,8 +71,8 @@ pub a_loop_leads_back : graph_text 10 false goes_round ≡ Some (lines_text (
 unfolding questions_on_literals
 a_loop_leads_back = refl
 
--- each text has its shortest way, a wait that blocks too
-pub each_text_has_its_way : explore_text 100 waits_for_child ≡ Some (lines_text (
+-- each text has its shortest witness, including that of a wait that blocks
+pub each_text_has_its_witness : explore_text 100 waits_for_child ≡ Some (lines_text (
     codes "    1 BY    1 1" ∷
     codes "    1 CALL  fork()" ∷
     codes "    1 RET   fork 2" ∷
@@ -90,9 +90,9 @@ pub each_text_has_its_way : explore_text 100 waits_for_child ≡ Some (lines_tex
     codes "    0 DONE  9 states, complete" ∷
     codes "    0 DONE  1 endings" ∷ []))
 unfolding questions_on_literals
-each_text_has_its_way = refl
+each_text_has_its_witness = refl
 
--- a state too many is left out, and its steps are not made
+-- a state beyond the limit is left out, and its steps are not made
 pub a_state_is_left_out : explore_text 3 waits_for_child ≡ Some (lines_text (
     codes "    1 BY    1 1" ∷
     codes "    1 CALL  fork()" ∷
@@ -105,7 +105,7 @@ pub a_state_is_left_out : explore_text 3 waits_for_child ≡ Some (lines_text (
 unfolding questions_on_literals
 a_state_is_left_out = refl
 
--- the order of two steps decides which number a node has, so there are two trees at the end
+-- the order of two steps determines the number of a node, so there are two final trees
 pub two_orders_end_apart : explore_text 100 (
     codes "image 64 64" ∷
     codes "exec \"/init\" 5" ∷

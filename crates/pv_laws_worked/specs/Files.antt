@@ -2,7 +2,7 @@
 use Rattle.std.specs.Prelude.{◌≡◌, [], ◌∷◌, codes, Some, refl}
 use Rattle.pv_laws_worked.specs.Bundles.{bundles_on_literals, shown_of}
 
--- descriptors that fork copies share their offset
+-- descriptors that a fork copies share their offset
 pub shared_offset : shown_of (
     codes "image 64 64" ∷
     codes "bytes \"/f\" \"abcdef\"" ∷
@@ -23,7 +23,7 @@ pub shared_offset : shown_of (
 unfolding bundles_on_literals
 shared_offset = refl
 
--- the same in the other order
+-- the same in the opposite order
 pub shared_offset_in_turn : shown_of (
     codes "image 64 64" ∷
     codes "bytes \"/f\" \"abcdef\"" ∷
@@ -43,7 +43,7 @@ pub shared_offset_in_turn : shown_of (
 unfolding bundles_on_literals
 shared_offset_in_turn = refl
 
--- names are listed in order, also while they go
+-- names are listed in order, even while they are removed
 pub listing : shown_of (
     codes "image 64 64" ∷
     codes "dir \"/d\"" ∷
@@ -68,7 +68,7 @@ pub listing : shown_of (
 unfolding bundles_on_literals
 listing = refl
 
--- a name that is made, looked up, and moved
+-- a name that is created, looked up, and moved
 pub moved_directory : shown_of (
     codes "image 64 64" ∷
     codes "exec \"/init\" 6" ∷
@@ -113,7 +113,7 @@ pub removed_directory : shown_of (
 unfolding bundles_on_literals
 removed_directory = refl
 
--- what rename and rmdir refuse
+-- the errors of rename and rmdir
 pub rename_refusals : shown_of (
     codes "image 64 64" ∷
     codes "dir \"/a\"" ∷
@@ -134,7 +134,7 @@ pub rename_refusals : shown_of (
 unfolding bundles_on_literals
 rename_refusals = refl
 
--- a far offset is no room: a write there and a far length are refused
+-- a far offset needs no room, but a write there and a great length are refused
 pub far_end : shown_of (
     codes "image 64 64" ∷
     codes "exec \"/init\" 9" ∷
@@ -163,7 +163,7 @@ pub far_end : shown_of (
 unfolding bundles_on_literals
 far_end = refl
 
--- the greatest length of a file, and the blocks of one that is removed but open
+-- the greatest length of a file, and the blocks of a removed file that is open
 pub room_of_long_files : shown_of (
     codes "image 310 16" ∷
     codes "exec \"/init\" 12" ∷

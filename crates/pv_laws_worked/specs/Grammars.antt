@@ -1,4 +1,4 @@
--- Texts on the edge of the grammars, and what is said of them.
+-- Borderline texts of the grammars, and their errors.
 use Rattle.std.specs.Prelude.{◌≡◌, refl, [], ◌∷◌, ◌++◌, Ok, Err, codes, true, false, replicate, flat_map}
 use Rattle.pv_model.specs.declared.fault.ManifestFault.TheVariants.{Form, Size, Parent, Exists, Source}
 use Rattle.pv_model.specs.declared.fault.ParseFault.TheVariants.{Line}
@@ -104,7 +104,7 @@ pub flag_twice : read_program (codes "open \"/a\" r+dir+dir\n") ≡ Err (Line 1 
 unfolding read_program instruction_by text_at flags_of
 flag_twice = refl
 
--- the last of 256 lines may jump to itself, and no further
+-- the last of 256 lines may jump to itself, but not beyond
 pub many_lines : read_program (flat_map (λ line. line) (replicate 255 (codes "fork\n")) ++ codes "jmp 257\nfork\n") ≡ Err (Line 256 Target)
 unfolding read_program instruction_by
 many_lines = refl
@@ -187,7 +187,7 @@ pub bundle_of_schedule_alone : read_bundle (codes "schedule\n1\n") ≡ Err (Form
 unfolding read_bundle
 bundle_of_schedule_alone = refl
 
--- an entry's lines may be any, the line `schedule` too
+-- the lines that belong to an entry are arbitrary, and may include the line `schedule`
 pub schedule_inside_of_entry :
     read_bundle (codes "image 16 16\nexec \"/x\" 1\nschedule\nschedule\n1\n")
     ≡ Ok (record { blocks = 16; inodes = 16; listed = record { entries = (2, make (codes "/x") (file_node true (codes "schedule\n"))) ∷ []; following = codes "1" ∷ [] } })

@@ -1,4 +1,4 @@
--- Worked images: the smallest, that of the run that reads one file, and one with a name past its slot.
+-- Worked images: the smallest, that of the run that reads one file, and one with a name that exceeds its slot.
 use Rattle.std.specs.Prelude.{◌≡◌, ⊤, ℕ, ◌+◌, ◌-◌, ◌*◌, false, true, [], ◌∷◌, ◌++◌, length, replicate, codes, Option, None, Some, option_map, Ok, Err, Result, refl}
 use Rattle.std.specs.Result.{result_ok}
 use Rattle.pv_model.specs.declared.fault.ImageFault.TheVariants.{Dir}
@@ -14,12 +14,12 @@ use Rattle.pv_model.specs.Grammar.Programs.{program_of}
 use Rattle.pv_model.specs.Tree.{Tree, directory_node, file_node}
 use Rattle.pv_laws_worked.specs.Bundles.{bundles_on_literals, lines_text}
 
--- what a proof by computing unfolds
+-- the definitions to unfold in a proof by computation
 unfoldable pub images_on_literals : ⊤
 unfolding bundles_on_literals bundle_started image_started started_on booted mounted inode_fault has_bad_inode has_bad_block has_bad_content has_bad_place listing
 images_on_literals = tt
 
--- an inode of one block at most
+-- an inode with at most one block
 abbrev pub inode_bytes : ℕ → ℕ → ℕ → ℕ → Bytes
 inode_bytes kind count size first = kind ∷ 0 ∷ little_endian 2 count ++ little_endian 4 size ++ little_endian 2 first ++ replicate 22 0
 
@@ -29,7 +29,7 @@ slot_bytes n name = little_endian 2 n ++ (length name ∷ 0 ∷ []) ++ name ++ r
 abbrev pub filled : Bytes → Bytes
 filled bytes = bytes ++ replicate (512 - length bytes) 0
 
--- the text of a run on an image
+-- the trace of a run on an image
 abbrev pub started_text : Result Started RunFault → Option Bytes
 started_text started = option_map (λ s. run_text program_of (steps_of s.schedule) s.state) (result_ok started)
 
@@ -58,7 +58,7 @@ smallest_with_one_turn = refl
 abbrev pub program : Bytes
 program = lines_text (codes "pledge \"stdio rpath\" null" ∷ codes "open \"/etc/motd\" r" ∷ codes "read r0 100" ∷ codes "close 0" ∷ codes "exit 0" ∷ [])
 
--- its slots stand in another order than its names
+-- its slots are not in the order of their names
 abbrev pub example : Bytes
 example =
     filled (codes "PVIMAGE1" ++ 16 ∷ 0 ∷ 16 ∷ 0 ∷ [])
@@ -96,7 +96,7 @@ pub example_listing : listing example_tree ≡ lines_text (codes "d 1 2 \"/\"" �
 unfolding images_on_literals
 example_listing = refl
 
--- ---- an image whose root has one slot, of inode 2, and sixty good bytes after any length of the name
+-- ---- an image whose root has one slot, for inode 2, with a name of any stated length
 
 abbrev pub past_slot : ℕ → Bytes
 past_slot long =

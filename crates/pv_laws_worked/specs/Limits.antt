@@ -1,4 +1,4 @@
--- Runs that meet a limit.
+-- Runs that reach a limit.
 use Rattle.std.specs.Prelude.{◌≡◌, [], ◌∷◌, ◌++◌, replicate, codes, Some, option_map, drop, refl}
 use Rattle.pv_laws_worked.specs.Bundles.{bundles_on_literals, shown_of}
 
@@ -295,7 +295,8 @@ pub many_processes : shown_of (
 unfolding bundles_on_literals
 many_processes = refl
 
--- the system has at most 128 open files: eight processes have sixteen each, and the ninth, which has closed those of the eighth, opens none more
+-- the system has at most 128 open files: eight processes have sixteen each, and the ninth, which has closed its copies
+-- of the descriptors, cannot open another
 pub many_open_files : option_map (drop 263) (shown_of (
     codes "image 5 2" ∷
     codes "exec \"/init\" 14" ∷

@@ -1,4 +1,4 @@
--- Each call that would make a directory too long: the root has 2,128 entries.
+-- Each call that would make a directory too long; the root has 2,128 entries.
 use Rattle.std.specs.Prelude.{◌≡◌, ℕ, ◌+◌, ◌/◌, ◌%◌, true, false, [], ◌∷◌, ◌++◌, map, replicate, codes, None, Some, refl}
 use Rattle.std.specs.List.{range_with_len}
 use Rattle.pv_model.specs.declared.call.Call.{Call}
@@ -22,7 +22,7 @@ use Rattle.pv_laws_worked.specs.Bundles.{bundles_on_literals}
 abbrev pub name_of_number : ℕ → Bytes
 name_of_number k = (48 + k / 64) ∷ (48 + k % 64) ∷ []
 
--- names of one file, and a directory that has one more
+-- many names for one file, and a directory with one more
 abbrev pub tree : Tree
 tree = record {
   nodes =
@@ -38,7 +38,7 @@ tree = record {
 abbrev pub creating : OpenFlags
 creating = record { mode = Write; append = false; create = true; truncate = false; exclusive = false; no_follow = false; directory = false; close_on_exec = false }
 
--- what process 1 is answered
+-- the outcome of a call by process 1
 abbrev pub answered : Call → Outcome
 answered call = (answer program_of (first_state tree []) 1 call).outcome
 

@@ -1,4 +1,4 @@
--- What bytes hold as an image: faults in their order, and an image of version 2.
+-- The results of mounting: errors in their order, and an image of version 2.
 use Rattle.std.specs.Prelude.{◌≡◌, ℕ, ◌-◌, List, [], ◌∷◌, ◌++◌, length, take, replicate, fold, slice_set, codes, Ok, Err, refl}
 use Rattle.pv_model.specs.declared.fault.ImageFault.TheVariants.{Short, Magic, Size, Inode, Block, Dir, Tree as NoTree}
 use Rattle.pv_model.specs.declared.version.Version.TheVariants.{V2}
@@ -6,7 +6,7 @@ use Rattle.pv_model.specs.Bytes.{Bytes, little_endian}
 use Rattle.pv_model.specs.Mount.{mounted}
 use Rattle.pv_laws_worked.specs.Images.{images_on_literals, inode_bytes, slot_bytes, filled, program, example_tree}
 
--- two directories that stand in each other and not in the root
+-- two directories that contain each other and are not in the root
 abbrev pub ring : Bytes
 ring =
     filled (codes "PVIMAGE1" ++ 4 ∷ 0 ∷ 3 ∷ 0 ∷ [])
@@ -14,7 +14,7 @@ ring =
     ++ filled (slot_bytes 3 (codes "a"))
     ++ filled (slot_bytes 2 (codes "a"))
 
--- with other bytes at some places
+-- the image with other bytes at some offsets
 abbrev pub changed : List (ℕ × ℕ) → Bytes
 changed places = fold (λ bytes place. slice_set bytes place.0 place.1) ring places
 
@@ -34,7 +34,7 @@ pub half_a_slot : mounted (changed ((548, 65) ∷ [])) ≡ Err (Inode 2)
 unfolding images_on_literals
 half_a_slot = refl
 
--- an inode's fault comes before a block's
+-- an error of an inode comes before one of a block
 pub inode_before_block : mounted (changed ((548, 65) ∷ (584, 2) ∷ [])) ≡ Err (Inode 2)
 unfolding images_on_literals
 inode_before_block = refl
@@ -47,7 +47,7 @@ pub slot_without_name : mounted (changed ((1538, 0) ∷ [])) ≡ Err (Dir 3)
 unfolding images_on_literals
 slot_without_name = refl
 
--- a content's fault comes before one of the tree, whatever the numbers are
+-- an error of a content comes before one of the tree, whatever the inode numbers
 pub content_before_place : mounted (changed ((546, 2) ∷ (1538, 0) ∷ [])) ≡ Err (Dir 3)
 unfolding images_on_literals
 content_before_place = refl
@@ -78,7 +78,7 @@ half_a_block = refl
 
 -- ---- version 2
 
--- an inode of two blocks at most
+-- an inode with at most two blocks
 abbrev pub inode_bytes_2 : ℕ → ℕ → ℕ → ℕ → ℕ → Bytes
 inode_bytes_2 kind count size first second =
     kind ∷ 0 ∷ 0 ∷ 0 ∷ little_endian 4 size ++ little_endian 2 first ++ little_endian 2 second ++ replicate 26 0 ++ little_endian 4 count ++ replicate 22 0
@@ -86,7 +86,7 @@ inode_bytes_2 kind count size first second =
 abbrev pub slot_bytes_2 : ℕ → Bytes → Bytes
 slot_bytes_2 n name = little_endian 2 n ++ (length name ∷ 0 ∷ []) ++ name ++ replicate (256 - length name) 0
 
--- the image of the run that reads one file: the root's second slot stands across two blocks
+-- the image of the run that reads one file; the root's second slot crosses a block boundary
 abbrev pub example_2 : Bytes
 example_2 =
     filled (codes "PVIMAGE2" ++ 8 ∷ 0 ∷ 16 ∷ 0 ∷ [])

@@ -27,7 +27,7 @@ pub openat_paths : shown_of (
 unfolding bundles_on_literals
 openat_paths = refl
 
--- an openat is judged as an open is
+-- the table decides about openat as about open
 pub openat_judged : shown_of (
     codes "image 64 64" ∷
     codes "dir \"/d\"" ∷
@@ -47,7 +47,7 @@ pub openat_judged : shown_of (
 unfolding bundles_on_literals
 openat_judged = refl
 
--- an openat from a removed directory
+-- openat from a removed directory
 pub openat_removed : shown_of (
     codes "image 64 64" ∷
     codes "exec \"/init\" 5" ∷

@@ -1,8 +1,8 @@
--- Runs of several processes.
+-- Runs with several processes.
 use Rattle.std.specs.Prelude.{◌≡◌, [], ◌∷◌, codes, Some, refl}
 use Rattle.pv_laws_worked.specs.Bundles.{bundles_on_literals, shown_of}
 
--- a process ends: its children have another parent, a wait blocks, and process 1 leaves parent 0
+-- a process ends: its children get another parent, a wait blocks, and process 1 leaves parent 0
 pub ends : shown_of (
     codes "image 64 64" ∷
     codes "exec \"/init\" 15" ∷
@@ -62,7 +62,7 @@ pub ends : shown_of (
 unfolding bundles_on_literals
 ends = refl
 
--- of the children that have ended, the one with the least number is waited for
+-- wait returns the ended child with the least number
 pub least_is_waited_for : shown_of (
     codes "image 64 64" ∷
     codes "exec \"/init\" 7" ∷

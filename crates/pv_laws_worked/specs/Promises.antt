@@ -1,8 +1,8 @@
--- Runs under promises.
+-- Runs with promises.
 use Rattle.std.specs.Prelude.{◌≡◌, [], ◌∷◌, codes, Some, refl}
 use Rattle.pv_laws_worked.specs.Bundles.{bundles_on_literals, shown_of}
 
--- under `error` a missing promise is answered, until `error` is lost
+-- under `error`, a missing promise is an error, until `error` is given up
 pub error_promise : shown_of (
     codes "image 64 64" ∷
     codes "dir \"/etc\"" ∷
@@ -23,7 +23,7 @@ pub error_promise : shown_of (
 unfolding bundles_on_literals
 error_promise = refl
 
--- texts of promises
+-- the syntax of promises
 pub promise_texts : shown_of (
     codes "image 64 64" ∷
     codes "exec \"/init\" 6" ∷
@@ -46,7 +46,7 @@ pub promise_texts : shown_of (
 unfolding bundles_on_literals
 promise_texts = refl
 
--- a process that breaks its promise is killed, and waited for
+-- a process that violates its promises is killed, and its parent waits for it
 pub killed_and_waited : shown_of (
     codes "image 64 64" ∷
     codes "dir \"/etc\"" ∷
@@ -79,7 +79,7 @@ pub killed_and_waited : shown_of (
 unfolding bundles_on_literals
 killed_and_waited = refl
 
--- a rename needs cpath
+-- rename needs cpath
 pub rename_without_promise : shown_of (
     codes "image 64 64" ∷
     codes "bytes \"/a\" \"\"" ∷
@@ -94,7 +94,7 @@ pub rename_without_promise : shown_of (
 unfolding bundles_on_literals
 rename_without_promise = refl
 
--- an open that creates needs cpath
+-- an open that may create needs cpath
 pub create_without_promise : shown_of (
     codes "image 64 64" ∷
     codes "exec \"/init\" 2" ∷

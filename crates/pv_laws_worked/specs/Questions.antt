@@ -1,4 +1,4 @@
--- Answers to questions of small runs: what each process is and has, what it can reach, why a call was refused, what a program needs, and fair schedules.
+-- The texts of `state`, `reach`, `explain`, `needs` and `turns` for small runs.
 use Rattle.std.specs.Prelude.{⊤, ◌≡◌, ℕ, List, [], ◌∷◌, codes, Option, Some, option_map, refl}
 use Rattle.std.specs.Result.{result_ok}
 use Rattle.pv_model.specs.Answers.Explain.{explain_lines}
@@ -15,35 +15,35 @@ use Rattle.pv_model.specs.State.{State}
 use Rattle.pv_model.specs.Step.{run, steps_of}
 use Rattle.pv_laws_worked.specs.Bundles.{bundles_on_literals, lines_text}
 
--- what a proof by computing unfolds
+-- the definitions to unfold in a proof by computation
 unfoldable pub questions_on_literals : ⊤
 unfolding bundles_on_literals answers_on_literals bundle_started started_on booted
 questions_on_literals = tt
 
--- what the bundle that lines are starts from
+-- the start of a bundle, given its lines
 abbrev pub started : List Bytes → Option Started
 started lines = result_ok (bundle_started (lines_text lines))
 
 abbrev pub state_after : Started → State
 state_after s = (run program_of (steps_of s.schedule) s.state).final
 
--- the text of the state that its schedule leaves
+-- the text of `state` after the schedule of a bundle
 abbrev pub state_text : List Bytes → Option Bytes
 state_text lines = option_map (λ s. answer_bytes (state_lines (state_after s))) (started lines)
 
--- of what its processes reach there
+-- the text of `reach` after the schedule of a bundle
 abbrev pub reach_text : List Bytes → Option Bytes
 reach_text lines = option_map (λ s. answer_bytes (reach_lines (state_after s))) (started lines)
 
--- of its run explained
+-- the text of `explain` for a bundle
 abbrev pub explain_text : List Bytes → Option Bytes
 explain_text lines = option_map (λ s. answer_bytes (explain_lines program_of (steps_of s.schedule) s.state)) (started lines)
 
--- of what its programs asked
+-- the text of `needs` for a bundle
 abbrev pub needs_text : List Bytes → Option Bytes
 needs_text lines = option_map (λ s. answer_bytes (needs_lines program_of (steps_of s.schedule) s.state)) (started lines)
 
--- of a schedule of turns
+-- the text of `turns` for a bundle
 abbrev pub turns_text : ℕ → ℕ → List Bytes → Option Bytes
 turns_text slice steps lines = option_map (λ s. schedule_text (turns program_of slice steps s.state)) (started lines)
 
@@ -68,8 +68,8 @@ parent_and_child =
     codes "1 9" ∷
     codes "2 2" ∷ []
 
--- what each process is and has
-pub each_is_told : state_text parent_and_child ≡ Some (lines_text (
+-- the state of each process
+pub each_is_reported : state_text parent_and_child ≡ Some (lines_text (
     codes "    1 PROC  live, parent 0, line 10 of 10" ∷
     codes "    1 NEXT  exit(3)" ∷
     codes "    1 CWD   node 1 \"/\"" ∷
@@ -84,9 +84,9 @@ pub each_is_told : state_text parent_and_child ≡ Some (lines_text (
     codes "    1 BUF   2 6162" ∷
     codes "    2 PROC  ended, parent 1, status 768" ∷ []))
 unfolding questions_on_literals
-each_is_told = refl
+each_is_reported = refl
 
--- each name of the tree, and an entry for a name that is not there
+-- each name of the tree, and an entry whose name does not exist
 pub places_are_reached : reach_text parent_and_child ≡ Some (lines_text (
     codes "    1 MAY   ---- \"/\", none" ∷
     codes "    1 MAY   r--c \"/d\", entry 0, descriptor 0 r" ∷
@@ -116,7 +116,7 @@ pub removed_is_reached : reach_text (
 unfolding questions_on_literals
 removed_is_reached = refl
 
--- each refusal has its reason, and each entry the line that set it, also in an earlier program
+-- each refusal has its reason, and each entry the line that set it, even in an earlier program
 pub refusals_are_explained : explain_text (
     codes "image 64 64" ∷
     codes "dir \"/d\"" ∷
@@ -196,8 +196,8 @@ pub refusals_are_explained : explain_text (
 unfolding questions_on_literals
 refusals_are_explained = refl
 
--- each program asks in a stint of its own
-pub stints_ask : needs_text (
+-- each program has a program image of its own
+pub process_images_ask : needs_text (
     codes "image 64 64" ∷
     codes "bytes \"/f\" \"hi\"" ∷
     codes "exec \"/p\" 2" ∷
@@ -222,9 +222,9 @@ pub stints_ask : needs_text (
     codes "    1 PLDG  unveil, calls 1, last line 2" ∷
     codes "    1 UNVL  r---, \"/f\", walks 1, last line 1" ∷ []))
 unfolding questions_on_literals
-stints_ask = refl
+process_images_ask = refl
 
--- a child has its turn in the round in which it was forked, and a wait that blocks has none
+-- a child gets its turn in the round in which it was forked, and a wait that blocks gets none
 pub turns_are_taken : turns_text 2 9 (
     codes "image 64 64" ∷
     codes "exec \"/init\" 6" ∷

@@ -1,4 +1,4 @@
--- Worked rooms.
+-- The blocks that contents need, and whether trees fit.
 use Rattle.std.specs.Prelude.{◌≡◌, ◌*◌, Bool, true, false, List, [], ◌∷◌, codes, Option, Some, option_map, refl}
 use Rattle.pv_model.specs.declared.version.Version.TheVariants.{V1, V2}
 use Rattle.pv_model.specs.Bytes.{Bytes}
@@ -22,7 +22,7 @@ pub greatest_in_version_2 : need V2 660480 ≡ 1295
 unfolding bundles_on_literals
 greatest_in_version_2 = refl
 
--- a directory of eight entries in version 2
+-- a directory with eight entries in version 2
 pub eight_entries : need V2 (260 * 8) ≡ 5
 unfolding bundles_on_literals
 eight_entries = refl
@@ -43,7 +43,7 @@ three_blocks =
     codes "name \"/b/6\" \"/b/0\"" ∷
     codes "name \"/b/7\" \"/b/0\"" ∷ []
 
--- whether there is room for the tree that a change leaves
+-- whether the tree after a change fits
 abbrev pub has_room : (Tree → Tree) → Option Bool
 has_room change = option_map (λ t. fits (change t)) (tree_of_lines three_blocks)
 

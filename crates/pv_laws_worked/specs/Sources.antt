@@ -1,4 +1,4 @@
--- Sources and what they stand for: a manifest or bundle, or the lines at fault.
+-- Sources and the manifests or bundles that they denote, or their lines with errors.
 use Rattle.std.specs.Prelude.{◌≡◌, refl, [], ◌∷◌, ◌++◌, Ok, Err, codes, replicate}
 use Rattle.pv_model.specs.Source.Judged.{read_source}
 use Rattle.pv_model.specs.Source.OnLiterals.{sources_on_literals}
@@ -7,7 +7,7 @@ use Rattle.pv_laws_worked.specs.Bundles.{lines_text}
 
 -- ---- lines
 
--- a comment begins where a word would, and not within a text; the CR before an LF counts for nothing
+-- a comment begins only between words, not in a quoted text; a CR before an LF is ignored
 pub words_and_comments : words_of (codes "  put \t \"a  # b\"  # c \"" ++ 13 ∷ []) ≡ codes "put" ∷ codes "\"a  # b\"" ∷ []
 unfolding sources_on_literals
 words_and_comments = refl
@@ -16,12 +16,12 @@ pub hash_in_a_word : words_of (codes "fork#child \"a\"#b #c") ≡ codes "fork#ch
 unfolding sources_on_literals
 hash_in_a_word = refl
 
--- a text that no quotation mark ends is parted like other words
+-- a quoted text without a closing mark is split like other words
 pub text_without_its_end : words_of (codes "put \"a b # c") ≡ codes "put" ∷ codes "\"a" ∷ codes "b" ∷ []
 unfolding sources_on_literals
 text_without_its_end = refl
 
--- ---- what is written
+-- ---- the written text
 
 pub labels_are_numbers : read_source (lines_text (
     codes "# a loop" ∷
@@ -51,7 +51,7 @@ pub labels_are_numbers : read_source (lines_text (
 unfolding sources_on_literals
 labels_are_numbers = refl
 
--- the next K lines are taken with all their bytes, also as bytes of a program
+-- the next K lines are copied unchanged, whether they are a program or not
 pub lines_are_taken_as_they_are : read_source (lines_text (
     codes "image 32 32" ∷
     codes "exec \"/bin\" 4 # four" ∷
@@ -72,9 +72,9 @@ pub lines_are_taken_as_they_are : read_source (lines_text (
 unfolding sources_on_literals
 lines_are_taken_as_they_are = refl
 
--- ---- faults
+-- ---- errors
 
--- where no line counts, the one after the last is told
+-- if no line has words, the line after the last is an error
 pub nothing_that_counts : (read_source [] ≡ Err (1 ∷ [])) × (read_source (codes "# one\n\n# three") ≡ Err (4 ∷ []))
 unfolding sources_on_literals
 nothing_that_counts = (refl, refl)
@@ -83,7 +83,8 @@ pub sizes_come_first : read_source (codes "\ndir \"/a\"\nimage 16 16\n") ≡ Err
 unfolding sources_on_literals
 sizes_come_first = refl
 
--- the tree is judged up to the first line of the manifest that has another fault; programs and the schedule are, all the way
+-- the tree is checked up to the first line of the manifest with another error; programs and the schedule are always
+-- checked
 pub each_line_is_judged : read_source (lines_text (
     codes "image 16 16" ∷
     codes "exec \"/ect/p\" <<END" ∷
@@ -100,7 +101,7 @@ pub each_line_is_judged : read_source (lines_text (
 unfolding sources_on_literals
 each_line_is_judged = refl
 
--- a label that is not set, one that is set twice, and words that are no labels
+-- a label that is not defined, one that is defined twice, and words that are not labels
 pub labels_at_fault : read_source (lines_text (
     codes "image 16 16" ∷
     codes "exec \"/init\" <<END" ∷
@@ -115,7 +116,7 @@ pub labels_at_fault : read_source (lines_text (
 unfolding sources_on_literals
 labels_at_fault = refl
 
--- an entry with a fault makes nothing, and want of room is told once
+-- an entry with an error makes nothing, and lack of room is reported once
 pub faults_of_the_tree : read_source (lines_text (
     codes "image 16 3" ∷
     codes "dir \"/a\"" ∷
@@ -129,7 +130,7 @@ pub faults_of_the_tree : read_source (lines_text (
 unfolding sources_on_literals
 faults_of_the_tree = refl
 
--- `/init` is an `exec`; what it is instead is made and judged on
+-- `/init` must be an `exec` entry; another node at that path is made, and the checks continue
 pub init_is_a_directory : read_source (lines_text (
     codes "image 16 16" ∷
     codes "exec \"/p\" 0" ∷
@@ -140,7 +141,7 @@ pub init_is_a_directory : read_source (lines_text (
 unfolding sources_on_literals
 init_is_a_directory = refl
 
--- an `exec` line at fault takes its lines; where they are not there, nothing after it is told
+-- an `exec` line with an error still takes its lines; if they are missing, nothing after it is reported
 pub exec_at_fault : read_source (lines_text (
     codes "image 16 16" ∷
     codes "exec /p <<END" ∷
@@ -155,13 +156,13 @@ pub exec_at_fault : read_source (lines_text (
 unfolding sources_on_literals
 exec_at_fault = refl
 
--- twenty are told, in the order of their lines
-pub twenty_are_told : read_source (codes "image 16 16\nschedule\n" ++ lines_text (replicate 30 (codes "0")))
+-- twenty errors are reported, in the order of their lines
+pub twenty_are_reported : read_source (codes "image 16 16\nschedule\n" ++ lines_text (replicate 30 (codes "0")))
     ≡ Err (3 ∷ 4 ∷ 5 ∷ 6 ∷ 7 ∷ 8 ∷ 9 ∷ 10 ∷ 11 ∷ 12 ∷ 13 ∷ 14 ∷ 15 ∷ 16 ∷ 17 ∷ 18 ∷ 19 ∷ 20 ∷ 21 ∷ 22 ∷ [])
 unfolding sources_on_literals
-twenty_are_told = refl
+twenty_are_reported = refl
 
--- the 257th instruction is told once, and also where it is the `exit 0` of a label
+-- the 257th instruction is reported once, even if it is the `exit 0` for a label
 pub instructions_too_many : (read_source (codes "image 99 16\nexec \"/init\" <<END\n" ++ lines_text (replicate 256 (codes "fork")) ++ codes "fork\nfork\nfrok\nEND\n") ≡ Err (259 ∷ 261 ∷ []))
     × (read_source (codes "image 99 16\nexec \"/init\" <<END\n" ++ lines_text (replicate 256 (codes "fork")) ++ codes "end:\nEND\n") ≡ Err (259 ∷ []))
 unfolding sources_on_literals

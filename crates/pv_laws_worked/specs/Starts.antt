@@ -1,4 +1,4 @@
--- What runs start from, and the order of their checks.
+-- How runs start, and the order of their checks.
 use Rattle.std.specs.Prelude.{◌≡◌, [], ◌∷◌, ◌++◌, drop, replicate, codes, Option, Some, option_map, Err, refl}
 use Rattle.std.specs.Result.{result_ok}
 use Rattle.pv_model.specs.declared.fault.ImageFault.TheVariants.{Dir}
@@ -11,37 +11,37 @@ use Rattle.pv_laws_worked.specs.Bundles.{lines_text}
 use Rattle.pv_laws_worked.specs.Images.{images_on_literals, started_text, example, past_slot}
 use Rattle.pv_laws_worked.specs.Mounts.{example_2}
 
--- the form of a manifest is judged before its sizes, its schedule and its programs
+-- the form of a manifest is checked before its sizes, its schedule and its programs
 pub form_comes_first : bundle_started (lines_text (codes "image 1 1" ∷ codes "foo" ∷ codes "schedule" ∷ codes "0" ∷ [])) ≡ Err (Manifest (Form 2))
 unfolding images_on_literals
 form_comes_first = refl
 
--- its sizes before its entries
+-- the sizes are checked before the entries
 pub sizes_come_before_entries : bundle_started (lines_text (codes "image 1 1" ∷ codes "dir \"/a/b\"" ∷ codes "schedule" ∷ codes "0" ∷ [])) ≡ Err (Manifest Size)
 unfolding images_on_literals
 sizes_come_before_entries = refl
 
--- its entries before the schedule
+-- the entries are checked before the schedule
 pub entries_come_before_schedule : bundle_started (lines_text (codes "image 8 8" ∷ codes "dir \"/a/b\"" ∷ codes "schedule" ∷ codes "0" ∷ [])) ≡ Err (Manifest (Parent 2))
 unfolding images_on_literals
 entries_come_before_schedule = refl
 
--- the schedule before the first program
+-- the schedule is checked before the first program
 pub schedule_comes_before_init : bundle_started (lines_text (codes "image 64 64" ∷ codes "exec \"/init\" 1" ∷ codes "frok" ∷ codes "schedule" ∷ codes "1" ∷ codes "0" ∷ [])) ≡ Err (Schedule 2)
 unfolding images_on_literals
 schedule_comes_before_init = refl
 
--- the least line of `init` that is no instruction
+-- the first line of `init` that is not an instruction
 pub line_of_init : bundle_started (lines_text (codes "image 64 64" ∷ codes "exec \"/init\" 3" ∷ codes "fork" ∷ codes "frok" ∷ codes "frok" ∷ codes "schedule" ∷ codes "1" ∷ [])) ≡ Err (Init 2)
 unfolding images_on_literals
 line_of_init = refl
 
--- an `init` that is no executable file
+-- an `init` that is a directory
 pub init_is_a_directory : bundle_started (lines_text (codes "image 64 64" ∷ codes "dir \"/init\"" ∷ codes "schedule" ∷ codes "1" ∷ [])) ≡ Err (Init 0)
 unfolding images_on_literals
 init_is_a_directory = refl
 
--- nor may it be any other file
+-- an `init` that is a file but not executable
 pub init_is_not_executable : bundle_started (lines_text (codes "image 64 64" ∷ codes "bytes \"/init\" \"exit 0\"" ∷ codes "schedule" ∷ codes "1" ∷ [])) ≡ Err (Init 0)
 unfolding images_on_literals
 init_is_not_executable = refl
@@ -51,7 +51,7 @@ pub init_is_too_long : bundle_started (lines_text (codes "image 64 64" ∷ codes
 unfolding images_on_literals
 init_is_too_long = refl
 
--- an image is judged before the schedule
+-- an image is checked before the schedule
 pub image_comes_first : image_started (past_slot 61) (codes "0") ≡ Err (Image (Dir 1))
 unfolding images_on_literals
 image_comes_first = refl
@@ -60,7 +60,7 @@ pub schedule_after_image : image_started example (codes "1\n0\n") ≡ Err (Sched
 unfolding images_on_literals
 schedule_after_image = refl
 
--- the text of the run on its image
+-- the trace of the run on its image
 abbrev pub example_text : Bytes
 example_text = lines_text (
     codes "    1 CALL  pledge(\"stdio rpath\", null)" ∷
@@ -79,12 +79,12 @@ pub image_run : started_text (image_started example (codes "1 5\n")) ≡ Some ex
 unfolding images_on_literals
 image_run = refl
 
--- and on that of version 2
+-- the same trace on the image of version 2
 pub image_run_2 : started_text (image_started example_2 (codes "1 5\n")) ≡ Some example_text
 unfolding images_on_literals
 image_run_2 = refl
 
--- where a bundle's schedule begins: after its line `schedule`, at the end where nothing follows it
+-- the bytes of a bundle's schedule: those after its line `schedule`, possibly none
 
 abbrev pub schedule_of : Bytes → Option Bytes
 schedule_of bytes = option_map (λ m. drop (schedule_start bytes m) bytes) (result_ok (read_bundle bytes))

@@ -1,8 +1,7 @@
--- Runs and their whole texts.
+-- Runs with their complete traces.
 use Rattle.std.specs.Prelude.{◌≡◌, [], ◌∷◌, codes, Some, refl}
 use Rattle.pv_laws_worked.specs.Bundles.{bundles_on_literals, lines_text, text_of}
 
--- a run, and the text that it writes
 pub read_one_file : text_of (
     codes "image 16 16" ∷
     codes "dir \"/etc\"" ∷
@@ -29,7 +28,6 @@ pub read_one_file : text_of (
 unfolding bundles_on_literals
 read_one_file = refl
 
--- a run, and the text that it writes
 pub registers_and_bytes : text_of (
     codes "image 64 64" ∷
     codes "bytes \"/\\x01z\" \"\\xff\\x80\"" ∷

@@ -1,8 +1,8 @@
--- Runs under unveil tables.
+-- Runs with unveil tables.
 use Rattle.std.specs.Prelude.{◌≡◌, [], ◌∷◌, codes, Some, refl}
 use Rattle.pv_laws_worked.specs.Bundles.{bundles_on_literals, shown_of}
 
--- an unveiled path is no prefix of a text
+-- an unveiled path is not compared as a prefix of a text
 pub not_by_prefix : shown_of (
     codes "image 64 64" ∷
     codes "dir \"/tmp\"" ∷
@@ -18,7 +18,7 @@ pub not_by_prefix : shown_of (
 unfolding bundles_on_literals
 not_by_prefix = refl
 
--- the nearest entry above a place decides
+-- the nearest entry at or above a place decides
 pub nearest_entry : shown_of (
     codes "image 64 64" ∷
     codes "dir \"/a\"" ∷
@@ -40,7 +40,7 @@ pub nearest_entry : shown_of (
 unfolding bundles_on_literals
 nearest_entry = refl
 
--- an entry gains no permission, and a locked table no entry
+-- an entry cannot gain permissions, and a locked table cannot gain entries
 pub increase_and_lock : shown_of (
     codes "image 64 64" ∷
     codes "dir \"/a\"" ∷
@@ -63,7 +63,7 @@ pub increase_and_lock : shown_of (
 unfolding bundles_on_literals
 increase_and_lock = refl
 
--- an unveil that is refused brings no table into force
+-- a refused unveil does not put a table in force
 pub unveil_arguments : shown_of (
     codes "image 64 64" ∷
     codes "exec \"/init\" 4" ∷
@@ -102,7 +102,7 @@ pub unveiled_file : shown_of (
 unfolding bundles_on_literals
 unveiled_file = refl
 
--- to create a file needs the permission c, and one that is refused is not made
+-- creating a file needs the permission c; a refused open creates nothing
 pub create_needs_permission : shown_of (
     codes "image 64 64" ∷
     codes "dir \"/a\"" ∷
@@ -119,7 +119,7 @@ pub create_needs_permission : shown_of (
 unfolding bundles_on_literals
 create_needs_permission = refl
 
--- a descriptor is not judged again
+-- a table does not decide about calls on descriptors
 pub descriptors_stay : shown_of (
     codes "image 64 64" ∷
     codes "bytes \"/f\" \"abc\"" ∷
@@ -142,7 +142,7 @@ pub descriptors_stay : shown_of (
 unfolding bundles_on_literals
 descriptors_stay = refl
 
--- the place where a walk ends is judged, and not the path's text
+-- the table decides about the place where a walk ends, not about the path's text
 pub links_and_dots : shown_of (
     codes "image 64 64" ∷
     codes "dir \"/tmp\"" ∷
@@ -167,7 +167,7 @@ pub links_and_dots : shown_of (
 unfolding bundles_on_literals
 links_and_dots = refl
 
--- a directory that is made again is another node
+-- a directory that is removed and created again is a different node
 pub directory_made_again : shown_of (
     codes "image 64 64" ∷
     codes "dir \"/d\"" ∷
@@ -195,7 +195,7 @@ pub directory_made_again : shown_of (
 unfolding bundles_on_literals
 directory_made_again = refl
 
--- an entry for a name that is absent holds its directory: no other node gets the number
+-- an entry for an absent name references its directory, so no other node gets the directory's number
 pub absent_name_holds_directory : shown_of (
     codes "image 64 64" ∷
     codes "dir \"/d\"" ∷
@@ -225,7 +225,7 @@ pub absent_name_holds_directory : shown_of (
 unfolding bundles_on_literals
 absent_name_holds_directory = refl
 
--- a file that is made again has the same name
+-- a file that is removed and created again has the same name
 pub file_made_again : shown_of (
     codes "image 64 64" ∷
     codes "exec \"/init\" 12" ∷
@@ -266,7 +266,7 @@ pub file_made_again : shown_of (
 unfolding bundles_on_literals
 file_made_again = refl
 
--- to remove a name needs the permission c
+-- removing a name needs the permission c
 pub unlink_needs_permission : shown_of (
     codes "image 64 64" ∷
     codes "dir \"/pub\"" ∷

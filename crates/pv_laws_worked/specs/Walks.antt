@@ -1,4 +1,4 @@
--- Worked walks, each along a path in the tree of a manifest.
+-- Walks along paths in the tree of a manifest.
 use Rattle.std.specs.Prelude.{◌≡◌, ℕ, List, [], ◌∷◌, ◌++◌, flat_map, replicate, codes, Option, None, Some, option_map, Result, Ok, Err, refl}
 use Rattle.pv_model.specs.declared.errno.Errno.{Errno}
 use Rattle.pv_model.specs.declared.errno.Errno.TheVariants.{ENOENT, ENOTDIR, ENAMETOOLONG}
@@ -11,7 +11,7 @@ use Rattle.pv_model.specs.Tree.{root}
 use Rattle.pv_model.specs.Walk.{resolve}
 use Rattle.pv_laws_worked.specs.Bundles.{bundles_on_literals, tree_of_lines}
 
--- where a path leads from the root
+-- the place that a path from the root leads to
 abbrev pub walked : List Bytes → Follow → Bytes → Option (Result Place Errno)
 walked lines follow path = option_map (λ t. resolve t follow root path) (tree_of_lines lines)
 
@@ -24,9 +24,9 @@ few =
     codes "link \"/l\" \"d\"" ∷
     codes "link \"/m\" \"f/\"" ∷ []
 
-pub kept_link : walked few Keep (codes "/l") ≡ Some (Ok (At root (codes "l") (Some 4)))
+pub preserved_link : walked few Keep (codes "/l") ≡ Some (Ok (At root (codes "l") (Some 4)))
 unfolding bundles_on_literals
-kept_link = refl
+preserved_link = refl
 
 pub link_with_slash : walked few Keep (codes "/l/") ≡ Some (Ok (At root (codes "d") (Some 3)))
 unfolding bundles_on_literals

@@ -1,4 +1,4 @@
--- The names of a directory, one after the other.
+-- Iterating over the names of a directory.
 use Rattle.std.proofs.Common.{◌≡◌, ℕ, ◌-◌, true, false, cond, [], ◌∷◌, ◌++◌, length, take, drop, codes, Option, None, Some, refl, ap, sym, subst, ◌∙◌, append_assoc, arith, ◌+◌, ◌<◌, ◌≤◌, Bor, ⊎_elim, add-one, length-append, length-drop, drop-cons}
 use Rattle.std.specs.Ordering.{is_lt, eq_by_cmp}
 use Rattle.std.specs.FinMap.Entries.{find, is_sorted, below_all}
@@ -15,14 +15,14 @@ use Rattle.pv_laws_trees.proofs.Entries.{by_name, tied_itself, tied-same, find_a
 use Rattle.pv_laws_trees.proofs.NameOrder.{less_from, not_after, not_after_itself, after_more}
 use Rattle.pv_listing.specs.Lines.{entries_after, last_name, IsNextChild}
 
--- all entries above a name are after it
+-- all entries above a name follow it
 all_past : (name : Bytes) (es : Entries) → below_all by_name name es ≡ true → entries_after (Some name) es ≡ es
 all_past name [] below = refl
 all_past name (e ∷ es) below =
     let parts = and_parts (is_lt (by_name name e.0)) (below_all by_name name es) below in
     ap (λ b. cond b (e ∷ entries_after (Some name) es) (entries_after (Some name) es)) parts.0 ∙ ap (λ (xs : Entries). e ∷ xs) (all_past name es parts.1)
 
--- and after any last name that the name is after
+-- and follow every last name that the name follows
 all_past_last : (last : Option Bytes) (name : Bytes) (es : Entries) → is_past last name ≡ true → below_all by_name name es ≡ true → entries_after last es ≡ es
 all_past_last last name [] is below = refl
 all_past_last last name (e ∷ es) is below =
@@ -30,7 +30,7 @@ all_past_last last name (e ∷ es) is below =
     ap (λ b. cond b (e ∷ entries_after last es) (entries_after last es)) (after_more last name e.0 is parts.0)
     ∙ ap (λ (xs : Entries). e ∷ xs) (all_past_last last name es is parts.1)
 
--- what is found among entries above a name is above it
+-- a name that is found among entries above another is above it
 found_above : (name other : Bytes) (n : ℕ) (es : Entries) → below_all by_name name es ≡ true → find by_name other es ≡ Some n → by_name name other ≡ Less
 found_above name other n [] below found = cc
 found_above name other n (e ∷ es) below found =
@@ -40,7 +40,7 @@ found_above name other n (e ∷ es) below found =
       | false ↦ λ tied there. found_above name other n es parts.1 there
     ] refl found
 
--- the entry of the next name, and then those after it
+-- the entry of the next name, followed by those after it
 pub record IsFirst (last : Option Bytes) (es : Entries) (name : Bytes) (n : ℕ) : Type 0 where
   pub first : entries_after last es ≡ (name, n) ∷ entries_after (Some name) es
   pub found : find by_name name es ≡ Some n
@@ -75,7 +75,7 @@ next-first last (e ∷ es) name sorted is =
       | false ↦ λ before there. let later = next-first last es name parts.1 there in (later.0, first_later last e es name later.0 before sorted later.1)
     ] refl is
 
--- none is after where no name comes next
+-- no entry follows if there is no next name
 pub next-none : (last : Option Bytes) (es : Entries) → next_name last es ≡ None → entries_after last es ≡ []
 next-none last [] is = refl
 next-none last (e ∷ es) is =
@@ -105,7 +105,7 @@ pub front-is : (directory name path : Bytes) (base : ℕ) → length directory �
 front-is directory name path base long is =
     ap (take base) (is ∙ append_assoc directory (47 ∷ []) name) ∙ ap (λ k. take k (directory ++ 47 ∷ name)) (sym long) ∙ take-append_seam directory (47 ∷ name)
 
--- what stands after a directory's path and a slash, as a slice of the path has it
+-- the bytes after a directory's path and a slash, as a slice of the path
 pub last-got : (path : Bytes) (base : ℕ) (got : Option (Bor Bytes)) → base ≤ length path → IsGetRangeResult path (base + 1) (length path) got
     → option_copied got ≡ last_name (drop base path)
 last-got path base None within (past, some) =
@@ -116,7 +116,7 @@ last-got path base (Some x) within (part, is) =
     ap Some (part.2 ∙ take_all (length path - (base + 1)) (drop (base + 1) path) (omega (arith, length-drop (base + 1) path)) ∙ ap (λ k. drop k path) (add-one base))
     ∙ sym (ap last_name (drop-cons path base 0 inside))
 
--- after no name are all
+-- all entries follow if there is no last name
 pub past-none : (es : Entries) → entries_after None es ≡ es
 past-none [] = refl
 past-none (e ∷ es) = ap (λ (xs : Entries). e ∷ xs) (past-none es)

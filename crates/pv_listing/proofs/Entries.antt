@@ -1,4 +1,4 @@
--- The lines of a node and of all that is in it, entry by entry.
+-- The lines of a node and of everything below it, entry by entry.
 use Rattle.std.proofs.Common.{◌≡◌, ℕ, zero, suc, ◌-◌, ◌<◌, false, [], ◌∷◌, ◌++◌, ◌∙◌, flat_map, codes, Option, None, Some, refl, ap, sym, arith}
 use Rattle.pv_model.specs.Bytes.{Bytes}
 use Rattle.pv_model.specs.Listing.{lines_within}
@@ -7,7 +7,7 @@ use Rattle.pv_streams.specs.Sinks.{and_all}
 use Rattle.pv_listing.specs.Lines.{entries_after}
 use Rattle.pv_listing.proofs.Rests.{LeavesRest, rest_all, rest_after}
 
--- what is no directory has no entries
+-- a node that is not a directory has no entries
 pub no-entries : (t : Tree) (n : ℕ) → is_directory_at t n ≡ false → entries_at t n ≡ []
 no-entries t n is = by (node_at t n) is
   where
@@ -18,7 +18,7 @@ no-entries t n is = by (node_at t n) is
     by (Some (link_node text)) is = refl
 
 module _ (t : Tree) (line : Bytes → ℕ → Bytes) where
-  -- the lines of all that is under these names of a directory
+  -- the lines of everything under these names of a directory
   abbrev pub entry_lines : ℕ → Bytes → Entries → Bytes
   entry_lines depth path es = flat_map (λ e. lines_within t line depth (path ++ codes "/" ++ e.0) e.1) es
 
@@ -28,7 +28,7 @@ module _ (t : Tree) (line : Bytes → ℕ → Bytes) where
   lines-are (suc depth) path n some =
       let less : depth ≡ suc depth - 1 = omega arith in ap (λ k. line path n ++ entry_lines k path (entries_at t n)) less
 
-  -- after the line of a node the lines of its entries are left
+  -- after the line of a node, the lines of its entries remain
   pub node_left : (depth : ℕ) (path : Bytes) (n : ℕ) (es : Entries) (before after : Option Bytes) → 0 < depth → entries_at t n ≡ es → after ≡ and_all before (line path n)
       → LeavesRest (entry_lines (depth - 1) path es) (lines_within t line depth path n) before after
   node_left depth path n es before after some are written =

@@ -1,5 +1,5 @@
--- Lemmas of listings: Rests (texts written part by part), Children (the next name is the first of the entries after the last one),
--- Entries (a node's lines, entry by entry), Parts (of a line).
+-- Lemmas of listings: Rests (texts written part by part), Children (the next name is the first of the entries after the
+-- last one), Entries (the lines of a node, entry by entry), Parts (of a line).
 pub mod Children
 pub mod Entries
 pub mod Parts

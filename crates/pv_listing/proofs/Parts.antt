@@ -17,7 +17,7 @@ letter-is (file_node false bytes) = refl
 letter-is (file_node true bytes) = refl
 letter-is (link_node text) = refl
 
--- what stands before the path, as a tree tells it
+-- the part before the path, computed from a tree
 pub front_is : (n : ℕ) (node : Option Node) (sort : Kind) (size : ℕ) → option_map sort_of node ≡ Some sort → option_map size_of node ≡ Some size
     → node_front n node ≡ letter_of sort ++ codes " " ++ decimal n ++ codes " " ++ decimal size ++ codes " "
 front_is n None sort size is measures = cc is
@@ -26,7 +26,7 @@ front_is n (Some node) sort size is measures =
     let long : size_of node ≡ size = cc measures in
     ap₂ (λ (l : Bytes) (z : ℕ). l ++ codes " " ++ decimal n ++ codes " " ++ decimal z ++ codes " ") (letter-is node ∙ ap letter_of same) long
 
--- a text with its marks, between what stands before it and the end
+-- a text in quotation marks, between the part before it and the end
 marked : (front text : Bytes) → ((front ++ 34 ∷ []) ++ text) ++ 34 ∷ 10 ∷ [] ≡ (front ++ 34 ∷ (text ++ 34 ∷ [])) ++ 10 ∷ []
 marked front text =
     append_assoc (front ++ 34 ∷ []) text (34 ∷ 10 ∷ [])
@@ -34,7 +34,7 @@ marked front text =
     ∙ ap (λ (bs : Bytes). front ++ 34 ∷ bs) (sym (append_assoc text (34 ∷ []) (10 ∷ [])))
     ∙ sym (append_assoc front (34 ∷ (text ++ 34 ∷ [])) (10 ∷ []))
 
--- a line in three parts: what stands before the path, the path between its marks, and the end
+-- a line in three parts: the part before the path, the path in quotation marks, and the end
 pub line-is : (front path : Bytes) (n : ℕ) (node : Option Node) → IsSome node → front ≡ node_front n node ++ codes "\""
     → (front ++ flat_map quote_byte (listed_path path)) ++ codes "\"\n" ≡ node_line path n node
 line-is front path n None some is = cc some

@@ -1,10 +1,10 @@
--- How a listing stops.
+-- The errors of a listing.
 use Rattle.std.specs.Prelude.{◌≡◌, ℕ}
 use Rattle.pv_model.specs.Stream.{Rose}
 use Rattle.pv_listing.specs.declared.listing.ListStop.{ListStop}
 use Rattle.pv_listing.specs.declared.listing.ListStop.TheVariants.{Memory, Write}
 
--- where a write failed a failure was counted, and where memory was refused none was
+-- a failed write is counted as a failure, and lack of memory is not
 abbrev pub FailsBy : ListStop → ℕ → ℕ → Type 0
 FailsBy Memory before after = after ≡ before
 FailsBy Write before after = Rose before after

@@ -1,4 +1,4 @@
--- Parts of a line, and the names of a directory one after the other.
+-- Parts of a line, and iteration over the names of a directory.
 use Rattle.std.specs.Prelude.{◌≡◌, ℕ, [], ◌∷◌, ◌++◌, codes, filter, Option, None, Some}
 use Rattle.std.specs.Fmt.{decimal}
 use Rattle.pv_model.specs.declared.kind.Kind.{Kind}
@@ -9,14 +9,14 @@ use Rattle.pv_model.specs.Effect.{size_of}
 use Rattle.pv_model.specs.Listing.{kind_letter}
 use Rattle.pv_model.specs.Tree.{Entries, Node}
 
--- the letter of what a node is
+-- the letter of a kind of node
 abbrev pub letter_of : Kind → Bytes
 letter_of Directory = codes "d"
 letter_of File = codes "f"
 letter_of Executable = codes "x"
 letter_of Symlink = codes "l"
 
--- what stands before the path of a line
+-- the part of a line before its path
 abbrev pub node_front : ℕ → Option Node → Bytes
 node_front n None = []
 node_front n (Some node) = kind_letter node ++ codes " " ++ decimal n ++ codes " " ++ decimal (size_of node) ++ codes " "
@@ -26,11 +26,11 @@ abbrev pub last_name : Bytes → Option Bytes
 last_name [] = None
 last_name (slash ∷ name) = Some name
 
--- the entries whose names come after the last one
+-- the entries whose names follow the last one
 abbrev pub entries_after : Option Bytes → Entries → Entries
 entries_after last es = filter (λ e. is_past last e.0) es
 
--- the first of these entries, and a path that ends in its name after a directory's; where there is none, the directory's path
+-- the first of these entries, and the path of its name in the directory; if there is none, the path of the directory
 abbrev pub IsNextChild : Entries → Option Bytes → Bytes → Option ℕ → Bytes → Type 0
 IsNextChild es last directory None path = (entries_after last es ≡ []) × (path ≡ directory)
 IsNextChild es last directory (Some child) path =

@@ -1,10 +1,10 @@
-//! The lines of a tree: what is said of each name, each directory followed at once by all that is in it.
+//! Listings: a line for each name of a tree. All entries of a directory follow its line.
 //!
-//! `remarks` has what may be said of a node at a path. `listing` goes down a tree, keeps the path of the node at which it
-//! stands, which may be of any length, and has what is said there written. A listing's own remarks stand in `line`; `path`
-//! writes a text, and a path as a line has it, and `verdict` the line of what an audit finds.
+//! `remarks` defines the trait of the text about a node at a path. `listing` traverses a tree with the path of the
+//! current node, which can have any length, and writes the line of each node. `line` has the lines of the listing
+//! itself, `path` writes texts and paths, and `verdict` the result line of an audit.
 //!
-//! A clause sees the lines as `pv_model`'s definitions have them.
+//! Contracts see the lines as `pv_model` defines them.
 #![tactic(auto)]
 
 mod line;

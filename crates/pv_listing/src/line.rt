@@ -1,4 +1,4 @@
-//! What a listing says of a node.
+//! The lines of a listing.
 ghost use Rattle.std.specs.Prelude.{◌≡◌, ◌++◌, ◌+◌, ◌≤◌, length, codes, decimal, IsSome};
 ghost use Rattle.pv_model.specs.Listing.{node_line};
 ghost use Rattle.pv_model.specs.Tree.{node_at};
@@ -12,13 +12,13 @@ use pv_model::Kind;
 use pv_streams::{Failed, Sink};
 use pv_tree::Tree;
 
-// Bytes before the path of a line, and more.
+// An upper bound of the length of a line before its path.
 const FRONT: usize = 96;
 
-// What stands before the path of a line.
+// The part of a line before its path.
 type Front = ArrayVec<u8, FRONT>;
 
-// The letter of what a node is.
+// Returns the letter of a kind of node.
 fn letter(sort: Kind) -> &'static [u8]
     ensures text { result.now ≡ letter_of sort }
     ensures one { length result.now ≤ 1 }
@@ -31,7 +31,7 @@ fn letter(sort: Kind) -> &'static [u8]
     }
 }
 
-// A word, and a space after it.
+// Appends a word and a space.
 fn add_word(front: &mut Front, word: &[u8])
     requires { length front.old.items + length word.now + 1 ≤ FRONT }
     ensures text { front.new.items ≡ front.old.items ++ word.now ++ codes " " }
@@ -41,7 +41,7 @@ fn add_word(front: &mut Front, word: &[u8])
     let _ = front.try_push(b' ');
 }
 
-// A number, and a space after it.
+// Appends a number and a space.
 fn add_number(front: &mut Front, number: u32)
     requires { length front.old.items + 41 ≤ FRONT }
     ensures text { front.new.items ≡ front.old.items ++ decimal number ++ codes " " }
@@ -51,8 +51,8 @@ fn add_number(front: &mut Front, number: u32)
     add_word(front, buffer.format(number).as_bytes());
 }
 
-// What a line says of a node before its path: what it is, its number, and its size as stat(2) gives it; and the mark before
-// the path.
+// Returns the part of a node's line before the path: its kind, its number, its size as stat(2) reports it, and the
+// opening quotation mark of the path.
 #[tactic(auto, using(crate::proofs::Parts::front_is))]
 fn front_of(tree: &Tree, node: u16) -> Front
     requires { IsSome (node_at tree.now.tree node) }
@@ -66,7 +66,7 @@ fn front_of(tree: &Tree, node: u16) -> Front
     front
 }
 
-/// The remarks of a listing: what a node is, its number, its size, and the path.
+/// The lines of a listing: the kind of a node, its number, its size, and the path.
 #[derive(Clone, Copy)]
 pub(crate) struct NodeLines<'a> {
     /// The tree of the nodes.

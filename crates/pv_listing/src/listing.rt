@@ -1,8 +1,8 @@
-//! The lines of a tree, and its listing.
-ghost use Rattle.std.specs.Prelude.{◌≡◌, ◌≤◌, drop, take, vec_len, IsTrue, IfOk, IfErr, OnOk, OnErr};
+//! Traversing a tree and writing its lines.
+ghost use Rattle.std.specs.Prelude.{◌≡◌, ◌≤◌, drop, take, vec_len, IsTrue, IfOk, OnOk};
 ghost use Rattle.pv_model.specs.Listing.{lines_of_all, lines_within, listing};
 ghost use Rattle.pv_model.specs.Tree.{entries_at, is_directory_at, IsWellFormed};
-ghost use Rattle.pv_streams.specs.Sinks.{and_all, TellsBeginning};
+ghost use Rattle.pv_streams.specs.Sinks.{WritesOr};
 ghost use Rattle.pv_listing.specs.Failing.{FailsBy};
 ghost use Rattle.pv_listing.specs.Lines.{IsNextChild, last_name};
 ghost use Rattle.pv_listing.specs.declared.listing.ListStop.TheVariants.{Memory, Write};
@@ -14,10 +14,10 @@ use pv_streams::{Failed, Sink};
 use pv_tree::Tree;
 use std::alloc::{AllocError, Global};
 
-/// Why the lines of a tree stop before their end.
+/// Why writing the lines of a tree stopped before the end.
 #[derive(Clone, Copy, Debug, PartialEq, Eq)]
 pub enum ListStop {
-    /// Memory was refused for a path.
+    /// Memory for a path cannot be allocated.
     Memory,
     /// A write failed.
     Write,
@@ -39,9 +39,9 @@ impl From<Failed> for ListStop {
     }
 }
 
-// Puts the next name of a directory at the end of a path, in the place of the one before it, and answers its node:
-// none where no name comes next, and then the path is the directory's. The first `base` bytes are the directory's path,
-// and `before` is a guess of how many of its names come before.
+// Replaces the last name of a path by the next name of a directory, and returns its node. If there is no next name,
+// returns `None`, and the path is that of the directory. The first `base` bytes of the path are the directory's path,
+// and `before` is a guess of the number of its names that precede the next one.
 fn next_child(
     tree: &Tree,
     directory: u16,
@@ -64,7 +64,7 @@ fn next_child(
     Ok(Some(child))
 }
 
-// Writes what is said of a node at the end of a path, and of all that is in it, so deep.
+// Writes the lines of the node at the end of a path, and of everything below it up to `depth` levels.
 fn write_within<R: Remarks, W: Sink>(
     out: &mut W,
     tree: &Tree,
@@ -74,11 +74,8 @@ fn write_within<R: Remarks, W: Sink>(
     node: u16,
 ) -> Result<(), ListStop>
     requires { IsWellFormed tree.now.tree }
-    ensures whole { OnOk result (W.written out.new ≡ and_all (W.written out.old) (lines_within tree.now.tree (R.line remarks.now) depth path.old.items node)) }
+    ensures written { WritesOr W.Sink FailsBy (lines_within tree.now.tree (R.line remarks.now) depth path.old.items node) out.old out.new result }
     ensures path { OnOk result (path.new.items ≡ path.old.items) }
-    ensures beginning { OnErr result (TellsBeginning (lines_within tree.now.tree (R.line remarks.now) depth path.old.items node) (W.written out.old) (W.written out.new)) }
-    ensures failed { IfErr result (λ stop. FailsBy stop (W.failures out.old) (W.failures out.new)) }
-    ensures quiet { OnOk result (W.failures out.new ≡ W.failures out.old) }
 {
     if depth == 0 {
         return Ok(());
@@ -96,47 +93,41 @@ fn write_within<R: Remarks, W: Sink>(
     Ok(())
 }
 
-/// Writes what is said of each name of a tree, each directory followed at once by all that is in it, names in the order
-/// of their bytes.
+/// Writes a line for each name of a tree, as `remarks` defines it. Names are in byte order, and all entries of a
+/// directory follow its line.
 ///
-/// Memory is taken for the path alone.
+/// Memory is allocated only for the path.
 ///
 /// # Errors
 ///
-/// `Write` where a write failed, `Memory` where memory was refused for a path: the sink was given a beginning of the
-/// lines.
+/// Returns `Write` if a write fails, and `Memory` if memory for a path cannot be allocated. The sink then has received
+/// a prefix of the lines.
 pub fn write_lines<R: Remarks, W: Sink>(
     alloc: Global,
     tree: &Tree,
     remarks: &R,
     out: &mut W,
 ) -> Result<(), ListStop>
-    ensures whole { OnOk result (W.written out.new ≡ and_all (W.written out.old) (lines_of_all tree.now.tree (R.line remarks.now))) }
-    ensures beginning { OnErr result (TellsBeginning (lines_of_all tree.now.tree (R.line remarks.now)) (W.written out.old) (W.written out.new)) }
-    ensures failed { IfErr result (λ stop. FailsBy stop (W.failures out.old) (W.failures out.new)) }
-    ensures quiet { OnOk result (W.failures out.new ≡ W.failures out.old) }
+    ensures { WritesOr W.Sink FailsBy (lines_of_all tree.now.tree (R.line remarks.now)) out.old out.new result }
 {
     let mut path = Vec::new(alloc);
     let depth = tree.sizes().inodes + 1;
     write_within(out, tree, remarks, depth, &mut path, ROOT)
 }
 
-/// Writes the listing of a tree: a line for each name, each directory followed at once by all that is in it, names in
-/// the order of their bytes.
+/// Writes the listing of a tree: a line for each name. Names are in byte order, and all entries of a directory follow
+/// its line.
 ///
-/// A line has the letter of what the node is, its number, its size as stat(2) gives it, and its path as a program
-/// writes a text. Memory is taken for the path alone.
+/// A line has the letter of the node's kind, its number, its size as stat(2) reports it, and its path in quotation
+/// marks. Memory is allocated only for the path.
 ///
 /// # Errors
 ///
-/// `Write` where a write failed, `Memory` where memory was refused for a path: the sink was given a beginning of the
-/// listing.
+/// Returns `Write` if a write fails, and `Memory` if memory for a path cannot be allocated. The sink then has received
+/// a prefix of the listing.
 #[tactic(auto, unfolding(pv_model::specs::Listing::listing))]
 pub fn write_listing<W: Sink>(alloc: Global, tree: &Tree, out: &mut W) -> Result<(), ListStop>
-    ensures whole { OnOk result (W.written out.new ≡ and_all (W.written out.old) (listing tree.now.tree)) }
-    ensures beginning { OnErr result (TellsBeginning (listing tree.now.tree) (W.written out.old) (W.written out.new)) }
-    ensures failed { IfErr result (λ stop. FailsBy stop (W.failures out.old) (W.failures out.new)) }
-    ensures quiet { OnOk result (W.failures out.new ≡ W.failures out.old) }
+    ensures { WritesOr W.Sink FailsBy (listing tree.now.tree) out.old out.new result }
 {
     write_lines(alloc, tree, &NodeLines { tree }, out)
 }

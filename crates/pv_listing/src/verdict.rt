@@ -1,15 +1,14 @@
-//! The line of what an audit finds.
-ghost use Rattle.std.specs.Prelude.{◌≡◌, ◌++◌, ◌+◌, ◌≤◌, length, codes, decimal, OnOk, OnErr};
+//! The result line of an audit.
+ghost use Rattle.std.specs.Prelude.{◌≡◌, ◌++◌, ◌+◌, ◌≤◌, length, codes, decimal};
 ghost use Rattle.pv_model.specs.Sealed.{verdict_line, verdict_text, why_text};
-ghost use Rattle.pv_model.specs.Stream.{Rose};
 ghost use Rattle.pv_trace.specs.declared.line_buffer.TheConstants.{LINE_BUFFER};
-ghost use Rattle.pv_streams.specs.Sinks.{and_all, TellsBeginning};
+ghost use Rattle.pv_streams.specs.Sinks.{Writes};
 
 use pv_model::{Leak, Verdict, Why};
 use pv_streams::{Failed, Sink, write_whole};
 use pv_trace::{LineBuffer, put, put_decimal};
 
-// An entry of a table, and what it does.
+// Appends the number of a table entry and what the entry does.
 fn put_entry(out: &mut LineBuffer, number: u8, does: &[u8])
     requires { length out.old.items + 46 + length does.now ≤ LINE_BUFFER }
     ensures text { out.new.items ≡ out.old.items ++ (codes "entry " ++ decimal number ++ does.now) }
@@ -20,7 +19,7 @@ fn put_entry(out: &mut LineBuffer, number: u8, does: &[u8])
     put(out, does);
 }
 
-// A descriptor that reads the file.
+// Appends a descriptor that reads the file.
 fn put_descriptor(out: &mut LineBuffer, number: u8)
     requires { length out.old.items + 57 ≤ LINE_BUFFER }
     ensures text { out.new.items ≡ out.old.items ++ (codes "reads descriptor " ++ decimal number) }
@@ -30,7 +29,7 @@ fn put_descriptor(out: &mut LineBuffer, number: u8)
     put_decimal(out, u32::from(number));
 }
 
-// Why a process is not closed to the file.
+// Appends the reason that a process is not closed to the file.
 fn put_why(out: &mut LineBuffer, why: Why)
     requires { length out.old.items + 57 ≤ LINE_BUFFER }
     ensures text { out.new.items ≡ out.old.items ++ why_text why }
@@ -46,7 +45,7 @@ fn put_why(out: &mut LineBuffer, why: Why)
     }
 }
 
-// A process that is not closed to the file, and why.
+// Appends a process that is not closed to the file, with the reason.
 fn put_leak(out: &mut LineBuffer, leak: Leak)
     requires { length out.old.items + 118 ≤ LINE_BUFFER }
     ensures text { out.new.items ≡ out.old.items ++ (codes "exposed: process " ++ decimal leak.pid ++ codes ", " ++ why_text leak.why) }
@@ -58,7 +57,7 @@ fn put_leak(out: &mut LineBuffer, leak: Leak)
     put_why(out, leak.why);
 }
 
-// What is found, in words.
+// Appends the text of a verdict.
 #[tactic(auto, unfolding(pv_model::specs::Sealed::verdict_text))]
 fn put_found(out: &mut LineBuffer, verdict: &Verdict)
     requires { length out.old.items + 118 ≤ LINE_BUFFER }
@@ -72,7 +71,7 @@ fn put_found(out: &mut LineBuffer, verdict: &Verdict)
     }
 }
 
-// The line of what is found, with the end of the line.
+// Appends the line of a verdict with its line feed.
 #[tactic(auto, unfolding(pv_model::specs::Sealed::verdict_line))]
 pub(crate) fn put_line(out: &mut LineBuffer, verdict: &Verdict)
     requires { length out.old.items + 119 ≤ LINE_BUFFER }
@@ -83,17 +82,14 @@ pub(crate) fn put_line(out: &mut LineBuffer, verdict: &Verdict)
     put(out, b"\n");
 }
 
-/// Writes the line of an audit: `sealed`, `sealed and frozen`, or the process that is not closed to the file, and why. It
-/// takes no memory.
+/// Writes the result line of an audit: `sealed`, `sealed and frozen`, or a process that is not closed to the file, with
+/// the reason. No memory is allocated.
 ///
 /// # Errors
 ///
-/// `Failed` where a write failed: the sink was given a beginning of the line.
+/// Returns `Failed` if a write fails. The sink then has received a prefix of the line.
 pub fn write_verdict<W: Sink>(out: &mut W, verdict: &Verdict) -> Result<(), Failed>
-    ensures whole { OnOk result (W.written out.new ≡ and_all (W.written out.old) (verdict_line verdict.now)) }
-    ensures beginning { OnErr result (TellsBeginning (verdict_line verdict.now) (W.written out.old) (W.written out.new)) }
-    ensures failed { OnErr result (Rose (W.failures out.old) (W.failures out.new)) }
-    ensures quiet { OnOk result (W.failures out.new ≡ W.failures out.old) }
+    ensures { Writes W.Sink (verdict_line verdict.now) out.old out.new result }
 {
     let mut line_buffer = LineBuffer::new();
     put_line(&mut line_buffer, verdict);

@@ -1,4 +1,4 @@
--- Answers to questions of a state or of a run, line by line.
+-- Answers to questions about a state or a run, as lines.
 pub mod Explain
 pub mod Explore
 pub mod Graph

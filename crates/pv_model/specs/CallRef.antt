@@ -1,4 +1,4 @@
--- Calls and walks whose texts stand elsewhere.
+-- Calls and walks that borrow their texts.
 use Rattle.std.specs.Prelude.{List, [], ◌∷◌, option_copied}
 use Rattle.pv_model.specs.declared.call.Call.{Call}
 use Rattle.pv_model.specs.declared.call.Call.TheVariants.{Exit, GetPid, GetPpid, Fork, Wait, Pledge, Unveil, Execve, Open, OpenAt, Close, Dup, Dup2, Read, Write, Lseek, Fstat, Ftruncate, Getdents, Fchdir, Chdir, Stat, Lstat, Readlink, Mkdir, Symlink, Link, Unlink, Rmdir, Rename}
@@ -9,7 +9,6 @@ use Rattle.pv_model.specs.declared.walk.Walks.{Walks}
 use Rattle.pv_model.specs.declared.walk.Walks.TheVariants.{Zero, One, Two}
 use Rattle.pv_model.specs.Walks.{Walk}
 
--- the call
 abbrev pub call_of : CallRef → Call
 call_of (ExitRef n) = Exit n
 call_of GetPidRef = GetPid
@@ -42,11 +41,9 @@ call_of (UnlinkRef path) = Unlink path.now
 call_of (RmdirRef path) = Rmdir path.now
 call_of (RenameRef path new) = Rename path.now new.now
 
--- the walk
 abbrev pub walk_of : WalkRef → Walk
 walk_of w = record { start = w.start; follow = w.follow; path = w.path.now; needed = w.needed }
 
--- the walks, in order
 abbrev pub walks_in : Walks → List Walk
 walks_in Zero = []
 walks_in (One w) = walk_of w ∷ []

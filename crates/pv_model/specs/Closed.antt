@@ -1,4 +1,4 @@
--- What it means that a process is closed to a file, that it can't change it, and why a process is not closed: condition by condition.
+-- The conditions under which a process is closed to a file, cannot change it, or is not closed to it, one by one.
 use Rattle.std.specs.Prelude.{◌≡◌, ◌⊎◌, ℕ, ◌<◌, ◌≤◌, Bool, ◌||◌, IsTrue, IsFalse, None, Some, is_some}
 use Rattle.pv_model.specs.declared.open_flags.Mode.{Mode}
 use Rattle.pv_model.specs.declared.perms.Perms.{Perms}
@@ -14,25 +14,26 @@ use Rattle.pv_model.specs.State.{OpenFile, Descriptor, Process, State, reads, wr
 use Rattle.pv_model.specs.Tree.{Tree, find_entry, IsAtOrAbove}
 use Rattle.pv_model.specs.Unveil.{Table, entry_for, permissions_at, Governs}
 
--- a process is pledged, without a promise
+-- a process is pledged without a promise
 abbrev pub Lacks : Process → Promise → Type 0
 Lacks p promise = (held : Promises) × (p.promises ≡ Some held) × IsFalse (contains held promise)
 
--- an entry of a table governs a name in a directory: the entry for the name, or else the one that governs the directory
+-- an entry of a table governs a name in a directory: the entry for the name, or else the entry that governs the
+-- directory
 pub data GovernsName (t : Tree) (table : Table) (d : ℕ) (name : Bytes) : ℕ → Type 0 where
   by_name : (k : ℕ) → entry_for table (Name d name) ≡ Some k → GovernsName t table d name k
   by_directory : (k : ℕ) → entry_for table (Name d name) ≡ None → Governs t table d k → GovernsName t table d name k
 
--- the permissions by which a file is read, executed, or moved
+-- the permissions with which a file can be read, executed or moved
 abbrev pub opens_or_moves : Perms → Bool
 opens_or_moves permissions = permissions.r || permissions.x || permissions.c
 
--- execve is not held, or leaves the process restrained
+-- the process cannot call execve, or keeps its restraints when it does
 abbrev pub IsHeldOverExec : Process → Type 0
 IsHeldOverExec p = Lacks p ExecPromise ⊎ IsTrue (is_some p.execpromises)
 
 module _ (s : State) (p : Process) (f : ℕ) where
-  -- a descriptor of the process is on the file, with a mode that passes a test
+  -- a descriptor of the process is on the file, in a mode that passes a test
   abbrev pub HasOn : (Mode → Bool) → ℕ → Type 0
   HasOn test d =
       (x : Descriptor) × (file : OpenFile) × (at_number p.descriptors d ≡ Some x) × (at_number s.files x.file ≡ Some file)
@@ -43,19 +44,19 @@ module _ (s : State) (p : Process) (f : ℕ) where
   GivesName table test k =
       (d : ℕ) × (name : Bytes) × (find_entry s.tree d name ≡ Some f) × GovernsName s.tree table d name k × IsTrue (test (permissions_at table k))
 
-  -- an entry with c governs the directory of a name of the file, or one above it
+  -- an entry with c governs the directory of a name of the file, or an ancestor of that directory
   abbrev pub GivesAbove : Table → ℕ → Type 0
   GivesAbove table k =
       (d : ℕ) × (name : Bytes) × (e : ℕ) × (find_entry s.tree d name ≡ Some f) × IsAtOrAbove s.tree e d
       × Governs s.tree table e k × IsTrue (permissions_at table k).c
 
-  -- by its promises a process opens, executes, moves and links nothing
+  -- the promises prevent the process from opening, executing, moving and linking anything
   pub record IsPledgedShut : Type 0 where
     pub no_rpath : Lacks p Rpath
     pub no_exec : Lacks p ExecPromise
     pub no_cpath : Lacks p Cpath
 
-  -- by its table it can't open, execute, move or link the file, nor get another table
+  -- the table prevents the process from opening, executing, moving or linking the file, and cannot be replaced
   pub record IsUnveiledShut (table : Table) : Type 0 where
     pub in_force : p.table ≡ Some table
     pub locked : IsTrue p.locked
@@ -63,29 +64,29 @@ module _ (s : State) (p : Process) (f : ℕ) where
     pub directories : (k : ℕ) → ¬ GivesAbove table k
     pub over_exec : IsHeldOverExec p
 
-  -- the process does not read the file, nor ever will
+  -- the process does not read the file and never will
   pub record IsClosed : Type 0 where
     pub descriptors : (d : ℕ) → ¬ HasOn reads d
     pub restraints : IsPledgedShut ⊎ ((table : Table) × IsUnveiledShut table)
 
-  -- by its promises a process opens nothing for writing
+  -- the promises prevent the process from opening anything for writing
   pub record IsPledgedFrom : Type 0 where
     pub no_wpath : Lacks p Wpath
     pub no_exec : Lacks p ExecPromise
 
-  -- by its table it can't open the file for writing, nor get another table
+  -- the table prevents the process from opening the file for writing, and cannot be replaced
   pub record IsUnveiledFrom (table : Table) : Type 0 where
     pub in_force : p.table ≡ Some table
     pub locked : IsTrue p.locked
     pub names : (k : ℕ) → ¬ GivesName table (λ permissions. permissions.w) k
     pub over_exec : IsHeldOverExec p
 
-  -- beside what keeps it closed: the process does not write the file, nor ever will
+  -- a process that is closed to the file does not write it either and never will
   pub record IsFrozenTo : Type 0 where
     pub descriptors : (d : ℕ) → ¬ HasOn writes d
     pub restraints : IsPledgedFrom ⊎ ((table : Table) × IsUnveiledFrom table)
 
-  -- why a process is not closed to the file
+  -- a reason why a process is not closed to the file
   pub data IsReason : Why → Type 0 where
     by_reading : (d : ℕ) → HasOn reads d → IsReason (Reads d)
     by_no_table : ¬ IsPledgedShut → p.table ≡ None → IsReason NoTable
@@ -94,7 +95,7 @@ module _ (s : State) (p : Process) (f : ℕ) where
     by_directory : (table : Table) (k : ℕ) → ¬ IsPledgedShut → p.table ≡ Some table → GivesAbove table k → IsReason (Above k)
     by_exec : (table : Table) → ¬ IsPledgedShut → p.table ≡ Some table → ¬ IsHeldOverExec p → IsReason Exec
 
--- the order of reasons: by their sort, and then by the least descriptor or entry
+-- reasons are ordered by kind, and then by descriptor or entry
 abbrev pub sort_of : Why → ℕ
 sort_of (Reads d) = 0
 sort_of NoTable = 1

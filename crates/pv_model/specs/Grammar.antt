@@ -1,4 +1,4 @@
--- What texts spell: programs, schedules, manifests and bundles.
+-- The text formats: programs, schedules, manifests and bundles.
 pub mod Applied
 pub mod Arguments
 pub mod Entries
@@ -8,5 +8,5 @@ pub mod Lines
 pub mod Manifests
 pub mod Programs
 pub mod Schedules
-pub mod Spelling
+pub mod Encoding
 pub mod Texts

@@ -1,4 +1,4 @@
--- What bytes hold as an image: their first fault, in the format's order, or the tree.
+-- Mounting: the tree that the bytes of an image hold, or the first error in the format's order.
 use Rattle.std.specs.Prelude.{◌≡◌, ◌≢◌, ℕ, zero, suc, ◌+◌, ◌-◌, ◌*◌, ◌/◌, ◌%◌, ◌<◌, ◌≤◌, Bool, true, false, not, ◌&&◌, ◌||◌, if◌then◌else◌, ◌==◌, nat_lt, nat_le, IsTrue, IsFalse, List, [], ◌∷◌, ◌++◌, length, take, drop, map, filter, flat_map, find, bytes_eq, Option, None, Some, Result, Ok, Err}
 use Rattle.std.specs.Cmp.Lexicographic.{slice_cmp}
 use Rattle.std.specs.FinMap.Entries.{put}
@@ -14,12 +14,12 @@ use Rattle.pv_model.specs.Image.{field, magic, greatest_blocks, inode_blocks, st
 use Rattle.pv_model.specs.Room.{entry_length, greatest_length}
 use Rattle.pv_model.specs.Tree.{Entries, Node, directory_node, file_node, link_node, Tree, root, is_name, greatest_name}
 
--- the slots of a directory's bytes, so many
+-- n slots of a directory
 abbrev pub slots_of : Version → ℕ → Bytes → List Bytes
 slots_of v zero bs = []
 slots_of v (suc n) bs = take (entry_length v) bs ∷ slots_of v n (drop (entry_length v) bs)
 
--- what stands in a slot: the number of an inode, the length of the name, and the name
+-- the fields of a slot: the inode's number, the length of the name, and the name
 abbrev pub slot_number : Bytes → ℕ
 slot_number slot = field slot 0 2
 
@@ -29,10 +29,9 @@ slot_length slot = field slot 2 1
 abbrev pub slot_name : Bytes → Bytes
 slot_name slot = take (slot_length slot) (drop 4 slot)
 
--- whether something stands twice
-abbrev pub stands_twice : {X : Type 0} → (X → X → Bool) → List X → Bool
-stands_twice same [] = false
-stands_twice same (x ∷ xs) = list_any (same x) xs || stands_twice same xs
+abbrev pub appears_twice : {X : Type 0} → (X → X → Bool) → List X → Bool
+appears_twice same [] = false
+appears_twice same (x ∷ xs) = list_any (same x) xs || appears_twice same xs
 
 -- ---- the sizes
 
@@ -48,16 +47,15 @@ block_number bytes = field bytes 8 2
 abbrev pub inode_number : Bytes → ℕ
 inode_number bytes = field bytes 10 2
 
--- the sizes that an image may have
+-- whether an image may have these sizes
 abbrev pub are_image_sizes : Version → ℕ → ℕ → Bool
 are_image_sizes v blocks inodes =
     nat_le 1 inodes && nat_le inodes INODES && nat_le (inode_blocks v inodes + 1) blocks && nat_le blocks (greatest_blocks v)
 
--- the sizes are allowed, and are those of the bytes
+-- whether the sizes are allowed and agree with the number of bytes
 abbrev pub has_sizes : Version → Bytes → Bool
 has_sizes v bytes = are_image_sizes v (block_number bytes) (inode_number bytes) && (length bytes == BLOCK * block_number bytes)
 
--- the numbers of the inodes
 abbrev pub inode_numbers : Bytes → List ℕ
 inode_numbers bytes = range_with_len 1 (inode_number bytes)
 
@@ -70,7 +68,7 @@ module _ (v : Version) (bytes : Bytes) where
   abbrev pub is_free : ℕ → Bool
   is_free n = kind n == 0
 
-  -- whether the inode's sort is none, or its size is none that the sort may have
+  -- whether the kind is invalid, or the size is one that the kind cannot have
   unfoldable pub has_bad_inode : ℕ → Bool
   has_bad_inode n =
       not (is_free n)
@@ -79,7 +77,7 @@ module _ (v : Version) (bytes : Bytes) where
       || ((kind n == 1) && not (size v bytes n % entry_length v == 0))
       || ((kind n == 4) && not (nat_le 1 (size v bytes n) && nat_le (size v bytes n) LINK_TEXT)))
 
-  -- ---- the blocks that it uses
+  -- ---- its blocks
 
   abbrev pub is_data_block : ℕ → Bool
   is_data_block k = nat_lt (inode_blocks v (inode_number bytes)) k && nat_lt k (block_number bytes)
@@ -87,15 +85,15 @@ module _ (v : Version) (bytes : Bytes) where
   abbrev pub used_by : ℕ → List ℕ
   used_by n = if is_free n then [] else used_content v bytes n ++ used_index v bytes n
 
-  -- those that inodes of lesser numbers use
+  -- the blocks that inodes with lesser numbers use
   abbrev pub used_before : ℕ → List ℕ
   used_before n = flat_map used_by (range_with_len 1 (n - 1))
 
-  -- whether a block that it uses is no data block, or is used already, by a lesser inode or by itself
+  -- whether the inode uses a block that is not a data block, or that a lesser inode or the inode itself already uses
   unfoldable pub has_bad_block : ℕ → Bool
   has_bad_block n =
       list_any (λ k. not (is_data_block k)) (used_by n)
-      || stands_twice ◌==◌ (used_by n)
+      || appears_twice ◌==◌ (used_by n)
       || list_any (λ k. list_any (λ other. other == k) (used_before n)) (used_by n)
 
   -- ---- its content
@@ -103,11 +101,10 @@ module _ (v : Version) (bytes : Bytes) where
   abbrev pub is_directory_inode : ℕ → Bool
   is_directory_inode n = kind n == 1
 
-  -- the slots of a directory
   abbrev pub slots_at : ℕ → List Bytes
   slots_at n = if is_directory_inode n then slots_of v (size v bytes n / entry_length v) (content v bytes n) else []
 
-  -- whether a slot's number is that of no inode in use, or its name is none
+  -- whether a slot's number is not that of an inode in use, or its name is invalid
   abbrev pub is_bad_slot : Bytes → Bool
   is_bad_slot slot =
       not (nat_le 1 (slot_number slot) && nat_le (slot_number slot) (inode_number bytes))
@@ -115,11 +112,11 @@ module _ (v : Version) (bytes : Bytes) where
       || nat_lt (greatest_name v) (slot_length slot)
       || not (is_name v (slot_name slot))
 
-  -- whether a directory has a slot that none has, or a name twice; or a link's text a byte 0
+  -- whether a directory has an invalid slot or a duplicate name, or a link's text contains a zero byte
   unfoldable pub has_bad_content : ℕ → Bool
   has_bad_content n =
       list_any is_bad_slot (slots_at n)
-      || stands_twice bytes_eq (map slot_name (slots_at n))
+      || appears_twice bytes_eq (map slot_name (slots_at n))
       || ((kind n == 4) && list_any (λ b. b == 0) (content v bytes n))
 
   -- ---- its place in the tree
@@ -128,23 +125,24 @@ module _ (v : Version) (bytes : Bytes) where
   abbrev pub has_slot_for : ℕ → ℕ → Bool
   has_slot_for n d = list_any (λ slot. slot_number slot == n) (slots_at d)
 
-  -- the slots that are for an inode
+  -- the number of slots for an inode
   abbrev pub name_count : ℕ → ℕ
   name_count n = length (filter (λ slot. slot_number slot == n) (flat_map slots_at (inode_numbers bytes)))
 
-  -- whether slots lead to it from the root, in so many steps
+  -- whether slots lead from the root to an inode in at most `steps` steps
   abbrev pub is_reached_within : ℕ → ℕ → Bool
   is_reached_within zero n = n == root
   is_reached_within (suc steps) n = (n == root) || list_any (is_reached_within steps) (filter (has_slot_for n) (inode_numbers bytes))
 
-  -- whether it has as many names as its sort may have
+  -- whether an inode of its kind may have this number of names
   abbrev pub may_be_named : ℕ → ℕ → Bool
   may_be_named n count =
       if n == root then is_directory_inode n && (count == 0)
       else if is_directory_inode n then count == 1
       else nat_le 1 count
 
-  -- whether its names are none that it may have, or not so many as it says, or it is not reached from the root
+  -- whether an inode has a number of names that is not allowed or differs from the stored count, or is not reached from
+  -- the root
   unfoldable pub has_bad_place : ℕ → Bool
   has_bad_place n =
       ((n == root) || not (is_free n))
@@ -152,9 +150,9 @@ module _ (v : Version) (bytes : Bytes) where
       || not (stored_count v (inode v bytes n) == name_count n)
       || not (is_reached_within (inode_number bytes) n))
 
-  -- ---- the first fault, and the tree
+  -- ---- the first error, and the tree
 
-  -- the least inode that has a fault
+  -- the least inode for which a test succeeds
   abbrev pub least_with : (ℕ → Bool) → Option ℕ
   least_with test = find test (inode_numbers bytes)
 
@@ -162,7 +160,7 @@ module _ (v : Version) (bytes : Bytes) where
   or_fault fault (Some n) others = Some (fault n)
   or_fault fault None others = others
 
-  -- the first fault of the inodes
+  -- the first error of the inodes
   unfoldable pub inode_fault : Option ImageFault
   inode_fault =
       or_fault Inode (least_with has_bad_inode)
@@ -170,7 +168,7 @@ module _ (v : Version) (bytes : Bytes) where
       (or_fault Dir (least_with has_bad_content)
       (or_fault NoTree (least_with has_bad_place) None)))
 
-  -- the entries of slots, put one by one into the order of their names
+  -- the entries in slots, sorted by name
   abbrev pub entries_in : List Bytes → Entries
   entries_in [] = []
   entries_in (slot ∷ slots) = put (slice_cmp nat_cmp) (slot_name slot) (slot_number slot) (entries_in slots)
@@ -184,7 +182,6 @@ module _ (v : Version) (bytes : Bytes) where
       else if kind n == 4 then Some (link_node (content v bytes n))
       else None
 
-  -- the tree that the inodes hold
   abbrev pub tree_in : Tree
   tree_in = record {
     nodes = None ∷ map node_in (inode_numbers bytes);
@@ -201,30 +198,30 @@ abbrev pub mounted_as : Option Version → Bytes → Result Tree ImageFault
 mounted_as None bytes = Err Magic
 mounted_as (Some v) bytes = if has_sizes v bytes then or_tree v bytes (inode_fault v bytes) else Err Size
 
--- the tree that the bytes of an image hold, or the first fault
+-- the tree that the bytes of an image hold, or the first error
 unfoldable pub mounted : Bytes → Result Tree ImageFault
 mounted bytes = if nat_lt (length bytes) BLOCK then Err Short else mounted_as (version_of bytes) bytes
 
 -- ---- the same as a relation
 
--- a test passes of no inode
+-- a test fails for every inode
 abbrev pub PassesNone : Bytes → (ℕ → Bool) → Type 0
 PassesNone bytes test = (n : ℕ) → 1 ≤ n → n ≤ inode_number bytes → IsFalse (test n)
 
--- a test passes of this inode, and of no lesser one
+-- a test succeeds for this inode and for no lesser one
 pub record PassesLeast (bytes : Bytes) (test : ℕ → Bool) (n : ℕ) : Type 0 where
   pub from_one : 1 ≤ n
   pub in_table : n ≤ inode_number bytes
   pub passes : IsTrue (test n)
   pub least : (m : ℕ) → 1 ≤ m → m < n → IsFalse (test m)
 
--- the bytes begin as an image of this version does, and have the sizes that they tell
+-- the bytes start with the magic of this version and have the sizes that they state
 pub record HasSizes (bytes : Bytes) (v : Version) : Type 0 where
   pub long_enough : BLOCK ≤ length bytes
   pub has_magic : take 8 bytes ≡ magic v
   pub sizes : IsTrue (has_sizes v bytes)
 
--- the first fault of the bytes
+-- the first error of the bytes
 pub data IsFaultOf (bytes : Bytes) : ImageFault → Type 0 where
   short : length bytes < BLOCK → IsFaultOf bytes Short
   other_magic : BLOCK ≤ length bytes → ((v : Version) → take 8 bytes ≢ magic v) → IsFaultOf bytes Magic

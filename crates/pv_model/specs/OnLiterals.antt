@@ -1,9 +1,9 @@
--- What a proof by computing on literals unfolds.
+-- The definitions to unfold in a proof by computation on literals.
 use Rattle.std.specs.Prelude.{⊤}
 use Rattle.std.specs.Fmt.{digits}
 use Rattle.pv_model.specs.Answer.{effect, answer}
 use Rattle.pv_model.specs.Calls.Processes.{end_process}
-use Rattle.pv_model.specs.Held.{trim}
+use Rattle.pv_model.specs.Held.{collect}
 use Rattle.pv_model.specs.Needs.{needs}
 use Rattle.pv_model.specs.Program.{perform}
 use Rattle.pv_model.specs.Promises.{read_promises}
@@ -15,7 +15,7 @@ use Rattle.pv_model.specs.Tree.{parent, ancestors}
 use Rattle.pv_model.specs.Unveil.{directory_rights, governing_entry, judgement}
 use Rattle.pv_model.specs.Walk.{resolve}
 
--- the definitions of the machine that are folded
+-- all definitions of the machine that are folded
 unfoldable pub machine_on_literals : ⊤
-unfolding parent ancestors need is_too_long fits resolve read_promises directory_rights governing_entry judgement trim end_process needs effect answer perform text_line call_text walked_paths asked_permissions call_lines step digits leaks is_frozen_to verdict verdict_text
+unfolding parent ancestors need is_too_long fits resolve read_promises directory_rights governing_entry judgement collect end_process needs effect answer perform text_line call_text walked_paths asked_permissions call_lines step digits leaks is_frozen_to verdict verdict_text
 machine_on_literals = tt

@@ -1,4 +1,5 @@
--- What a fault becomes in a call that stands on the one that answered it: want of memory stays want of memory.
+-- Conversions between errors: an error becomes the corresponding error of the caller, and out of memory stays out of
+-- memory.
 use Rattle.pv_model.specs.declared.fault.ImageFault.{ImageFault}
 use Rattle.pv_model.specs.declared.fault.ImageFault.TheVariants.{Memory as ImageMemory}
 use Rattle.pv_model.specs.declared.fault.ManifestFault.{ManifestFault}
@@ -16,7 +17,7 @@ use Rattle.pv_model.specs.declared.store_fault.ListFault.TheVariants.{Image as L
 use Rattle.pv_model.specs.declared.store_fault.MigrateFault.{MigrateFault}
 use Rattle.pv_model.specs.declared.store_fault.MigrateFault.TheVariants.{Image as MigratedImage, Memory as MigrateMemory}
 
--- in a run
+-- errors of a run
 
 abbrev pub of_image : ImageFault → RunFault
 of_image ImageMemory = Memory
@@ -38,7 +39,7 @@ abbrev pub of_boot : BootFault → RunFault
 of_boot (BootInit n) = Init n
 of_boot BootMemory = Memory
 
--- in a listing, and in a migration
+-- errors of a listing and of a migration
 
 abbrev pub of_image_listed : ImageFault → ListFault
 of_image_listed ImageMemory = ListMemory
@@ -48,7 +49,7 @@ abbrev pub of_image_migrated : ImageFault → MigrateFault
 of_image_migrated ImageMemory = MigrateMemory
 of_image_migrated fault = MigratedImage fault
 
--- in a kernel that starts: the least line of `init` that is no instruction
+-- errors of starting a kernel: the first line of `init` that is not a valid instruction
 
 abbrev pub of_init : ParseFault → BootFault
 of_init (Line n what) = BootInit n

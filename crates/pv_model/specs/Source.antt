@@ -1,4 +1,4 @@
--- Sources: texts with comments, blanks and labels, and the manifests and bundles that they stand for.
+-- Sources: texts with comments, blanks and labels, and the manifests and bundles that they denote.
 pub mod Blocks
 pub mod Judged
 pub mod OnLiterals

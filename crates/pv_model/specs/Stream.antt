@@ -1,47 +1,47 @@
--- What reads and writes promise.
+-- The contracts of reads and writes.
 use Rattle.std.specs.Prelude.{⊤, ◌+◌, min, ◌++◌, take, option_map, ◌≡◌, ℕ, zero, suc, ◌<◌, ◌≤◌, [], length, Option, IfSome, Result, Ok, Err}
 use Rattle.pv_model.specs.declared.stream.Failed.{Failed}
 use Rattle.pv_model.specs.Bytes.{Bytes}
 
--- a count of failures rose; it stops at 2^64 - 1
+-- a count of failures increased; it saturates at 2^64 - 1
 abbrev pub Rose : ℕ → ℕ → Type 0
 Rose before after = before < 18446744073709551615 → before < after
 
--- a read gives at most as many bytes as the buffer has room for
+-- a read returns at most as many bytes as the buffer has room for
 abbrev pub ReadsAtMost : Result ℕ Failed → Bytes → Type 0
 ReadsAtMost (Ok n) buffer = n ≤ length buffer
 ReadsAtMost (Err e) buffer = ⊤
 
--- a count rose by so many; it stops at 2^64 - 1
+-- a count increased by n; it saturates at 2^64 - 1
 abbrev pub RoseBy : ℕ → ℕ → ℕ → Type 0
 RoseBy n before after = after ≡ min (before + n) 18446744073709551615
 
--- a source counts the bytes that a read gave
+-- a source counts the bytes that a read returned
 abbrev pub CountsBytes : ℕ → ℕ → Result ℕ Failed → Type 0
 CountsBytes before after (Ok n) = RoseBy n before after
 CountsBytes before after (Err e) = after ≡ before
 
--- a read of nothing into a buffer with room comes only at the end
+-- a read returns 0 bytes into a nonempty buffer only at the end
 abbrev pub EndsWhereEmpty : Option Bytes → Result ℕ Failed → Bytes → Type 0
 EndsWhereEmpty remaining (Ok zero) buffer = 0 < length buffer → IfSome remaining (λ rest. rest ≡ [])
 EndsWhereEmpty remaining (Ok (suc n)) buffer = ⊤
 EndsWhereEmpty remaining (Err e) buffer = ⊤
 
--- a write takes at most what it is given
+-- a write takes at most the bytes that it is given
 abbrev pub WritesAtMost : Result ℕ Failed → Bytes → Type 0
 WritesAtMost (Ok n) buffer = n ≤ length buffer
 WritesAtMost (Err e) buffer = ⊤
 
--- a write that takes nothing where there is something counts as failed, and so does an error; no other does
+-- exactly errors, and writes of zero bytes from a nonempty buffer, count as failures
 abbrev pub CountsNothingTaken : ℕ → ℕ → Result ℕ Failed → Bytes → Type 0
 CountsNothingTaken before after (Ok zero) buffer = 0 < length buffer → Rose before after
 CountsNothingTaken before after (Ok (suc n)) buffer = after ≡ before
 CountsNothingTaken before after (Err e) buffer = Rose before after
 
--- what was written before, and then the front of a buffer
+-- the bytes written before, followed by the first n bytes of a buffer
 abbrev pub and_front : Option Bytes → ℕ → Bytes → Option Bytes
 and_front written n buffer = option_map (λ had. had ++ take n buffer) written
 
--- the front of a buffer, and then what remains
+-- the first n bytes of a buffer, followed by the bytes that remain
 abbrev pub front_and : ℕ → Bytes → Option Bytes → Option Bytes
 front_and n buffer remaining = option_map (λ rest. take n buffer ++ rest) remaining

@@ -1,4 +1,5 @@
--- What each call walks to, and what it asks there: said once. The calls, the lines of a trace and the touches are read from it.
+-- The walks of each call, and the permissions that it needs at their ends. Calls, trace lines and touches all use this
+-- table.
 use Rattle.std.specs.Prelude.{ℕ, zero, suc, ◌&&◌, ◌||◌, if◌then◌else◌, List, [], ◌∷◌, slice_get, Option, None, Some}
 use Rattle.pv_model.specs.declared.call.Call.{Call}
 use Rattle.pv_model.specs.declared.call.Call.TheVariants.{Unveil, Execve, Open, OpenAt, Chdir, Stat, Lstat, Readlink, Mkdir, Symlink, Link, Unlink, Rmdir, Rename}
@@ -12,18 +13,18 @@ use Rattle.pv_model.specs.Bytes.{Bytes}
 use Rattle.pv_model.specs.Needs.{permissions_of_open}
 use Rattle.pv_model.specs.Perms.{no_permissions, permission_r, permission_x, permission_c, read_permissions}
 
--- a walk of a call: from where a relative path starts, what is done with a final link, the path, and the permissions that are asked of the place at its end
+-- a walk of a call: the starting directory, the treatment of a final link, the path, and the permissions needed at the
+-- end
 pub record Walk : Type 0 where
   pub start : Start
   pub follow : Follow
   pub path : Bytes
   pub needed : Perms
 
--- a walk from the working directory
 abbrev pub from_here : Follow → Bytes → Perms → Walk
 from_here follow path needed = record { start = WorkingDirectory; follow = follow; path = path; needed = needed }
 
--- what an open does with a final link
+-- how an open treats a final link
 abbrev pub follow_of : OpenFlags → Follow
 follow_of f = if f.no_follow || (f.create && f.exclusive) then Keep else Last
 
@@ -51,7 +52,7 @@ mkdir_walk path = from_here KeepTrimmed path permission_c
 abbrev pub symlink_walk : Bytes → Walk
 symlink_walk path = from_here Keep path permission_c
 
--- link walks to what there is, and then to its new name
+-- link first walks to the existing file, and then to the new name
 abbrev pub linked_walk : Bytes → Walk
 linked_walk path = from_here Last path permission_r
 
@@ -64,11 +65,11 @@ unlink_walk path = from_here Keep path permission_c
 abbrev pub rmdir_walk : Bytes → Walk
 rmdir_walk path = from_here Keep path permission_c
 
--- both walks of rename
+-- the same walk for both paths of rename
 abbrev pub rename_walk : Bytes → Walk
 rename_walk path = from_here Keep path permission_c
 
--- unveil asks for the permissions of its text, and its place is not judged by them: they are what its entry is to have
+-- unveil walks with the permissions of the new entry; its place is not checked against them
 abbrev pub unveil_walk : Bytes → Perms → Walk
 unveil_walk path permissions = from_here Last path permissions
 
@@ -76,7 +77,6 @@ abbrev pub permissions_or_none : Option Perms → Perms
 permissions_or_none None = no_permissions
 permissions_or_none (Some permissions) = permissions
 
--- the walks of a call, in order
 abbrev pub walks_of : Call → List Walk
 walks_of (Unveil (Some path) (Some text)) = unveil_walk path (permissions_or_none (read_permissions text)) ∷ []
 walks_of (Execve path) = execve_walk path ∷ []
@@ -94,7 +94,7 @@ walks_of (Rmdir path) = rmdir_walk path ∷ []
 walks_of (Rename path new) = rename_walk path ∷ rename_walk new ∷ []
 walks_of _ = []
 
--- the walk of a number: they count from 1
+-- the walk with a number; walks are numbered from 1
 abbrev pub walk_number : List Walk → ℕ → Option Walk
 walk_number walks zero = None
 walk_number walks (suc k) = slice_get walks k

@@ -1,14 +1,15 @@
-//! System calls whose texts stand elsewhere.
+//! System calls that borrow their texts.
 ghost use Rattle.std.specs.Prelude.{◌≡◌};
 ghost use Rattle.pv_model.specs.CallRef.{call_of};
 
 use crate::{Call, OpenFlags, Start, Text, Whence};
 
-/// A system call whose texts stand elsewhere, as in the program that makes it: a few words to copy, where a `Call` has
-/// room for two texts. `call_of` is the call.
+/// A system call that borrows its texts, for example from the program that makes it.
+///
+/// Copying one moves a few words, whereas a `Call` has room for two texts. `call_of` gives the `Call`.
 #[derive(Clone, Copy)]
 pub enum CallRef<'a> {
-    /// exit(3) with a code, of which the low byte counts.
+    /// exit(3) with an exit code. Only its low byte is used.
     Exit(i32),
     /// getpid(2).
     GetPid,
@@ -18,15 +19,15 @@ pub enum CallRef<'a> {
     Fork,
     /// wait(2).
     Wait,
-    /// pledge(2) with promises and execpromises; None leaves a value as it is.
+    /// pledge(2) with promises and execpromises. None leaves that value unchanged.
     Pledge(Option<&'a Text>, Option<&'a Text>),
-    /// unveil(2) with a path and permissions; two Nones lock.
+    /// unveil(2) with a path and permissions. Two Nones lock the table.
     Unveil(Option<&'a Text>, Option<&'a Text>),
     /// execve(2) of a path.
     Execve(&'a Text),
     /// open(2) of a path with flags.
     Open(&'a Text, OpenFlags),
-    /// openat(2): where a relative path starts, the path, and flags.
+    /// openat(2) with the starting directory, a path and flags.
     OpenAt(Start, &'a Text, OpenFlags),
     /// close(2) of a descriptor.
     Close(i32),
@@ -34,19 +35,19 @@ pub enum CallRef<'a> {
     Dup(i32),
     /// dup2(2) of a descriptor onto another.
     Dup2(i32, i32),
-    /// read(2) from a descriptor of so many bytes to the front of the buffer.
+    /// read(2) from a descriptor: at most this many bytes, stored at the start of the buffer.
     Read(i32, i32),
-    /// write(2) to a descriptor of so many bytes from the front of the buffer.
+    /// write(2) to a descriptor: this many bytes from the start of the buffer.
     Write(i32, i32),
-    /// lseek(2) of a descriptor by an offset.
+    /// lseek(2) of a descriptor by an offset, relative to a position.
     Lseek(i32, i32, Whence),
     /// fstat(2) of a descriptor.
     Fstat(i32),
     /// ftruncate(2) of a descriptor to a length.
     Ftruncate(i32, i32),
-    /// getdents(2) of a descriptor: one name a call.
+    /// getdents(2) of a descriptor. Each call returns one name.
     Getdents(i32),
-    /// fchdir(2) to a descriptor.
+    /// fchdir(2) to the directory of a descriptor.
     Fchdir(i32),
     /// chdir(2) to a path.
     Chdir(&'a Text),
@@ -58,20 +59,20 @@ pub enum CallRef<'a> {
     Readlink(&'a Text),
     /// mkdir(2) of a path.
     Mkdir(&'a Text),
-    /// symlink(2): the link's text, and its path.
+    /// symlink(2): the link's text, and the link's path.
     Symlink(&'a Text, &'a Text),
-    /// link(2): an existing path, and the new one.
+    /// link(2): an existing path, and the new path.
     Link(&'a Text, &'a Text),
     /// unlink(2) of a path.
     Unlink(&'a Text),
     /// rmdir(2) of a path.
     Rmdir(&'a Text),
-    /// rename(2): from a path to another.
+    /// rename(2): the old path, and the new path.
     Rename(&'a Text, &'a Text),
 }
 
 impl Call {
-    /// The same call, its texts where they stand.
+    /// Returns the same call with borrowed texts.
     pub fn as_ref(&self) -> CallRef<'_>
         ensures { call_of result ≡ self.now }
     {

@@ -1,4 +1,4 @@
-//! Why programs, schedules, manifests, images and runs are refused.
+//! Errors in programs, schedules, manifests and images.
 ghost use Rattle.std.specs.Prelude.{◌≡◌};
 ghost use Rattle.pv_model.specs.declared.fault.ParseFault.TheVariants.{Memory as ParseMemory};
 ghost use Rattle.pv_model.specs.declared.fault.ScheduleFault.TheVariants.{Memory as ScheduleMemory};
@@ -8,25 +8,25 @@ ghost use Rattle.pv_model.specs.declared.fault.ImageFault.TheVariants.{Memory as
 use std::alloc::{AllocError, AllocFailed};
 use std::fmt;
 
-/// What is wrong with a line of a program.
+/// The kind of error in a line of a program.
 #[derive(Clone, Copy, Debug, PartialEq, Eq)]
 pub enum What {
-    /// Its first word names no instruction.
+    /// The first word is not an instruction.
     Word,
-    /// The rest has not the form that the instruction wants.
+    /// The arguments do not have the form that the instruction requires.
     Argument,
-    /// It jumps to a line that the program has not.
+    /// The instruction jumps to a line that the program does not have.
     Target,
-    /// It is the 257th line.
+    /// The line is the 257th.
     TooMany,
 }
 
-/// Why bytes are no program.
+/// The reason why bytes do not parse as a program.
 #[derive(Clone, Copy, Debug, PartialEq, Eq)]
 pub enum ParseFault {
-    /// The least line, counted from 1, that is no instruction.
+    /// The first line, counted from 1, that is not a valid instruction.
     Line(u16, What),
-    /// Memory was refused.
+    /// Out of memory.
     Memory,
 }
 
@@ -46,7 +46,7 @@ impl<T: Drop> From<AllocFailed<T>> for ParseFault {
     }
 }
 
-/// The text for a person, without an LF: the line, or `memory`.
+/// Writes the message for the user, without a final newline: the line, or `memory`.
 impl fmt::Display for ParseFault {
     fn fmt<W: fmt::Write>(&self, f: &mut fmt::Formatter<W>) -> fmt::Result {
         match self {
@@ -56,12 +56,12 @@ impl fmt::Display for ParseFault {
     }
 }
 
-/// Why bytes are no schedule.
+/// The reason why bytes do not parse as a schedule.
 #[derive(Clone, Copy, Debug, PartialEq, Eq)]
 pub enum ScheduleFault {
-    /// The least line, counted from 1, that is no line of a schedule, or that is one too many.
+    /// The first line, counted from 1, that is not a line of a schedule or exceeds the maximum number of lines.
     Line(u32),
-    /// Memory was refused.
+    /// Out of memory.
     Memory,
 }
 
@@ -81,7 +81,7 @@ impl<T: Drop> From<AllocFailed<T>> for ScheduleFault {
     }
 }
 
-/// The text for a person, without an LF: the line, or `memory`.
+/// Writes the message for the user, without a final newline: the line, or `memory`.
 impl fmt::Display for ScheduleFault {
     fn fmt<W: fmt::Write>(&self, f: &mut fmt::Formatter<W>) -> fmt::Result {
         match self {
@@ -91,22 +91,22 @@ impl fmt::Display for ScheduleFault {
     }
 }
 
-/// Why a manifest is refused. Lines are counted from 1.
+/// The reason why a manifest is rejected. Lines are counted from 1.
 #[derive(Clone, Copy, Debug, PartialEq, Eq)]
 pub enum ManifestFault {
-    /// The line has not the form of a manifest's line.
+    /// The line does not have the form of a manifest line.
     Form(u32),
-    /// The image's sizes are out of range.
+    /// The sizes of the image are out of range.
     Size,
-    /// The directory that is to contain the entry of this line is not there, or is no directory.
+    /// The parent of this line's entry does not exist or is not a directory.
     Parent(u32),
-    /// The name of this line's entry is there already.
+    /// The name of this line's entry already exists.
     Exists(u32),
-    /// What this line's entry is a further name of is not there, or is a directory.
+    /// The existing path that this line links to does not exist or is a directory.
     Source(u32),
     /// The image has no room for this line's entry.
     Room(u32),
-    /// Memory was refused.
+    /// Out of memory.
     Memory,
 }
 
@@ -126,7 +126,7 @@ impl<T: Drop> From<AllocFailed<T>> for ManifestFault {
     }
 }
 
-/// The text for a person, without an LF: the line and what is wrong with it, or `memory`.
+/// Writes the message for the user, without a final newline: the line and the error, or `memory`.
 impl fmt::Display for ManifestFault {
     fn fmt<W: fmt::Write>(&self, f: &mut fmt::Formatter<W>) -> fmt::Result {
         match self {
@@ -141,24 +141,24 @@ impl fmt::Display for ManifestFault {
     }
 }
 
-/// Why bytes are no image. Numbers are those of inodes.
+/// The reason why bytes are not an image. A number is that of the first inode with the error.
 #[derive(Clone, Copy, Debug, PartialEq, Eq)]
 pub enum ImageFault {
-    /// There are fewer bytes than a block has.
+    /// The bytes are shorter than one block.
     Short,
-    /// They do not begin as an image does.
+    /// The bytes do not begin with the magic of an image.
     Magic,
-    /// The sizes are out of range, or not those of the bytes.
+    /// The sizes are out of range, or do not agree with the number of bytes.
     Size,
-    /// The inode has a sort or a size that none has.
+    /// The inode has an invalid kind, or a size that its kind cannot have.
     Inode(u16),
-    /// The inode points to a block that is no data block, or that is used already.
+    /// The inode points to a block that is not a data block or that is already in use.
     Block(u16),
-    /// The directory or link has a content that none has.
+    /// The directory has an invalid slot or a duplicate name, or the link's text contains a zero byte.
     Dir(u16),
-    /// The inode has no place in the tree, or a count of names that is not its own.
+    /// The inode is not reached from the root, or its number of names is wrong.
     Tree(u16),
-    /// Memory was refused.
+    /// Out of memory.
     Memory,
 }
 
@@ -170,7 +170,7 @@ impl From<AllocError> for ImageFault {
     }
 }
 
-/// The text for a person, without an LF: what is wrong, with the number of the inode, or `memory`.
+/// Writes the message for the user, without a final newline: the error with the number of the inode, or `memory`.
 impl fmt::Display for ImageFault {
     fn fmt<W: fmt::Write>(&self, f: &mut fmt::Formatter<W>) -> fmt::Result {
         match self {

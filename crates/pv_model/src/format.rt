@@ -1,21 +1,22 @@
-//! The format of an image: where its bytes have what, in both versions.
+//! The format of an image, in both versions.
 //!
-//! An image is blocks of 512 bytes, counted from 0. Each number in it is unsigned, with its lowest byte first. What is not
-//! read is written as zeros.
+//! An image consists of blocks of 512 bytes, numbered from 0. Each number in it is unsigned and little-endian. Bytes
+//! that are not read are written as zeros.
 //!
 //! ```text
 //! | block 0 | blocks of inodes | data blocks |
 //! ```
 //!
-//! Block 0 tells the version, by its magic, and the sizes.
+//! Block 0 contains the magic, which determines the version, and the sizes.
 //!
 //! ```text
 //! byte  0       8        10       12         512
 //!       | magic | blocks | inodes | not read |
 //! ```
 //!
-//! Inodes are counted from 1, which is the root. One of version 1 has 32 bytes, so that a block has 16 of them; one of
-//! version 2 has 64 bytes, so that a block has 8. A free inode has kind 0, and nothing more of it is read.
+//! Inodes are numbered from 1, and inode 1 is the root. An inode of version 1 has 32 bytes, so a block contains 16 of
+//! them. An inode of version 2 has 64 bytes, so a block contains 8. A free inode has kind 0, and the rest of it is not
+//! read.
 //!
 //! ```text
 //! byte  0      1          2       4      8             28              30         32
@@ -25,13 +26,13 @@
 //! V2    | kind | not read | size | 10 pointers | 5 index pointers | names | not read |
 //! ```
 //!
-//! `names` is the number of entries that name the inode, and `size` the length of its content in bytes. A pointer is the
-//! number of a data block, in 2 bytes. The first ten lead to the first blocks of the content, and each index pointer to an
-//! index block, whose 256 pointers lead to those that follow. A content uses just the pointers that its blocks need; the
-//! others are not read.
+//! `names` is the number of entries that name the inode, and `size` is the length of its content in bytes. A pointer is
+//! the number of a data block, in 2 bytes. The first ten point to the first blocks of the content. Each index pointer
+//! points to an index block, and the 256 pointers in that block point to the blocks that follow. Only the pointers that
+//! the content needs are used; the others are not read.
 //!
-//! The content of a directory is slots, one for each entry, with no gap: of 64 bytes in version 1, and of 260 in version 2,
-//! where a slot may stand across two blocks.
+//! The content of a directory is a sequence of slots without gaps, one for each entry. A slot has 64 bytes in version 1
+//! and 260 in version 2, where it may cross a block boundary.
 //!
 //! ```text
 //! byte  0       2                3          4      4 + length 64
@@ -41,7 +42,7 @@
 //! V2    | inode | length of name | not read | name | not read |
 //! ```
 //!
-//! The content of a file is its bytes, and that of a link its text.
+//! The content of a file is its bytes, and the content of a link is its text.
 ghost use Rattle.std.specs.Prelude.{◌≡◌, length};
 ghost use Rattle.pv_model.specs.Image.{magic};
 
@@ -50,16 +51,16 @@ use crate::{Kind, Version};
 
 // ---- block 0
 
-/// Bytes of the magic, with which an image begins.
+/// Bytes of the magic at the start of an image.
 pub const MAGIC: usize = 8;
 
-/// Where block 0 has the number of blocks, in 2 bytes.
+/// The offset in block 0 of the number of blocks, in 2 bytes.
 pub const BLOCKS_AT: usize = 8;
 
-/// Where block 0 has the number of inodes, in 2 bytes.
+/// The offset in block 0 of the number of inodes, in 2 bytes.
 pub const INODES_AT: usize = 10;
 
-/// Bytes of block 0 that are read.
+/// The number of bytes of block 0 that are read.
 pub const HEADER: usize = 12;
 
 // ---- inodes
@@ -70,40 +71,41 @@ pub const INODE_V1: usize = 32;
 /// Bytes of an inode of version 2.
 pub const INODE_V2: usize = 64;
 
-/// Inodes of a block in version 1.
+/// Inodes per block in version 1.
 pub const BLOCK_INODES_V1: u16 = (BLOCK / INODE_V1) as u16;
 
-/// Inodes of a block in version 2.
+/// Inodes per block in version 2.
 pub const BLOCK_INODES_V2: u16 = (BLOCK / INODE_V2) as u16;
 
-/// Where an inode has its kind, in 1 byte.
+/// The offset in an inode of its kind, in 1 byte.
 pub const KIND_AT: usize = 0;
 
-/// Where an inode of version 1 has the number of entries that name it, in 2 bytes.
+/// The offset in an inode of version 1 of the number of entries that name it, in 2 bytes.
 pub const NAMES_AT_V1: usize = 2;
 
-/// Where an inode of version 2 has that number, in 4 bytes.
+/// The offset in an inode of version 2 of the number of entries that name it, in 4 bytes.
 pub const NAMES_AT_V2: usize = 38;
 
-/// Where an inode has the length of its content, in 4 bytes.
+/// The offset in an inode of the length of its content, in 4 bytes.
 pub const SIZE_AT: usize = 4;
 
-/// Where an inode has its pointers, of 2 bytes each: those to blocks of content, then those to index blocks.
+/// The offset in an inode of its pointers, of 2 bytes each: first those to blocks of content, then those to index
+/// blocks.
 pub const POINTERS_AT: usize = 8;
 
-/// Where an inode has its pointers to index blocks.
+/// The offset in an inode of its pointers to index blocks.
 pub const INDEX_POINTERS_AT: usize = POINTERS_AT + 2 * DIRECT as usize;
 
-/// Blocks of content to which an inode points itself.
+/// The number of pointers to blocks of content in an inode.
 pub const DIRECT: u16 = 10;
 
-/// Blocks of content to which an index block points.
+/// The number of pointers to blocks of content in an index block.
 pub const POINTED: u16 = (BLOCK / 2) as u16;
 
-/// Pointers of an inode of version 1 to index blocks.
+/// The number of pointers to index blocks in an inode of version 1.
 pub const INDEX_POINTERS_V1: u16 = 1;
 
-/// Pointers of an inode of version 2 to index blocks.
+/// The number of pointers to index blocks in an inode of version 2.
 pub const INDEX_POINTERS_V2: u16 = 5;
 
 // ---- kinds
@@ -120,7 +122,7 @@ pub const FILE: u8 = Kind::File as u8;
 /// The kind of an executable file.
 pub const EXECUTABLE: u8 = Kind::Executable as u8;
 
-/// The kind of a symbolic link, the last kind.
+/// The kind of a symbolic link, which is the greatest kind.
 pub const LINK: u8 = Kind::Symlink as u8;
 
 // ---- slots
@@ -131,17 +133,17 @@ pub const SLOT_V1: usize = 64;
 /// Bytes of a slot of version 2.
 pub const SLOT_V2: usize = 260;
 
-/// Where a slot has the number of an inode, in 2 bytes.
+/// The offset in a slot of the inode's number, in 2 bytes.
 pub const NUMBER_AT: usize = 0;
 
-/// Where a slot has the length of its name, in 1 byte; the byte past it is not read.
+/// The offset in a slot of the length of its name, in 1 byte. The next byte is not read.
 pub const NAME_LENGTH_AT: usize = 2;
 
-/// Where a slot has its name.
+/// The offset in a slot of its name.
 pub const NAME_AT: usize = 4;
 
 impl Version {
-    /// The bytes with which an image of this version begins.
+    /// Returns the magic of an image of this version.
     pub fn magic(self) -> &'static [u8]
         ensures value { result.now ≡ magic self }
         ensures length { length result.now ≡ MAGIC }

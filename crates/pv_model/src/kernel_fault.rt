@@ -1,4 +1,4 @@
-//! Why a kernel does not start, or makes no step.
+//! Errors at the start of a kernel and of its steps.
 ghost use Rattle.std.specs.Prelude.{◌≡◌};
 ghost use Rattle.pv_model.specs.declared.kernel_fault.BootFault.TheVariants.{Memory};
 ghost use Rattle.pv_model.specs.declared.kernel_fault.StepFault.TheVariants.{NoMemory};
@@ -6,12 +6,13 @@ ghost use Rattle.pv_model.specs.declared.kernel_fault.StepFault.TheVariants.{NoM
 use std::alloc::{AllocError, AllocFailed};
 use std::fmt;
 
-/// Why a kernel does not start on a tree.
+/// The reason why a kernel does not start on a tree.
 #[derive(Clone, Copy, Debug, PartialEq, Eq)]
 pub enum BootFault {
-    /// This line of the program in `init` is no instruction; 0 where `init` is no executable file.
+    /// The first line of the program in `init` that is not a valid instruction, or 0 if `init` is not an executable
+    /// file.
     Init(u16),
-    /// Memory was refused.
+    /// Out of memory.
     Memory,
 }
 
@@ -31,7 +32,7 @@ impl<T: Drop> From<AllocFailed<T>> for BootFault {
     }
 }
 
-/// The text for a person, without an LF: the line of `init`, or `memory`.
+/// Writes the message for the user, without a final newline: the line of `init`, or `memory`.
 impl fmt::Display for BootFault {
     fn fmt<W: fmt::Write>(&self, f: &mut fmt::Formatter<W>) -> fmt::Result {
         match self {
@@ -41,10 +42,10 @@ impl fmt::Display for BootFault {
     }
 }
 
-/// Why a step was not made: the simulator's fault, and no error of the process.
+/// The reason why the simulator did not make a step. It is not an error of the simulated process.
 #[derive(Clone, Copy, Debug, PartialEq, Eq)]
 pub enum StepFault {
-    /// Memory was refused, and nothing has changed.
+    /// Out of memory. The state is unchanged.
     NoMemory,
 }
 
@@ -56,7 +57,7 @@ impl From<AllocError> for StepFault {
     }
 }
 
-/// The text for a person, without an LF.
+/// Writes the message for the user, without a final newline.
 impl fmt::Display for StepFault {
     fn fmt<W: fmt::Write>(&self, f: &mut fmt::Formatter<W>) -> fmt::Result {
         match self {

@@ -1,4 +1,4 @@
-//! The sizes of an image, by the version of its format.
+//! The sizes of an image, by version.
 ghost use Rattle.std.specs.Prelude.{◌≡◌};
 ghost use Rattle.pv_model.specs.Image.{greatest_blocks, index_pointers, inode_length};
 ghost use Rattle.pv_model.specs.Room.{entry_length, greatest_entries, greatest_length};
@@ -10,21 +10,21 @@ use crate::format::{
 };
 use crate::limits::{BLOCK, BLOCKS_V1, BLOCKS_V2, NAME_V1, NAME_V2};
 
-// The greatest length of a content, which fills all blocks that an inode's pointers lead to.
+// The greatest length of a content: one that fills every block that an inode's pointers reach.
 const LENGTH_V1: usize = BLOCK * (DIRECT + POINTED * INDEX_POINTERS_V1) as usize;
 
 const LENGTH_V2: usize = BLOCK * (DIRECT + POINTED * INDEX_POINTERS_V2) as usize;
 
-/// What an image of one version has room for.
+/// The sizes and limits of an image of one version.
 #[derive(Clone, Copy, Debug, PartialEq, Eq)]
 pub struct Layout {
     /// Bytes of an inode.
     pub inode_length: usize,
-    /// Bytes of a directory's slot, which holds one entry.
+    /// Bytes of a directory's slot, which contains one entry.
     pub slot_length: usize,
     /// The greatest length of a name, in bytes.
     pub name_limit: usize,
-    /// Pointers of an inode to index blocks, past the ten to blocks of content.
+    /// Pointers to index blocks in an inode, in addition to the ten pointers to blocks of content.
     pub index_pointers: u16,
     /// The greatest length of a content, in bytes.
     pub greatest_length: u32,
@@ -59,7 +59,7 @@ impl Layout {
 }
 
 impl Version {
-    /// The sizes of an image of this version.
+    /// Returns the sizes and limits of an image of this version.
     pub fn layout(self) -> Layout
         ensures inode_length { result.inode_length ≡ inode_length self }
         ensures slot_length { result.slot_length ≡ entry_length self }

@@ -1,4 +1,4 @@
-//! Why runs are refused.
+//! Errors of a run.
 ghost use Rattle.std.specs.Prelude.{◌≡◌};
 ghost use Rattle.pv_model.specs.declared.run_fault.RunFault.TheVariants.{Memory};
 ghost use Rattle.pv_model.specs.RunFault.{of_boot, of_image, of_manifest, of_program, of_schedule};
@@ -7,20 +7,21 @@ use crate::{BootFault, ImageFault, ManifestFault, ParseFault, ScheduleFault};
 use std::alloc::{AllocError, AllocFailed};
 use std::fmt;
 
-/// Why a run is refused, or ends early.
+/// The reason why a run is rejected or ends early.
 #[derive(Clone, Copy, Debug, PartialEq, Eq)]
 pub enum RunFault {
-    /// A source failed, or gave more than 67,108,864 bytes.
+    /// A source failed, or provided more than 67,108,864 bytes.
     Read,
-    /// The image is none.
+    /// The bytes are not an image.
     Image(ImageFault),
-    /// The manifest is none, or its entries do not apply.
+    /// The bytes are not a manifest, or an entry of the manifest cannot be added.
     Manifest(ManifestFault),
-    /// This line of the schedule is none.
+    /// The first line that is not a valid line of the schedule.
     Schedule(u32),
-    /// This line of the program in `init` is no instruction; 0 where `init` is no executable file.
+    /// The first line of the program in `init` that is not a valid instruction, or 0 if `init` is not an executable
+    /// file.
     Init(u16),
-    /// Memory was refused.
+    /// Out of memory.
     Memory,
     /// The sink of the trace failed.
     WriteTrace,
@@ -99,7 +100,7 @@ impl From<BootFault> for RunFault {
     }
 }
 
-/// The text for a person, without an LF.
+/// Writes the message for the user, without a final newline.
 impl fmt::Display for RunFault {
     fn fmt<W: fmt::Write>(&self, f: &mut fmt::Formatter<W>) -> fmt::Result {
         match self {

@@ -1,4 +1,4 @@
-//! Why an image is not listed, or not made into one of version 2.
+//! Errors of listing an image and of migrating one to version 2.
 ghost use Rattle.std.specs.Prelude.{◌≡◌};
 ghost use Rattle.pv_model.specs.RunFault.{of_image_listed, of_image_migrated};
 ghost use Rattle.pv_model.specs.declared.store_fault.ListFault.TheVariants.{Memory as ListMemory};
@@ -8,14 +8,14 @@ use crate::ImageFault;
 use std::alloc::AllocError;
 use std::fmt;
 
-/// Why an image is not listed.
+/// The reason why an image is not listed.
 #[derive(Clone, Copy, Debug, PartialEq, Eq)]
 pub enum ListFault {
-    /// The source failed, or gave more bytes than one may give.
+    /// The source failed, or provided too many bytes.
     Read,
-    /// The image is none.
+    /// The bytes are not an image.
     Image(ImageFault),
-    /// Memory was refused.
+    /// Out of memory.
     Memory,
     /// The sink failed.
     Write,
@@ -40,7 +40,7 @@ impl From<ImageFault> for ListFault {
     }
 }
 
-/// The text for a person, without an LF.
+/// Writes the message for the user, without a final newline.
 impl fmt::Display for ListFault {
     fn fmt<W: fmt::Write>(&self, f: &mut fmt::Formatter<W>) -> fmt::Result {
         match self {
@@ -52,14 +52,14 @@ impl fmt::Display for ListFault {
     }
 }
 
-/// Why an image of version 1 is not made into one of version 2.
+/// The reason why an image of version 1 is not migrated to version 2.
 #[derive(Clone, Copy, Debug, PartialEq, Eq)]
 pub enum MigrateFault {
-    /// The bytes are no image of version 1.
+    /// The bytes are not an image of version 1.
     Image(ImageFault),
-    /// The sizes that were asked for are out of range, have fewer inodes than before, or have no room for the tree.
+    /// The requested sizes are out of range, have fewer inodes than the image, or do not have room for the tree.
     Small,
-    /// Memory was refused.
+    /// Out of memory.
     Memory,
 }
 
@@ -82,7 +82,7 @@ impl From<ImageFault> for MigrateFault {
     }
 }
 
-/// The text for a person, without an LF.
+/// Writes the message for the user, without a final newline.
 impl fmt::Display for MigrateFault {
     fn fmt<W: fmt::Write>(&self, f: &mut fmt::Formatter<W>) -> fmt::Result {
         match self {

@@ -1,18 +1,18 @@
-//! What an entry of an unveil table is for.
+//! Targets of unveil entries.
 ghost use Rattle.std.specs.Prelude.{◌≡◌};
 
 use crate::Name;
 
-/// What an entry of an unveil table is for, unveil(2).
+/// The target of an unveil entry, unveil(2).
 #[derive(Drop)]
 pub enum Target {
     /// The directory with this number.
     Directory(u16),
-    /// A name in a directory, whether or not it is there.
+    /// A name in a directory, whether or not the entry exists.
     Name { dir: u16, name: Name },
 }
 
-/// A blank for the unused places of a table: number 0 is no node's.
+/// Returns a placeholder for the unused places of a table. No node has number 0.
 impl Default for Target {
     ghost use Rattle.std.specs.Prelude.{◌≡◌};
     ghost use Rattle.pv_model.specs.declared.target.Target.TheVariants.{Directory};
@@ -25,7 +25,7 @@ impl Default for Target {
 }
 
 impl Target {
-    /// Another target that is the same.
+    /// Returns a copy of the target.
     pub fn copy(&self) -> Target
         ensures { result ≡ self.now }
     {

@@ -1,4 +1,4 @@
-//! What a call walks to, and what it asks there.
+//! The paths that a call walks, and the permissions that it needs at their ends.
 ghost use Rattle.std.specs.Prelude.{◌≡◌};
 ghost use Rattle.pv_model.specs.CallRef.{call_of, walk_of, walks_in};
 ghost use Rattle.pv_model.specs.Perms.{read_permissions};
@@ -6,32 +6,31 @@ ghost use Rattle.pv_model.specs.Walks.{chdir_walk, execve_walk, from_here, permi
 
 use crate::{CallRef, Follow, OpenFlags, Perms, Start, Text};
 
-/// A walk of a call: from where a relative path starts, what is done with a final link, the path, and the permissions
-/// that are asked of the place at its end.
+/// One walk of a call along a path.
 #[derive(Clone, Copy)]
 pub struct Walk<'a> {
-    /// Where a relative path starts.
+    /// The directory where a relative path starts.
     pub start: Start,
-    /// What is done with a final link.
+    /// How the walk treats a final link.
     pub follow: Follow,
-    /// The path that it goes along.
+    /// The path to walk.
     pub path: &'a Text,
-    /// The permissions that are asked of the place at its end.
+    /// The permissions that the call needs at the place where the walk ends.
     pub needed: Perms,
 }
 
-/// The walks of a call, in order: at most two.
+/// The walks of a call, in order.
 #[derive(Clone, Copy)]
 pub enum Walks<'a> {
-    /// It walks along no path.
+    /// The call walks no path.
     Zero,
-    /// It walks along one path.
+    /// The call walks one path.
     One(Walk<'a>),
-    /// It walks along two paths.
+    /// The call walks two paths.
     Two(Walk<'a>, Walk<'a>),
 }
 
-// A walk from the working directory.
+// Returns a walk from the working directory.
 #[inline]
 fn from_here(follow: Follow, path: &Text, needed: Perms) -> Walk<'_>
     ensures { walk_of result ≡ from_here follow path.now needed }
@@ -45,8 +44,10 @@ fn from_here(follow: Follow, path: &Text, needed: Perms) -> Walk<'_>
 }
 
 impl<'a> Walk<'a> {
-    /// The walk of open(2) and openat(2): a final link is kept under `no_follow`, and where an absent file alone is to be
-    /// made. It asks for what the mode needs, and for c to create.
+    /// Returns the walk of open(2) and openat(2), which needs the permissions of the mode, and c if it may create the
+    /// file.
+    ///
+    /// A final link is not followed if `no_follow` is set, or if both `create` and `exclusive` are set.
     #[inline]
     pub fn open(start: Start, path: &'a Text, flags: OpenFlags) -> Walk<'a>
         ensures { walk_of result ≡ open_walk start path.now flags }
@@ -59,7 +60,7 @@ impl<'a> Walk<'a> {
         }
     }
 
-    /// The walk of execve(2): a final link is followed. It asks for x.
+    /// Returns the walk of execve(2), which follows a final link and needs x.
     #[inline]
     pub fn execve(path: &'a Text) -> Walk<'a>
         ensures { walk_of result ≡ execve_walk path.now }
@@ -67,7 +68,7 @@ impl<'a> Walk<'a> {
         from_here(Follow::Last, path, Perms::X)
     }
 
-    /// The walk of chdir(2): a final link is followed. It asks for r.
+    /// Returns the walk of chdir(2), which follows a final link and needs r.
     #[inline]
     pub fn chdir(path: &'a Text) -> Walk<'a>
         ensures { walk_of result ≡ chdir_walk path.now }
@@ -75,7 +76,7 @@ impl<'a> Walk<'a> {
         from_here(Follow::Last, path, Perms::R)
     }
 
-    /// The walk of stat(2): a final link is followed. It asks for r.
+    /// Returns the walk of stat(2), which follows a final link and needs r.
     #[inline]
     pub fn stat(path: &'a Text) -> Walk<'a>
         ensures { walk_of result ≡ stat_walk path.now }
@@ -83,7 +84,7 @@ impl<'a> Walk<'a> {
         from_here(Follow::Last, path, Perms::R)
     }
 
-    /// The walk of lstat(2): a final link is kept. It asks for r.
+    /// Returns the walk of lstat(2), which does not follow a final link and needs r.
     #[inline]
     pub fn lstat(path: &'a Text) -> Walk<'a>
         ensures { walk_of result ≡ lstat_walk path.now }
@@ -91,7 +92,7 @@ impl<'a> Walk<'a> {
         from_here(Follow::Keep, path, Perms::R)
     }
 
-    /// The walk of readlink(2): a final link is kept. It asks for r.
+    /// Returns the walk of readlink(2), which does not follow a final link and needs r.
     #[inline]
     pub fn readlink(path: &'a Text) -> Walk<'a>
         ensures { walk_of result ≡ readlink_walk path.now }
@@ -99,7 +100,7 @@ impl<'a> Walk<'a> {
         from_here(Follow::Keep, path, Perms::R)
     }
 
-    /// The walk of mkdir(2): a final link is kept, and slashes at the end are dropped. It asks for c.
+    /// Returns the walk of mkdir(2), which drops trailing slashes, does not follow a final link, and needs c.
     #[inline]
     pub fn mkdir(path: &'a Text) -> Walk<'a>
         ensures { walk_of result ≡ mkdir_walk path.now }
@@ -107,7 +108,7 @@ impl<'a> Walk<'a> {
         from_here(Follow::KeepTrimmed, path, Perms::C)
     }
 
-    /// The walk of symlink(2) to the place of the link: a final link is kept. It asks for c.
+    /// Returns the walk of symlink(2) to the new link, which does not follow a final link and needs c.
     #[inline]
     pub fn symlink(path: &'a Text) -> Walk<'a>
         ensures { walk_of result ≡ symlink_walk path.now }
@@ -115,7 +116,7 @@ impl<'a> Walk<'a> {
         from_here(Follow::Keep, path, Perms::C)
     }
 
-    /// The first walk of link(2), to what is there: a final link is followed. It asks for r.
+    /// Returns the first walk of link(2), to the existing file, which follows a final link and needs r.
     #[inline]
     pub fn linked(path: &'a Text) -> Walk<'a>
         ensures { walk_of result ≡ linked_walk path.now }
@@ -123,7 +124,7 @@ impl<'a> Walk<'a> {
         from_here(Follow::Last, path, Perms::R)
     }
 
-    /// The second walk of link(2), to the new name: a final link is kept. It asks for c.
+    /// Returns the second walk of link(2), to the new name, which does not follow a final link and needs c.
     #[inline]
     pub fn new_link(path: &'a Text) -> Walk<'a>
         ensures { walk_of result ≡ new_link_walk path.now }
@@ -131,7 +132,7 @@ impl<'a> Walk<'a> {
         from_here(Follow::Keep, path, Perms::C)
     }
 
-    /// The walk of unlink(2): a final link is kept. It asks for c.
+    /// Returns the walk of unlink(2), which does not follow a final link and needs c.
     #[inline]
     pub fn unlink(path: &'a Text) -> Walk<'a>
         ensures { walk_of result ≡ unlink_walk path.now }
@@ -139,7 +140,7 @@ impl<'a> Walk<'a> {
         from_here(Follow::Keep, path, Perms::C)
     }
 
-    /// The walk of rmdir(2): a final link is kept. It asks for c.
+    /// Returns the walk of rmdir(2), which does not follow a final link and needs c.
     #[inline]
     pub fn rmdir(path: &'a Text) -> Walk<'a>
         ensures { walk_of result ≡ rmdir_walk path.now }
@@ -147,7 +148,7 @@ impl<'a> Walk<'a> {
         from_here(Follow::Keep, path, Perms::C)
     }
 
-    /// Each of the two walks of rename(2): a final link is kept. It asks for c.
+    /// Returns either walk of rename(2), which does not follow a final link and needs c.
     #[inline]
     pub fn rename(path: &'a Text) -> Walk<'a>
         ensures { walk_of result ≡ rename_walk path.now }
@@ -155,8 +156,10 @@ impl<'a> Walk<'a> {
         from_here(Follow::Keep, path, Perms::C)
     }
 
-    /// The walk of unveil(2): a final link is followed. Its permissions are what its entry is to have, and no table judges
-    /// its place by them.
+    /// Returns the walk of unveil(2), which follows a final link.
+    ///
+    /// The permissions are those that the new entry is to grant. The unveil table does not check the place against
+    /// them.
     #[inline]
     pub fn unveil(path: &'a Text, permissions: Perms) -> Walk<'a>
         ensures { walk_of result ≡ unveil_walk path.now permissions }
@@ -165,7 +168,7 @@ impl<'a> Walk<'a> {
     }
 }
 
-// The permissions that a text asks for, or none.
+// Returns the permissions that the text denotes, or the empty set if the text is not valid.
 fn permissions_or_none(text: &Text) -> Perms
     ensures { result ≡ permissions_or_none (read_permissions text.now) }
 {
@@ -173,7 +176,7 @@ fn permissions_or_none(text: &Text) -> Perms
 }
 
 impl<'a> CallRef<'a> {
-    /// The walks of the call, in order, each with what it asks of the place at its end.
+    /// Returns the walks of the call in order, each with the permissions that the call needs where it ends.
     #[inline]
     pub fn walks(self) -> Walks<'a>
         ensures { walks_in result ≡ walks_of (call_of self.entry) }

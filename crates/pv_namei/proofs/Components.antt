@@ -1,4 +1,4 @@
--- The components of a path, cut off one by one.
+-- The components of a path, split off one by one.
 use Rattle.std.proofs.Common.{◌≡◌, ◌<◌, ℕ, zero, suc, ◌==◌, not, Bool, true, false, filter, List, [], ◌∷◌, length, get_or, take, drop, Option, None, Some, is_some, refl, sym, ap, ◌∙◌, arith, position, unwrap_or}
 use Rattle.std.proofs.lemmas.List.{drop_all, length-drop}
 use Rattle.std.proofs.lemmas.List.Quantifiers.{position-Some}
@@ -15,7 +15,7 @@ is_slash b = b == 47
 abbrev pub is_other : ℕ → Bool
 is_other b = not (b == 47)
 
--- how many bytes stand before the first slash, and how many slashes before the first other byte
+-- the number of bytes before the first slash, and of slashes before the first other byte
 abbrev pub others : Bytes → ℕ
 others path = position_or_len is_slash path
 
@@ -47,7 +47,7 @@ module _ (b : ℕ) (bs : Bytes) where
   rest_step true e ih = rw (e, e) refl
   rest_step false e ih = rw (e, one-add) ih
 
--- the first of the components between slashes ends at the first slash
+-- the first component between slashes ends at the first slash
 cut_first : (path : Bytes) → split_slashes path ≡ take (others path) path ∷ tail_of (split_slashes (drop (others path) path))
 cut_first [] = refl
 cut_first (b ∷ bs) = cut_step b bs (b == 47) refl (cut_first bs)
@@ -56,7 +56,7 @@ rest_components : (path : Bytes) → components (drop (others path) path) ≡ fi
 rest_components [] = refl
 rest_components (b ∷ bs) = rest_step b bs (b == 47) refl (rest_components bs)
 
--- slashes in front give no component
+-- leading slashes do not change the components
 pub components_skip : (path : Bytes) → components (drop (slashes path) path) ≡ components path
 components_skip [] = refl
 components_skip (b ∷ bs) = skip_step b bs (b == 47) refl (components_skip bs)
@@ -66,12 +66,12 @@ filled_first [] n some there rest = absurd (omega arith)
 filled_first (b ∷ bs) zero some there rest = absurd (omega arith)
 filled_first (b ∷ bs) (suc n) some there rest = refl
 
--- what stands before the first slash is the first component
+-- the bytes before the first slash are the first component
 pub components_cut : (path : Bytes) → 0 < others path → 0 < length path → components path ≡ take (others path) path ∷ components (drop (others path) path)
 components_cut path some there =
     ap filled (cut_first path) ∙ filled_first path (others path) some there (tail_of (split_slashes (drop (others path) path))) ∙ ap (λ ps. take (others path) path ∷ ps) (sym (rest_components path))
 
--- a path ends in a slash where its last byte is one
+-- a path ends in a slash if its last byte is one
 pub ends_in_last : (b : ℕ) (bs : Bytes) → ends_in_slash (b ∷ bs) ≡ (get_or (b ∷ bs) (length bs) 0 == 47)
 ends_in_last b [] = refl
 ends_in_last b (c ∷ bs) = ends_in_last c bs
@@ -80,7 +80,7 @@ pub ends_in_last_of : (path : Bytes) (n : ℕ) → suc n ≡ length path → end
 ends_in_last_of [] n e = absurd (omega arith)
 ends_in_last_of (b ∷ bs) n e = let same : n ≡ length bs = omega arith in rw same (ends_in_last b bs)
 
--- with no other byte than slashes there is no component
+-- a path of only slashes has no component
 pub components_none : (path : Bytes) → position is_other path ≡ None → components path ≡ []
 components_none path none =
     let within = prefix_len-le-length (λ b. not (is_other b)) path in
@@ -92,13 +92,13 @@ module _ (path : Bytes) (start end : ℕ) (found : position is_other path ≡ So
   others_next : end ≡ others (drop start path)
   others_next = is ∙ place_or_length (others (drop start path)) (length (drop start path)) (prefix_len-le-length is_other (drop start path))
 
-  -- the first component has a byte
+  -- the first component is not empty
   pub some_next : 0 < end
   some_next =
       let at = position-Some is_other path start 0 found in
       omega (arith, others_next, prefix_len-drop_yes is_other path start 0 at.0 at.1)
 
-  -- the first component begins at the first byte that is no slash, and ends before the next slash
+  -- the first component starts at the first byte that is not a slash, and ends before the next slash
   pub components_next : components path ≡ take end (drop start path) ∷ components (drop end (drop start path))
   components_next =
       let at = position-Some is_other path start 0 found in
@@ -107,7 +107,7 @@ module _ (path : Bytes) (start end : ℕ) (found : position is_other path ≡ So
       let there : 0 < length (drop start path) = omega (arith, length-drop start path, at.0) in
       sym (components_skip path) ∙ ap (λ n. components (drop n path)) from ∙ rw others_next (components_cut (drop start path) some there)
 
--- there is none exactly where no other byte is found
+-- there is none if and only if there is no such byte
 none_found : (path : Bytes) (found : Option ℕ) → position is_other path ≡ found → (none : Bool) → is_some found ≡ not none → none ≡ is_empty (components path)
 none_found path None e true is = sym (ap is_empty (components_none path e))
 none_found path None e false is = cc is

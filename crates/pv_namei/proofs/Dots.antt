@@ -1,10 +1,10 @@
--- Whether the last of some components is `.` or `..`, in parts.
+-- Whether the last of some components is `.` or `..`, step by step.
 use Rattle.std.proofs.Common.{◌≡◌, ◌∙◌, Bool, false, ◌||◌, List, [], ◌∷◌, refl, ap}
 use Rattle.pv_model.specs.Bytes.{Bytes}
 use Rattle.pv_model.specs.Calls.Paths.{last_is_dot}
 use Rattle.pv_model.specs.Walk.{is_dot, is_dot_dot}
 
--- where no component is left, what was said of the last one
+-- the answer for the last component so far, if none remains
 abbrev pub last_or : Bool → List Bytes → Bool
 last_or dots [] = dots
 last_or dots (component ∷ rest) = last_or (is_dot component || is_dot_dot component) rest
@@ -20,4 +20,4 @@ last_first (component ∷ rest) = last_of component rest
 -- one component further
 pub last_next : (all dots new : Bool) (ps : List Bytes) (component : Bytes) (rest : List Bytes) → all ≡ last_or dots ps → ps ≡ component ∷ rest
     → (is_dot component || is_dot_dot component) ≡ new → all ≡ last_or new rest
-last_next all dots new ps component rest is cut told = is ∙ ap (last_or dots) cut ∙ ap (λ b. last_or b rest) told
+last_next all dots new ps component rest is cut reported = is ∙ ap (last_or dots) cut ∙ ap (λ b. last_or b rest) reported

@@ -1,4 +1,4 @@
--- What a search for a place tells: the first place that passes, or the length where there is none.
+-- The result of a search for a position: the first that passes, or the length if there is none.
 use Rattle.std.proofs.Common.{◌≡◌, ℕ, ◌≤◌, cond, nat_lt, None, Some, unwrap_or, arith}
 use Rattle.std.proofs.lemmas.Bool.Decides.{nat_tests}
 

@@ -1,9 +1,10 @@
--- Lemmas of walks: Components and Spelling (components cut off one by one, and put together), Dots (the last one), Nodes and Steps (the
--- definitions' walk, step by step), FirstPlaces (a search for a place), Kept (what a lookup has kept).
+-- Lemmas of walks: Components and Encoding (components split off and put together), Dots (the last component), Nodes
+-- and Steps (the specification's walk, step by step), FirstPlaces (searches for a position), Preserved (the answers in
+-- a cache).
 pub mod Dots
 pub mod FirstPlaces
 pub mod Components
-pub mod Spelling
+pub mod Encoding
 pub mod Steps
 pub mod Nodes
-pub mod Kept
+pub mod Preserved

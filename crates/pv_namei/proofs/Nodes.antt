@@ -1,4 +1,4 @@
--- What a node is, and where a walk goes on from it.
+-- The kind of a node, and how a walk continues from it.
 use Rattle.std.proofs.Common.{◌≡◌, ℕ, ◌-◌, ◌≤◌, Bool, true, false, if◌then◌else◌, not, ◌&&◌, ◌==◌, nat_le, List, ◌++◌, length, min, take, drop, Option, None, Some, Ok, refl, ap, sym, ◌∙◌, arith}
 use Rattle.std.specs.Prelude.{IsSome, option_map}
 use Rattle.std.specs.List.{list_all}
@@ -14,7 +14,7 @@ use Rattle.pv_laws_trees.proofs.Places.{link-text, parent-directory}
 use Rattle.pv_laws_trees.proofs.Trees.{sound}
 use Rattle.pv_tree.specs.Trees.{sort_of, bytes_of}
 
--- ---- what there is in a well-formed tree
+-- ---- the nodes of a well-formed tree
 
 pub above-directory : (t : Tree) → IsWellFormed t → (n d : ℕ) → Rattle.pv_model.specs.Tree.parent t n ≡ Some d → is_directory_at t d ≡ true
 above-directory t well n d up = parent-directory (λ b. true) t (sound t well) n d up
@@ -24,7 +24,7 @@ text-short t well n text is =
     let tests = and_parts (not (is_empty text) && nat_le (length text) 1023) (list_all (λ b. not (b == 0)) text) (link-text t (sound t well) n text is) in
     leb-true (length text) 1023 (and_parts (not (is_empty text)) (nat_le (length text) 1023) tests.0).1
 
--- ---- a link's text
+-- ---- the target of a symbolic link
 
 take_front : (text old : Bytes) (n m : ℕ) → n ≡ min m (length text - 0) → length text ≤ m → (take n (take n (drop 0 text) ++ drop n old) ≡ text) × (n ≡ length text)
 take_front text old n m is short =
@@ -41,7 +41,7 @@ text-read (Some (link_node text)) is short old new n long count bytes =
     let front = take_front text old n (length old) count (omega arith) in
     (ap (λ (bs : Bytes). Some bs) (sym front.0 ∙ ap (take n) (sym bytes)), omega (arith, front.1))
 
--- ---- where a walk goes on from a directory
+-- ---- how a walk continues from a directory
 
 module _ (t : Tree) (last : Bool) (following : PastLink) (onward : Onward) (at : ℕ) (component : Bytes) (rest : List Bytes) (mark : Bool) (n : ℕ) where
   abbrev there : Option Node → Walked

@@ -1,4 +1,4 @@
--- The definitions' walk, step by step.
+-- The specification's walk, step by step.
 use Rattle.std.proofs.Common.{◌≡◌, ℕ, zero, suc, ◌<◌, ◌≤◌, Bool, true, false, if◌then◌else◌, ◌==◌, nat_lt, List, [], ◌∷◌, length, Result, Err, refl, ap, ap₂, sym, ◌∙◌, arith}
 use Rattle.std.proofs.lemmas.Bool.{lt-ltb, le-ltb, ne_eqb}
 use Rattle.pv_model.specs.declared.errno.Errno.{Errno}
@@ -11,12 +11,12 @@ use Rattle.pv_namei.specs.declared.lead.Lead.{Lead}
 use Rattle.pv_namei.specs.declared.walk.WalkState.{WalkState}
 use Rattle.pv_namei.specs.Onward.{following, first_walk, remaining, led}
 
--- a walk goes along its components, up to the first link
+-- a walk goes along its components up to the first link
 pub walk-along : (t : Tree) (last : Bool) (links : ℕ) (ps : List Bytes) (mark : Bool) (at : ℕ) → walk t last links ps mark at ≡ along t last (following t last links) ps mark at
 walk-along t last zero ps mark at = refl
 walk-along t last (suc links) ps mark at = refl
 
--- a walk goes on where its first component leads
+-- a walk continues where its first component leads
 pub remaining-led : (t : Tree) (w : WalkState) (ps : List Bytes) (component : Bytes) (rest : List Bytes) → ps ≡ component ∷ rest → (r : Result Lead Errno)
     → along t w.last (following t w.last w.links) (component ∷ rest) w.mark w.at ≡ led t w.last (following t w.last w.links) rest w.mark w.at component r
     → remaining t w ps ≡ led t w.last (following t w.last w.links) rest w.mark w.at component r
@@ -56,7 +56,7 @@ unfolding resolve
 resolve-walk t follow start path some short =
     picked (is_empty path) (nat_lt 1023 (length path)) (Err ENOENT) (Err ENAMETOOLONG) _ (empty-is path ∙ some) (le-ltb 1023 (length path) short)
 
--- it is what the walk answers that begins there
+-- it is the result of the walk that starts there
 pub resolve-remaining : (t : Tree) (follow : Follow) (start : ℕ) (path : Bytes) → (length path == 0) ≡ false → length path ≤ 1023
     → (w : WalkState) (rest : List Bytes) → w ≡ first_walk start path follow → rest ≡ components path → resolve t follow start path ≡ remaining t w rest
 resolve-remaining t follow start path some short w rest walk-is rest-is =

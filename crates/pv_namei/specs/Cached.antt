@@ -1,4 +1,4 @@
--- What a lookup has kept.
+-- The answers in a cache.
 use Rattle.std.specs.Prelude.{◌≡◌, ℕ, ◌&&◌, ◌⊎◌, Bool, length, nat_eq, nat_lt, if◌then◌else◌, Option, None, Some}
 use Rattle.std.specs.Cmp.Lexicographic.{pointwise}
 use Rattle.std.specs.Map.{lookup}
@@ -7,22 +7,23 @@ use Rattle.pv_model.specs.declared.limits.TheConstants.{NAME_V2}
 use Rattle.pv_model.specs.Bytes.{Bytes}
 use Rattle.pv_namei.specs.declared.cached.Pair.{Pair}
 
--- whether two are the same directory and the same name
+-- whether two keys have the same directory and the same name
 abbrev pub is_same : Pair → Pair → Bool
 is_same a b = nat_eq a.directory b.directory && pointwise nat_eq a.name b.name
 
 abbrev pub pair_of : ℕ → Bytes → Pair
 pair_of directory name = record { directory = directory; name = name }
 
--- what is kept of a directory and a name; of a name of more than 255 bytes it is nothing
-abbrev pub kept_of : LruCache Pair (Option ℕ) → ℕ → Bytes → Option (Option ℕ)
-kept_of kept directory name = if nat_lt NAME_V2 (length name) then None else lookup (is_same (pair_of directory name)) kept.entries
+-- the cached answer for a directory and a name; a name of more than 255 bytes has none
+abbrev pub preserved_of : LruCache Pair (Option ℕ) → ℕ → Bytes → Option (Option ℕ)
+preserved_of preserved directory name = if nat_lt NAME_V2 (length name) then None else lookup (is_same (pair_of directory name)) preserved.entries
 
--- each answer that is kept is a map's
+-- each cached answer is that of a map
 abbrev pub FitsMap : LruCache Pair (Option ℕ) → (ℕ → Bytes → Option ℕ) → Type 0
-FitsMap kept map = (directory : ℕ) (name : Bytes) (answer : Option ℕ) → kept_of kept directory name ≡ Some answer → map directory name ≡ answer
+FitsMap preserved map = (directory : ℕ) (name : Bytes) (answer : Option ℕ) → preserved_of preserved directory name ≡ Some answer → map directory name ≡ answer
 
--- an answer has come first, and has pushed the least recently used out where there were too many; or nothing was kept of it, and nothing has changed
+-- an answer was put in front, and the least recently used one was evicted if there were too many; or there was no
+-- answer before, and nothing changed
 abbrev pub IsPut : LruCache Pair (Option ℕ) → ℕ → Bytes → Option ℕ → LruCache Pair (Option ℕ) → Type 0
 IsPut old directory name answer new =
-    (new ≡ lru_cache (put_entries is_same old (pair_of directory name) answer) old.cap) ⊎ ((kept_of old directory name ≡ None) × (new ≡ old))
+    (new ≡ lru_cache (put_entries is_same old (pair_of directory name) answer) old.cap) ⊎ ((preserved_of old directory name ≡ None) × (new ≡ old))

@@ -1,4 +1,4 @@
--- Components, spelled out.
+-- Encoding of components.
 use Rattle.std.specs.Prelude.{List, [], ◌∷◌, ◌++◌}
 use Rattle.pv_model.specs.Bytes.{Bytes}
 

@@ -1,4 +1,4 @@
--- A walk on its way.
+-- The state of a walk.
 use Rattle.std.specs.Prelude.{◌≡◌, ℕ, zero, suc, ◌<◌, ◌≤◌, ⊤, Bool, IsTrue, IsSome, List, length, if◌then◌else◌, nat_lt, Option, None, Some, Result, Ok, Err}
 use Rattle.pv_model.specs.declared.limits.TheConstants.{LINKS, NAME_V2}
 use Rattle.pv_model.specs.declared.errno.Errno.{Errno}
@@ -18,85 +18,85 @@ use Rattle.pv_namei.specs.declared.stop.Stop.{Stop}
 use Rattle.pv_namei.specs.declared.stop.Stop.TheVariants.{End, Link}
 use Rattle.pv_namei.specs.declared.walk.WalkState.{WalkState}
 
--- how a walk goes on after a link with so many links left
+-- the continuation of a walk at a link, with this number of links left
 abbrev pub following : Tree → Bool → ℕ → PastLink
 following t last zero = no_link_left t last
 following t last (suc links) = through_link t last (walk t last links)
 
--- the walk of a path from a directory
+-- the start of a walk of a path from a directory
 abbrev pub first_walk : ℕ → Bytes → Follow → WalkState
 first_walk start path follow =
     record { last = follows_last follow; links = LINKS; at = if is_absolute path then root else start; mark = end_mark follow path }
 
--- what a walk on its way will answer, with these components left
+-- the result of a walk in this state with these components left
 abbrev pub remaining : Tree → WalkState → List Bytes → Walked
 remaining t w rest = walk t w.last w.links rest w.mark w.at
 
--- what it will answer after a link with this text
+-- its result after a link with this target
 abbrev pub followed : Tree → WalkState → List Bytes → Option Bytes → Walked
 followed t w rest (Some text) = following t w.last w.links text rest w.mark w.at
 followed t w rest None = Err ENOENT
 
--- what it will answer where its directory has this under a name
+-- its result after its directory has this node under a name
 abbrev pub entered : Tree → WalkState → List Bytes → Bytes → Option ℕ → Walked
 entered t w rest name node = at_entry t w.last (following t w.last w.links) (along t w.last (following t w.last w.links) rest w.mark) w.at name rest w.mark node
 
--- the place where it ends
+-- the place at which it ends
 abbrev pub place_of : Ending → Place
 place_of (Named dir component node) = At dir component.now node
 place_of (Unnamed n) = Node n
 
--- what it will answer where it has stopped
+-- its result after it has stopped
 abbrev pub stopped : Tree → WalkState → List Bytes → Stop → Walked
 stopped t w rest (End end) = Ok (place_of end)
 stopped t w rest (Link n) = followed t w rest (link_text (node_at t n))
 
--- a step has stopped the walk, or leaves it to what remains
+-- its result after a step, which stops the walk or leaves the rest
 abbrev pub settled : Tree → WalkState → List Bytes → Result (Option Stop) Errno → Walked
 settled t w rest (Err e) = Err e
 settled t w rest (Ok (Some stop)) = stopped t w rest stop
 settled t w rest (Ok None) = remaining t w rest
 
--- the way along a path has stopped
+-- its result after the components up to a stop
 abbrev pub arrived : Tree → WalkState → List Bytes → Result Stop Errno → Walked
 arrived t w rest (Err e) = Err e
 arrived t w rest (Ok stop) = stopped t w rest stop
 
--- the way after a link has led to the end, or leaves the walk to what remains
+-- its result after a link, at the end or with the rest
 abbrev pub passed : Result (Option Place) Errno → Walked → Walked
 passed (Err e) onward = Err e
 passed (Ok (Some place)) onward = Ok place
 passed (Ok None) onward = onward
 
--- what the walk answers where its first component is a name
+-- its result if the first component is a name
 abbrev pub named : Tree → Bool → PastLink → List Bytes → Bool → ℕ → Bytes → Walked
 named t last onward rest mark at component =
     if nat_lt (greatest_name t.version) (length component) then Err ENAMETOOLONG
     else if is_removed t at then Err ENOENT
     else at_entry t last onward (along t last onward rest mark) at component rest mark (find_entry t at component)
 
--- what the walk answers where its first component has led somewhere
+-- its result if the first component was resolved
 abbrev pub led : Tree → Bool → PastLink → List Bytes → Bool → ℕ → Bytes → Result Lead Errno → Walked
 led t last onward rest mark at component (Err e) = Err e
 led t last onward rest mark at component (Ok (Directory d)) = along t last onward rest mark d
 led t last onward rest mark at component (Ok (Entry node)) = at_entry t last onward (along t last onward rest mark) at component rest mark node
 
--- it leads to a directory, or to what the directory has under a name
+-- the component leads to a directory, or to the node that the directory has under this name
 abbrev pub IsLeadIn : Tree → ℕ → Bytes → Lead → Type 0
 IsLeadIn t at component (Directory d) = IsTrue (is_directory_at t d)
 IsLeadIn t at component (Entry node) = (find_entry t at component ≡ node) × (length component ≤ NAME_V2)
 
--- the name is no longer than a name may be
+-- the name does not exceed the maximum length of a name
 abbrev pub IsShort : Ending → Type 0
 IsShort (Named _ component _) = length component.now ≤ NAME_V2
 IsShort (Unnamed _) = ⊤
 
--- a place with a name, or a link
+-- the stop is a place with a short name, or a symbolic link
 abbrev pub IsStop : Tree → Stop → Type 0
 IsStop t (End end) = IsShort end
 IsStop t (Link n) = IsSome (link_text (node_at t n))
 
--- a step takes a component away, or is the last
+-- a step removes a component, or is the last
 abbrev pub IsNearer : List Bytes → List Bytes → Result (Option Stop) Errno → Type 0
 IsNearer before after (Ok None) = length after < length before
 IsNearer before after _ = ⊤

@@ -1,4 +1,4 @@
-//! What is left of a path.
+//! The rest of a path during a walk.
 ghost use Rattle.std.specs.Prelude.{◌≡◌, ◌∷◌, [], MatchOption};
 ghost use Rattle.pv_model.specs.Bytes.{is_empty};
 ghost use Rattle.pv_model.specs.Walk.{components};
@@ -6,10 +6,10 @@ ghost use Rattle.pv_model.specs.Walk.{components};
 use crate::component::{has_no_component, split_first};
 use std::marker::Model;
 
-/// What is left of a path, which stays where it is: a contract sees the list of the components.
+/// The rest of a path, borrowed from the path. Contracts see the list of its components.
 #[derive(Drop)]
 pub(crate) struct Along<'a> {
-    // The path from after the component that was taken last.
+    // The bytes of the path after the last component that was taken.
     bytes: &'a [u8],
 }
 
@@ -23,28 +23,28 @@ impl<'a> Model for Along<'a> {
 }
 
 impl<'a> Along<'a> {
-    /// A whole path.
+    /// Creates the rest that is the whole path.
     pub(crate) fn new(path: &'a [u8]) -> Along<'a>
         ensures { result ≡ components path.now }
     {
         Along { bytes: path }
     }
 
-    /// The bytes that are left.
+    /// Returns the remaining bytes.
     pub(crate) fn as_slice(&self) -> &'a [u8]
         ensures { components result.now ≡ self.now }
     {
         self.bytes
     }
 
-    /// Whether no component is left.
+    /// Returns whether no component remains.
     pub(crate) fn is_empty(&self) -> bool
         ensures { result ≡ is_empty self.now }
     {
         has_no_component(self.bytes)
     }
 
-    /// Takes the first component away; None where no component is left.
+    /// Removes and returns the first component, or returns `None` if no component remains.
     pub(crate) fn take_first(&mut self) -> Option<&'a [u8]>
         ensures { MatchOption result ((self.old ≡ []) × (self.new ≡ [])) (λ component. self.old ≡ component.now ∷ self.new) }
     {

@@ -1,9 +1,9 @@
-//! A lookup that keeps the tree's answers.
+//! The name cache.
 ghost use Rattle.std.specs.Prelude.{◌≡◌, ◌⊎◌, ℕ, List, Option, Some, None, [], IsTrue, IfOk, ◌≤◌, length};
 ghost use Rattle.pv_model.specs.declared.limits.TheConstants.{ANSWERS};
 ghost use Rattle.pv_model.specs.Tree.{is_directory_at, find_entry};
 ghost use Rattle.pv_laws_trees.specs.Found.{AlikeBut};
-ghost use Rattle.pv_namei.specs.Cached.{kept_of, IsPut, FitsMap};
+ghost use Rattle.pv_namei.specs.Cached.{preserved_of, IsPut, FitsMap};
 
 use crate::Lookup;
 use crate::short_name::ShortName;
@@ -13,7 +13,7 @@ use pv_tree::Tree;
 use std::alloc::{AllocError, Global};
 use std::num::NonZeroUsize;
 
-/// What an answer is kept under: the number of a directory, and a name of at most 255 bytes.
+/// A key of the cache: the number of a directory, and a name of at most 255 bytes.
 #[derive(Drop, PartialEq, Eq, Hash)]
 pub(crate) struct Pair {
     directory: u16,
@@ -21,7 +21,7 @@ pub(crate) struct Pair {
 }
 
 impl Pair {
-    // The pair of directory 0 and no name.
+    // Creates the key of directory 0 and the empty name.
     fn empty() -> Pair
         ensures directory { result.directory ≡ 0 }
         ensures name { result.name ≡ [] }
@@ -32,7 +32,7 @@ impl Pair {
         }
     }
 
-    // Becomes the pair of a directory and a name, which has at most 255 bytes.
+    // Sets the key to a directory and a name of at most 255 bytes.
     fn set(&mut self, directory: u16, name: &[u8])
         requires { length name.now ≤ NAME_V2 }
         ensures directory { self.new.directory ≡ directory }
@@ -42,7 +42,7 @@ impl Pair {
         self.name.set(name);
     }
 
-    // The pair of a directory and a name, which has at most 255 bytes.
+    // Creates the key of a directory and a name of at most 255 bytes.
     fn new(directory: u16, name: &[u8]) -> Pair
         requires { length name.now ≤ NAME_V2 }
         ensures directory { result.directory ≡ directory }
@@ -54,20 +54,25 @@ impl Pair {
     }
 }
 
-/// A lookup that keeps up to 512 answers of the tree, absences too: those that were used last.
+/// A lookup that caches up to 512 answers of the tree, including absent names. It evicts the answer that was used least
+/// recently.
 ///
-/// A name of more than 255 bytes goes past it, and where there is no memory for an answer it is given all
-/// the same and not kept.
+/// A name of more than 255 bytes bypasses the cache. If memory for an answer cannot be allocated, the answer is
+/// returned but not cached.
 #[derive(Drop)]
 pub struct CachedLookup {
     answers: LruCache<Pair, Option<u16>>,
-    // What was asked last: each next question takes its place.
+    // The key of the last lookup, which the next lookup overwrites.
     asked: Pair,
     ghost capacity: { answers.cap ≡ ANSWERS },
 }
 
 impl CachedLookup {
-    /// A lookup that has kept nothing yet.
+    /// Creates an empty cache.
+    ///
+    /// # Errors
+    ///
+    /// Returns `AllocError` if memory for the cache cannot be allocated.
     pub fn new(alloc: Global) -> Result<CachedLookup, AllocError>
         ensures empty { IfOk result (λ lookup. lookup.answers.entries ≡ []) }
         ensures agrees { IfOk result (λ lookup. (map : ℕ → List ℕ → Option ℕ) → FitsMap lookup.answers map) }
@@ -78,10 +83,10 @@ impl CachedLookup {
         })
     }
 
-    /// What is kept of a directory and a name: nothing, or the answer, which is none where the name is known
-    /// to be absent.
-    pub fn kept(&self, directory: u16, name: &[u8]) -> Option<Option<u16>>
-        ensures { result ≡ kept_of self.now.answers directory name.now }
+    /// Returns the cached answer for a directory and a name, or `None` if there is none. The answer is `Some(None)` if
+    /// the name is known to be absent.
+    pub fn preserved(&self, directory: u16, name: &[u8]) -> Option<Option<u16>>
+        ensures { result ≡ preserved_of self.now.answers directory name.now }
     {
         if name.len() > NAME_V2 {
             return None;
@@ -96,14 +101,14 @@ impl Lookup for CachedLookup {
 
     ghost agrees = { λ lookup map. FitsMap lookup.answers map };
 
-    ghost same_answers = { λ lookup map other agreed same. λ d n answer kept. same d n ∙ agreed d n answer kept };
+    ghost same_answers = { λ lookup map other agreed same. λ d n answer preserved. same d n ∙ agreed d n answer preserved };
 
     fn look(&mut self, tree: &Tree, directory: u16, name: &[u8]) -> Option<u16>
         requires directory { IsTrue (is_directory_at tree.now.tree directory) }
         requires agrees { FitsMap self.old.answers (find_entry tree.now.tree) }
         ensures answer { result ≡ find_entry tree.now.tree directory name.now }
         ensures agrees { FitsMap self.new.answers (find_entry tree.now.tree) }
-        ensures keeps { (kept_of self.new.answers directory name.now ≡ Some result) ⊎ (self.new.answers ≡ self.old.answers) }
+        ensures keeps { (preserved_of self.new.answers directory name.now ≡ Some result) ⊎ (self.new.answers ≡ self.old.answers) }
         ensures puts { IsPut self.old.answers directory name.now result self.new.answers }
     {
         if name.len() > NAME_V2 {
@@ -120,10 +125,10 @@ impl Lookup for CachedLookup {
 
     fn changed(&mut self, directory: u16, name: &[u8])
         ensures agrees { (map other : ℕ → List ℕ → Option ℕ) → FitsMap self.old.answers map → AlikeBut directory name.now map other → FitsMap self.new.answers other }
-        ensures forgets { kept_of self.new.answers directory name.now ≡ None }
-        ensures others { (d : ℕ) → (n : List ℕ) → ((d ≡ directory) × (n ≡ name.now) → ⊥) → kept_of self.new.answers d n ≡ kept_of self.old.answers d n }
+        ensures forgets { preserved_of self.new.answers directory name.now ≡ None }
+        ensures others { (d : ℕ) → (n : List ℕ) → ((d ≡ directory) × (n ≡ name.now) → ⊥) → preserved_of self.new.answers d n ≡ preserved_of self.old.answers d n }
     {
-        // What its length tells with it: no pair is kept twice.
+        // The contract of `len` shows that the keys are distinct.
         let _ = self.answers.len();
         if name.len() <= NAME_V2 {
             self.asked.set(directory, name);

@@ -1,4 +1,4 @@
-//! A path, in parts: a component is what is not empty between slashes.
+//! Splitting a path into components: a component is a nonempty sequence of bytes between slashes.
 ghost use Rattle.std.specs.Prelude.{◌≡◌, ◌<◌, ◌==◌, ◌∷◌, [], not, length, position, MatchOption, IfSome};
 ghost use Rattle.pv_model.specs.Bytes.{is_empty};
 ghost use Rattle.pv_model.specs.Calls.Paths.{ends_in_dot};
@@ -6,28 +6,28 @@ ghost use Rattle.pv_model.specs.Walk.{components, is_absolute, ends_in_slash};
 
 use crate::lead::{is_dot, is_dot_dot};
 
-// The index of the first slash.
+// Returns the index of the first slash.
 fn first_slash(path: &[u8]) -> Option<usize>
     ensures { result ≡ position (λ b. b == 47) path.now }
 {
     path.iter().position(|b| *b == b'/')
 }
 
-// The index of the first byte that is no slash.
+// Returns the index of the first byte that is not a slash.
 fn first_other(path: &[u8]) -> Option<usize>
     ensures { result ≡ position (λ b. not (b == 47)) path.now }
 {
     path.iter().position(|b| *b != b'/')
 }
 
-/// Whether a path has no component.
+/// Returns whether a path has no component.
 pub(crate) fn has_no_component(path: &[u8]) -> bool
     ensures { result ≡ is_empty (components path.now) }
 {
     first_other(path).is_none()
 }
 
-/// The first component of a path, and what follows it; None where the path has no component.
+/// Returns the first component of a path and the rest after it, or `None` if the path has no component.
 pub(crate) fn split_first(path: &[u8]) -> Option<(&[u8], &[u8])>
     ensures parts { MatchOption result (components path.now ≡ []) (λ r. components path.now ≡ r.0.now ∷ components r.1.now) }
     ensures shorter { IfSome result (λ r. length r.1.now < length path.now) }
@@ -40,7 +40,7 @@ pub(crate) fn split_first(path: &[u8]) -> Option<(&[u8], &[u8])>
     Some(path.split_at(end))
 }
 
-/// Whether the last component of a path is `.` or `..`.
+/// Returns whether the last component of a path is `.` or `..`.
 pub fn ends_in_dot(path: &[u8]) -> bool
     ensures { result ≡ ends_in_dot path.now }
 {
@@ -53,7 +53,7 @@ pub fn ends_in_dot(path: &[u8]) -> bool
     dots
 }
 
-/// Whether a path begins with a slash.
+/// Returns whether a path begins with a slash.
 pub fn is_absolute(path: &[u8]) -> bool
     ensures { result ≡ is_absolute path.now }
 {
@@ -63,7 +63,7 @@ pub fn is_absolute(path: &[u8]) -> bool
     }
 }
 
-/// Whether a path ends with a slash.
+/// Returns whether a path ends with a slash.
 pub(crate) fn ends_in_slash(path: &[u8]) -> bool
     ensures { result ≡ ends_in_slash path.now }
 {

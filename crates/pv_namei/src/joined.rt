@@ -1,4 +1,4 @@
-//! What is to walk after a link.
+//! The rest of a path after a symbolic link.
 ghost use Rattle.std.specs.Prelude.{◌≡◌, ◌≤◌, ◌<◌, ◌+◌, ◌-◌, ◌++◌, ◌∷◌, [], length, OnOk, OnErr, IfErr};
 ghost use Rattle.pv_model.specs.Walk.{components, weight};
 ghost use Rattle.pv_namei.specs.declared.joined.TheConstants.{HALF};
@@ -11,14 +11,14 @@ use pv_model::Errno;
 use pv_model::limits::WEIGHT;
 use std::marker::Model;
 
-// Two paths that are shorter go together, with a slash between them: no slash of theirs need be left out.
+// Two paths shorter than this fit in the buffer with a slash between them, without removal of repeated slashes.
 const HALF: usize = WEIGHT / 2;
 
-/// The components that a link leaves to walk: together with a slash after each they are at most
-/// 1,024 bytes. A contract sees the list of the components.
+/// The components that remain after a symbolic link: with a slash after each, they have at most 1,024 bytes. Contracts
+/// see the list of components.
 #[derive(Drop)]
 pub(crate) struct Joined {
-    // The components, with a slash at least between two of them.
+    // The components, with at least one slash between two of them.
     bytes: ArrayVec<u8, WEIGHT>,
 }
 
@@ -32,7 +32,7 @@ impl Model for Joined {
 }
 
 impl Joined {
-    /// No components.
+    /// Creates an empty list of components.
     pub(crate) fn new() -> Joined
         ensures { result ≡ [] }
     {
@@ -41,9 +41,12 @@ impl Joined {
         }
     }
 
-    /// Has in place of its components those of a link's text, and after them those that were left at the link.
-    /// ENAMETOOLONG comes where all together, with a slash after each, would be more than 1,024 bytes;
-    /// then it has some of them.
+    /// Replaces the components by those of a link's target followed by those that remained at the link.
+    ///
+    /// # Errors
+    ///
+    /// Returns ENAMETOOLONG if all components, with a slash after each, exceed 1,024 bytes. The list then contains some
+    /// of them.
     pub(crate) fn join(&mut self, text: &[u8], rest: &Along<'_>) -> Result<(), Errno>
         ensures ok { OnOk result (self.new ≡ components text.now ++ rest.now) }
         ensures fits { OnOk result (weight (components text.now ++ rest.now) ≤ WEIGHT) }
@@ -60,7 +63,7 @@ impl Joined {
         push_components(&mut self.bytes, rest)
     }
 
-    /// The way along its components.
+    /// Returns the components as the rest of a path.
     pub(crate) fn along(&self) -> Along<'_>
         ensures { result ≡ self.now }
     {
@@ -68,7 +71,7 @@ impl Joined {
     }
 }
 
-// Becomes two paths with a slash between them.
+// Sets the buffer to two paths with a slash between them.
 fn put_both(bytes: &mut ArrayVec<u8, WEIGHT>, first: &[u8], second: &[u8])
     requires first { length first.now < HALF }
     requires second { length second.now < HALF }
@@ -80,7 +83,7 @@ fn put_both(bytes: &mut ArrayVec<u8, WEIGHT>, first: &[u8], second: &[u8])
     let _ = bytes.try_extend_from_slice(second);
 }
 
-// Puts the components of a path at the end, with a slash after each; ENAMETOOLONG where there is no room for them.
+// Appends the components of a path, with a slash after each. Fails with ENAMETOOLONG if they do not fit.
 fn push_components(bytes: &mut ArrayVec<u8, WEIGHT>, path: &[u8]) -> Result<(), Errno>
     ensures ok { OnOk result (bytes.new.items ≡ bytes.old.items ++ with_slashes (components path.now)) }
     ensures fits { OnOk result (weight (components path.now) ≤ WEIGHT - length bytes.old.items) }
@@ -96,7 +99,7 @@ fn push_components(bytes: &mut ArrayVec<u8, WEIGHT>, path: &[u8]) -> Result<(), 
     Ok(())
 }
 
-// Puts bytes at the end; ENAMETOOLONG where there is no room for them.
+// Appends bytes. Fails with ENAMETOOLONG if they do not fit.
 fn push_bytes(bytes: &mut ArrayVec<u8, WEIGHT>, more: &[u8]) -> Result<(), Errno>
     ensures ok { OnOk result (bytes.new.items ≡ bytes.old.items ++ more.now) }
     ensures fits { OnOk result (length bytes.old.items + length more.now ≤ WEIGHT) }

@@ -1,4 +1,4 @@
-//! Where one component of a path leads.
+//! Resolving one component of a path.
 ghost use Rattle.std.specs.Prelude.{◌≡◌, ◌∷◌, nat_lt, length, IsTrue, List, Bool, IfOk};
 ghost use Rattle.pv_model.specs.Bytes.{Bytes};
 ghost use Rattle.pv_model.specs.Tree.{greatest_name, is_directory_at, find_entry, IsWellFormed};
@@ -9,37 +9,37 @@ use crate::lookup::Lookup;
 use pv_model::{Errno, Version};
 use pv_tree::Tree;
 
-/// Where a component leads from a directory.
+/// The result of resolving a component in a directory.
 #[derive(Clone, Copy)]
 pub(crate) enum Lead {
-    /// To a directory: `.` to the same, and `..` to the one above it.
+    /// A directory: `.` leads to the same directory, and `..` to its parent.
     Directory(u16),
-    /// To what the directory has under the component: a node, or nothing.
+    /// The entry of a name: its node, or `None` if the directory has no such entry.
     Entry(Option<u16>),
 }
 
-/// Whether a component is `.`.
+/// Returns whether a component is `.`.
 pub(crate) fn is_dot(component: &[u8]) -> bool
     ensures { result ≡ is_dot component.now }
 {
     matches!(component, b".")
 }
 
-/// Whether a component is `..`.
+/// Returns whether a component is `..`.
 pub(crate) fn is_dot_dot(component: &[u8]) -> bool
     ensures { result ≡ is_dot_dot component.now }
 {
     matches!(component, b"..")
 }
 
-// Whether a component is longer than a name may be.
+// Returns whether a component exceeds the maximum length of a name.
 fn is_too_long(version: Version, component: &[u8]) -> bool
     ensures { result ≡ nat_lt (greatest_name version) (length component.now) }
 {
     component.len() > version.layout().name_limit
 }
 
-// What a directory has under a component that is a name.
+// Looks up a component that is a name.
 fn entry<L: Lookup>(tree: &Tree, lookup: &mut L, at: u16, component: &[u8]) -> Result<Lead, Errno>
     requires directory { IsTrue (is_directory_at tree.now.tree at) }
     requires agrees { L.agrees lookup.old (find_entry tree.now.tree) }
@@ -56,8 +56,12 @@ fn entry<L: Lookup>(tree: &Tree, lookup: &mut L, at: u16, component: &[u8]) -> R
     Ok(Lead::Entry(lookup.look(tree, at, component)))
 }
 
-/// Where a component leads from a directory: ENOENT for `..` in a removed directory, and for every name in it;
-/// ENAMETOOLONG for a component that is longer than a name may be.
+/// Resolves a component in a directory.
+///
+/// # Errors
+///
+/// In a removed directory, `..` and every name fail with ENOENT. A component that exceeds the maximum length of a name
+/// fails with ENAMETOOLONG.
 pub(crate) fn lead_along<L: Lookup>(
     tree: &Tree,
     lookup: &mut L,

@@ -1,14 +1,13 @@
-//! The walk along a path, symlink(7): from a path to the place that it names in a tree, and the name cache.
+//! Path resolution, symlink(7): from a path to the place that it names in a tree, with a name cache.
 //!
-//! A contract sees the definitions' tree, and of a `Lookup` the maps with which it agrees; `resolve`
-//! answers exactly what the definitions' walk does, with every lookup that agrees with the tree, and
-//! `resolve_ref` the same with no name of its own. No call takes memory. A walk goes along the path where
-//! it lies, and what a link leaves to walk stands in a buffer of 1,024 bytes. `CachedLookup` keeps the tree's last
-//! answers: what it keeps agrees with the tree, and whoever changes an entry says so.
+//! Contracts see the specification's tree and the maps with which a `Lookup` agrees. `resolve` returns exactly what the
+//! specification's path resolution returns, for every lookup that agrees with the tree; `resolve_ref` does the same
+//! without copying the name. No call fails for lack of memory. A path is walked in place; after a symbolic link, the
+//! remaining components are in a buffer of 1,024 bytes.
 //!
-//! `component` cuts the first component off a path, `along` has what is left of one, `joined` what is to walk after
-//! a link, `lookup` how entries are found, `cached` the cache and `short_name` its names, `lead` where one component
-//! leads, `stop` where the way along a path stops, and `walk` the walk, step by step.
+//! `walk` walks a path step by step, `component` splits off its first component, `lead` resolves one component, `along`
+//! is the rest of a path and `joined` the rest after a link, `stop` is the state at which a walk stops, `lookup`
+//! defines how entries are found, `cached` is the name cache, and `short_name` has its names.
 #![tactic(auto)]
 
 mod along;

@@ -1,35 +1,35 @@
-//! How a walk finds the entries of directories.
+//! Looking up entries of directories during a walk.
 ghost use Rattle.std.specs.Prelude.{◌≡◌, ℕ, List, Option, IsTrue};
 ghost use Rattle.pv_model.specs.Tree.{is_directory_at, find_entry};
 ghost use Rattle.pv_laws_trees.specs.Found.{Alike, AlikeBut};
 
 use pv_tree::Tree;
 
-/// What answers which node a directory has under a name.
+/// A method to look up the node that a directory has under a name.
 ///
-/// A clause sees with which maps it agrees: a map from the number of a directory and a name to the number
-/// of a node, as `find_entry` of a tree is one. What has kept earlier answers agrees with every map that
-/// gives the same ones.
+/// Contracts state the maps with which a lookup agrees. Such a map takes the number of a directory and a name to the
+/// number of a node, as `find_entry` of a tree does. A lookup with cached answers agrees with every map that gives the
+/// same answers.
 pub trait Lookup {
-    /// Whether its answers are those of a map.
+    /// Whether the answers of the lookup are those of a map.
     ghost agrees: { Self → (ℕ → List ℕ → Option ℕ) → Type 0 };
 
-    /// The number of the node that a directory has under a name.
+    /// Returns the number of the node that a directory has under a name.
     fn look(&mut self, tree: &Tree, directory: u16, name: &[u8]) -> Option<u16>
         requires directory { IsTrue (is_directory_at tree.now.tree directory) }
         requires agrees { agrees self.old (find_entry tree.now.tree) }
         ensures answer { result ≡ find_entry tree.now.tree directory name.now }
         ensures agrees { agrees self.new (find_entry tree.now.tree) };
 
-    /// Is told that a directory may from now on have another node under a name, or none.
+    /// Discards any cached answer for a name in a directory, whose entry may have changed.
     fn changed(&mut self, directory: u16, name: &[u8])
         ensures { (map other : ℕ → List ℕ → Option ℕ) → agrees self.old map → AlikeBut directory name.now map other → agrees self.new other };
 
-    /// It agrees with a map that answers as another does with which it agrees.
+    /// If a lookup agrees with a map, it agrees with every map that gives the same answers.
     ghost same_answers: { (lookup : Self) → (map other : ℕ → List ℕ → Option ℕ) → agrees lookup map → Alike map other → agrees lookup other };
 }
 
-/// A lookup that keeps nothing: it asks the tree each time.
+/// A lookup without a cache: it asks the tree each time.
 #[derive(Clone, Copy, Debug, PartialEq, Eq)]
 pub struct PlainLookup;
 

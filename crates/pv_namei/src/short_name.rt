@@ -1,12 +1,12 @@
-//! Names of at most 255 bytes, in place.
+//! Names of at most 255 bytes, stored inline.
 ghost use Rattle.std.specs.Prelude.{◌≡◌, ◌≤◌, [], length};
 
 use pv_model::limits::NAME_V2;
 use std::hash::{Hash, Hasher};
 use std::marker::Model;
 
-/// A name of at most 255 bytes. Setting another writes its bytes and no more, where an `ArrayVec` first writes a blank over
-/// each element that it had; and the bytes are hashed as one component.
+/// A name of at most 255 bytes. `set` writes only the bytes of the new name, while an `ArrayVec` would first clear each
+/// old element. The bytes are hashed as one slice.
 #[derive(Drop)]
 pub(crate) struct ShortName {
     bytes: [u8; NAME_V2],
@@ -23,7 +23,7 @@ impl Model for ShortName {
 }
 
 impl ShortName {
-    /// The name of no bytes.
+    /// Creates an empty name.
     pub(crate) fn empty() -> ShortName
         ensures { result ≡ [] }
     {
@@ -33,7 +33,7 @@ impl ShortName {
         }
     }
 
-    /// Becomes another name, which has at most 255 bytes.
+    /// Sets the name, which has at most 255 bytes.
     pub(crate) fn set(&mut self, name: &[u8])
         requires { length name.now ≤ NAME_V2 }
         ensures { self.new ≡ name.now }
@@ -42,7 +42,7 @@ impl ShortName {
         self.len = name.len() as u8;
     }
 
-    /// The bytes of the name.
+    /// Returns the bytes of the name.
     #[inline]
     pub(crate) fn as_slice(&self) -> &[u8]
         ensures { result.now ≡ self.now }

@@ -1,28 +1,28 @@
-//! Where the way along a path stops.
+//! The points at which a walk stops.
 ghost use Rattle.std.specs.Prelude.{◌≡◌};
 ghost use Rattle.pv_namei.specs.Onward.{place_of, IsShort};
 
 use pv_tree::PlaceRef;
 
-/// Where the way along a path stops.
+/// The point at which a walk of components stops.
 #[derive(Clone, Copy)]
 pub(crate) enum Stop<'a> {
-    /// Where the walk ends.
+    /// At the end of the walk.
     End(End<'a>),
-    /// Before a link that is followed: its number.
+    /// At a symbolic link that is followed. This is its number.
     Link(u16),
 }
 
-/// Where a walk ends, with no name of its own yet.
+/// The end of a walk, with a borrowed name.
 #[derive(Clone, Copy)]
 pub(crate) enum End<'a> {
-    /// An entry of a directory, whether or not it is there.
+    /// An entry of a directory, which may or may not exist.
     Named {
-        /// The directory's number.
+        /// The number of the directory.
         dir: u16,
-        /// The component that is the name in it.
+        /// The component that is the name.
         component: &'a [u8],
-        /// The node under the name, if there is one.
+        /// The node that has the name, if there is one.
         node: Option<u16>,
     },
     /// A node without a name.
@@ -30,7 +30,7 @@ pub(crate) enum End<'a> {
 }
 
 impl<'a> End<'a> {
-    /// The place, whose name stays where it stands.
+    /// Returns the place. It borrows the name.
     pub(crate) fn place(self) -> PlaceRef<'a>
         requires { IsShort self }
         ensures { result ≡ place_of self.entry }

@@ -1,4 +1,4 @@
-//! The walk along a path, step by step.
+//! The path walk, step by step.
 ghost use Rattle.std.specs.Prelude.{◌≡◌, ◌≤◌, ◌<◌, length, take, IsTrue, Some, IsSome, IfSome, OnOk, IfOk, IfErr};
 ghost use Rattle.pv_model.specs.Calls.Paths.{link_text};
 ghost use Rattle.pv_model.specs.Tree.{node_at, is_directory_at, find_entry, IsWellFormed};
@@ -15,24 +15,24 @@ use pv_model::limits::{LINKS, NAME_V2, PATH, ROOT};
 use pv_model::{Errno, Follow, Kind, Place};
 use pv_tree::{PlaceRef, Tree};
 
-/// A walk on its way. The components that it has still before it stand beside it.
+/// The state of a walk. The components that remain are passed separately.
 #[derive(Drop)]
 struct WalkState {
-    // Whether a link is followed that is the last component.
+    // Whether the last component is followed if it is a symbolic link.
     last: bool,
-    // How many links it may still follow.
+    // How many more symbolic links the walk may follow.
     links: usize,
-    // The directory that it has reached.
+    // The current directory of the walk.
     at: u16,
-    // Whether it has to end at a directory.
+    // Whether the walk must end at a directory.
     mark: bool,
 }
 
-// What a step gives: where the walk stops, or none where it goes on.
+// The result of a step: the point at which the walk stops, or `None` if it continues.
 type Step<'a> = Result<Option<Stop<'a>>, Errno>;
 
 impl WalkState {
-    // The walk of a path from a directory.
+    // Creates the state at the start of a walk.
     fn new(start: u16, path: &[u8], follow: Follow) -> WalkState
         ensures { result ≡ first_walk start path.now follow }
     {
@@ -44,7 +44,7 @@ impl WalkState {
         }
     }
 
-    // Goes on from what the directory has under a component: it stops there, or enters a directory.
+    // Continues from the entry of a component: it stops there, or enters a directory.
     fn enter<'a>(
         &mut self,
         tree: &Tree,
@@ -84,7 +84,7 @@ impl WalkState {
         }
     }
 
-    // Takes the first component.
+    // Resolves the first of the remaining components.
     fn step<'a, L: Lookup>(&mut self, tree: &Tree, lookup: &mut L, rest: &mut Along<'a>) -> Step<'a>
         requires well_formed { IsWellFormed tree.now.tree }
         requires directory { IsTrue (is_directory_at tree.now.tree self.old.at) }
@@ -108,7 +108,7 @@ impl WalkState {
         }
     }
 
-    // Goes along the components up to the end, or to the first link that is followed.
+    // Resolves components up to the end of the walk or the first link that is followed.
     fn go<'a, L: Lookup>(
         &mut self,
         tree: &Tree,
@@ -131,9 +131,9 @@ impl WalkState {
         }
     }
 
-    // Goes on after a link: along the components of its text and those that are left, from its directory or,
-    // where the text begins with a slash, from the root. ELOOP comes where no link is left, else
-    // ENAMETOOLONG where the components weigh more than 1,024.
+    // Continues after a symbolic link with the components of its target followed by those that remain. It starts from
+    // the directory of the link, or from the root if the target begins with a slash. Fails with ELOOP if no more links
+    // may be followed, otherwise with ENAMETOOLONG if the components weigh more than 1,024.
     fn follow(
         &mut self,
         tree: &Tree,
@@ -164,8 +164,8 @@ impl WalkState {
         Ok(())
     }
 
-    // Goes along the components of `from` to the end, which comes, or after a link: then `to` has the components
-    // that are left.
+    // Walks the components of `from` to the end and returns the place. If a link is followed, it returns `None`, and
+    // `to` has the components that remain.
     fn pass<L: Lookup>(
         &mut self,
         tree: &Tree,
@@ -192,8 +192,8 @@ impl WalkState {
         }
     }
 
-    // Goes on after the first link, to the end. Two buffers take turns: along one the walk goes, and the
-    // other takes what the next link leaves to walk.
+    // Continues from the first link to the end. Two buffers alternate: the walk reads one, and the other receives the
+    // components that remain after the next link.
     fn go_after<L: Lookup>(
         &mut self,
         tree: &Tree,
@@ -222,8 +222,9 @@ impl WalkState {
         }
     }
 
-    // The same, where the name of the place stands in `following`. Its locals are large, and each function pays at entry for
-    // its own: so it stands apart from what a walk without links goes through.
+    // Does the same as `go_after` and stores the place in `following`, whose name the result borrows. It is a separate
+    // function because its locals are large and a function initializes its locals at entry: a walk without links does
+    // not pay for them.
     #[inline(never)]
     fn place_after<'a, L: Lookup>(
         &mut self,
@@ -248,7 +249,7 @@ impl WalkState {
     }
 }
 
-// Reads a link's text to the front of the buffer, and answers how long it is.
+// Copies the target of a link to the front of the buffer, and returns its length.
 fn read_link(tree: &Tree, link: u16, buffer: &mut [u8; PATH]) -> usize
     requires well_formed { IsWellFormed tree.now.tree }
     requires link { IsSome (link_text (node_at tree.now.tree link)) }
@@ -258,14 +259,14 @@ fn read_link(tree: &Tree, link: u16, buffer: &mut [u8; PATH]) -> usize
     tree.read_at(link, 0, buffer)
 }
 
-// Whether a link that is the last component is followed.
+// Returns whether the last component is followed if it is a symbolic link.
 fn follows_last(follow: Follow) -> bool
     ensures { result ≡ follows_last follow }
 {
     matches!(follow, Follow::Last)
 }
 
-// Whether a walk has to end at a directory.
+// Returns whether a walk must end at a directory.
 fn end_mark(follow: Follow, path: &[u8]) -> bool
     ensures { result ≡ end_mark follow path.now }
 {
@@ -275,13 +276,17 @@ fn end_mark(follow: Follow, path: &[u8]) -> bool
     }
 }
 
-/// The place that a path names from a directory, symlink(7).
+/// Returns the place that a path names from a directory, symlink(7). If the last component does not exist and no slash
+/// follows it, the place is the entry that could be created.
 ///
-/// An empty path is ENOENT, and one of more than 1,023 bytes ENAMETOOLONG. A component that is longer than a
-/// name may be is ENAMETOOLONG. Nothing there is ENOENT, unless it is the last component of a path with no slash
-/// after it: that is a place too. A file with more after it, if only a slash, is ENOTDIR. In a removed directory `..` and
-/// each name is ENOENT. The 33rd link is ELOOP, and where a link leaves components that weigh more than 1,024,
-/// each with a slash after it, it is ENAMETOOLONG.
+/// # Errors
+///
+/// - ENOENT: the path is empty; a component does not exist, unless it is the last one and no slash follows it; or the
+///   component is `..` or a name in a removed directory.
+/// - ENAMETOOLONG: the path has more than 1,023 bytes; a component exceeds the maximum length of a name; or the
+///   components that remain after a link, each with a slash after it, exceed 1,024 bytes.
+/// - ENOTDIR: a file is followed by more of the path, even if only by a slash.
+/// - ELOOP: the path leads to a 33rd symbolic link.
 pub fn resolve<L: Lookup>(
     tree: &Tree,
     lookup: &mut L,
@@ -301,8 +306,8 @@ pub fn resolve<L: Lookup>(
     }
 }
 
-/// The same, with the name of the place where it stands: in the path, or, where a link was followed, in `following`, which
-/// then has the place.
+/// Does the same as `resolve` without copying the name. The name of the place is borrowed from the path, or, if a link
+/// was followed, from `following`, which then contains the place.
 pub fn resolve_ref<'a, L: Lookup>(
     tree: &Tree,
     lookup: &mut L,
@@ -322,7 +327,7 @@ pub fn resolve_ref<'a, L: Lookup>(
     if path.len() > PATH {
         return Err(Errno::ENAMETOOLONG);
     }
-    // What its sizes tell with them: every tree is well-formed.
+    // The contract of `invariant` shows that every tree is well-formed.
     tree.invariant();
     let mut walk = WalkState::new(start, path, follow);
     let mut rest = Along::new(path);

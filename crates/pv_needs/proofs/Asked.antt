@@ -1,4 +1,4 @@
--- What a step asks, by what was fetched and answered.
+-- The demand of a step, by the fetched instruction and the answer.
 use Rattle.std.proofs.Common.{◌≡◌, ◌∙◌, ◌⊎◌, ⊎_elim, ℕ, zero, suc, ◌≤◌, ◌-◌, Bool, true, false, cond, List, [], ◌∷◌, length, take, nat_le, slice_get, Option, None, Some, refl, sym, ap, ap₂, subst, arith}
 use Rattle.std.specs.List.{cons_option, filter_map}
 use Rattle.std.proofs.lemmas.Bool.{le-leb}
@@ -21,18 +21,18 @@ use Rattle.pv_procs.specs.declared.processes.Fetched.{Fetched}
 use Rattle.pv_procs.specs.declared.processes.Fetched.TheVariants.{Gone, Register}
 use Rattle.pv_procs.specs.Turns.{IsFetched, RegisterNext}
 use Rattle.pv_script.specs.Context.{is_some_on_registers}
-use Rattle.pv_needs.specs.declared.stints.JudgedWalks.{JudgedWalks}
+use Rattle.pv_needs.specs.declared.process_images.JudgedWalks.{JudgedWalks}
 use Rattle.pv_needs.specs.Asking.{ends_before, ends_of, judged_begun}
-use Rattle.pv_needs.specs.Stints.{first_walks, judged_in}
+use Rattle.pv_needs.specs.ProcessImages.{first_walks, judged_in}
 
--- ---- the walks that are judged
+-- ---- the checked walks
 
 take-none : {X : Type 0} (n : ℕ) → take {A = X} n [] ≡ []
 take-none zero = refl
 take-none (suc n) = refl
 
 module _ (s : State) (pid : ℕ) (p : Process) where
-  -- the first walks of a list end where they end
+  -- the first walks of a list end where `Ends` says
   abbrev EndsBegun : List Walk → ℕ → Type 0
   EndsBegun ws n = (k : ℕ) (w : Walk) → walk_number ws k ≡ Some w → k ≤ n → end_begun s pid p w ≡ place_found (end_of s p w)
 
@@ -89,7 +89,7 @@ walks-short (Rmdir path) = omega arith
 walks-short (Rename path new) = omega arith
 walks-short _ = omega arith
 
--- what the walks that a call began ask is told before it
+-- the demands of the walks that a call began are known before the call
 walks-asked : (s : State) (pid : ℕ) (p : Process) (call : Call) → process_at s pid ≡ Some p
     → judged_in (first_walks (ends_before s pid p call) (answer program_of s pid call).walks) ≡ judged_walks s p call (answer program_of s pid call).walks
 walks-asked s pid p call at = by (is_unveil call) ∙ sym (by-unveil s pid p call n)
@@ -105,7 +105,7 @@ walks-asked s pid p call at = by (is_unveil call) ∙ sym (by-unveil s pid p cal
 -- ---- a step
 
 module _ (s : State) (pid : ℕ) where
-  -- of a process that is not live
+  -- a step of a process that is not live
   pub asks-gone : process_at s pid ≡ None → asked program_of s pid ≡ None
   unfolding asked
   asks-gone none = ap (asked_of program_of s pid) none
@@ -123,32 +123,32 @@ module _ (s : State) (pid : ℕ) where
   inside-next p (Some (Line.JumpIfNegative r line)) is = refl
   inside-next p (Some _) is = cc is
 
-  -- on registers
+  -- a step on registers
   pub asks-inside : RegisterNext (process_at s pid) → asked program_of s pid ≡ None
   unfolding asked
   asks-inside at = ap (asked_of program_of s pid) at.1 ∙ inside-next at.0 (slice_get at.0.program (at.0.line - 1)) at.2
 
-  -- of neither
+  -- a step without a call
   pub asks-nothing : (f : Fetched) → (f ≡ Register) ⊎ (f ≡ Gone) → IsFetched f (process_at s pid) → asked program_of s pid ≡ None
   asks-nothing f which is =
       ⊎_elim (λ register. asks-inside (subst (λ (x : Fetched). IsFetched x (process_at s pid)) register is))
       (λ gone. asks-gone (subst (λ (x : Fetched). IsFetched x (process_at s pid)) gone is)) which
 
-  -- that makes a call
+  -- a step that makes a call
   module _ (p : Process) (call : Call) (at : process_at s pid ≡ Some p) (comes : next p ≡ calls_for call) where
     asks-next : asked program_of s pid ≡ Some (asked_by s p call (answer program_of s pid call))
     unfolding asked
     asks-next = ap (asked_of program_of s pid) at ∙ ap (asked_next program_of s pid p) comes
 
-    same-asked : (x y : Asked) → x.line ≡ y.line → x.promises ≡ y.promises → x.walks ≡ y.walks → x.ends_stint ≡ y.ends_stint → x ≡ y
+    same-asked : (x y : Asked) → x.line ≡ y.line → x.promises ≡ y.promises → x.walks ≡ y.walks → x.ends_process_image ≡ y.ends_process_image → x ≡ y
     same-asked x y a b c d =
-        ap (λ v. let it : Asked = record { line = v; promises = x.promises; walks = x.walks; ends_stint = x.ends_stint } in it) a
-        ∙ ap (λ v. let it : Asked = record { line = y.line; promises = v; walks = x.walks; ends_stint = x.ends_stint } in it) b
-        ∙ ap (λ v. let it : Asked = record { line = y.line; promises = y.promises; walks = v; ends_stint = x.ends_stint } in it) c
-        ∙ ap (λ v. let it : Asked = record { line = y.line; promises = y.promises; walks = y.walks; ends_stint = v } in it) d
+        ap (λ v. let it : Asked = record { line = v; promises = x.promises; walks = x.walks; ends_process_image = x.ends_process_image } in it) a
+        ∙ ap (λ v. let it : Asked = record { line = y.line; promises = v; walks = x.walks; ends_process_image = x.ends_process_image } in it) b
+        ∙ ap (λ v. let it : Asked = record { line = y.line; promises = y.promises; walks = v; ends_process_image = x.ends_process_image } in it) c
+        ∙ ap (λ v. let it : Asked = record { line = y.line; promises = y.promises; walks = y.walks; ends_process_image = v } in it) d
 
     pub asks-call : (a : Answered) → answer program_of s pid call ≡ a → (now : Asked) → now.line ≡ p.line → now.promises ≡ promises_needed call
-        → now.walks ≡ judged_in (first_walks (ends_before s pid p call) a.walks) → now.ends_stint ≡ begins_program call a.outcome → asked program_of s pid ≡ Some now
+        → now.walks ≡ judged_in (first_walks (ends_before s pid p call) a.walks) → now.ends_process_image ≡ begins_program call a.outcome → asked program_of s pid ≡ Some now
     asks-call a is now line promises walks ends =
         asks-next
         ∙ sym (ap Some (same-asked now (asked_by s p call (answer program_of s pid call)) line promises

@@ -1,14 +1,14 @@
--- What the calls of a run ask, one step more.
+-- The demands of a run, with one more step.
 use Rattle.std.proofs.Common.{◌≡◌, ◌∙◌, ℕ, zero, suc, ◌+◌, ◌<◌, List, [], ◌∷◌, ◌++◌, length, length-append, take, get_or, append_assoc, add-one, refl, sym, ap, subst, Option, None, Some}
 use Rattle.std.specs.Prelude.{replicate}
 use Rattle.std.proofs.lemmas.List.{append-nil}
-use Rattle.pv_model.specs.Answers.Needs.{Asked, and_asked, asked, asked_in, stints}
+use Rattle.pv_model.specs.Answers.Needs.{Asked, and_asked, asked, asked_in, process_images}
 use Rattle.pv_model.specs.Grammar.Programs.{program_of}
 use Rattle.pv_model.specs.State.{State}
 use Rattle.pv_model.specs.Step.{Schedule, run, step, steps_of}
 use Rattle.pv_needs.specs.Asking.{IsMoreBy}
-use Rattle.pv_needs.specs.Stints.{KeptStint, Keeps}
-use Rattle.pv_needs.proofs.KeptStints.{keeps-more}
+use Rattle.pv_needs.specs.ProcessImages.{RecordedImage, Keeps}
+use Rattle.pv_needs.proofs.RecordedImages.{keeps-more}
 use Rattle.pv_session.specs.Running.{run_of_first, turn}
 use Rattle.pv_session.proofs.Turns.{steps_more}
 
@@ -16,7 +16,7 @@ and-append : (pid : ℕ) (o : Option Asked) (xs ys : List (ℕ × Asked)) → an
 and-append pid None xs ys = refl
 and-append pid (Some now) xs ys = refl
 
--- a run, and another after it
+-- a run, followed by another
 asked-append : (pids others : List ℕ) (s : State) → asked_in program_of (pids ++ others) s ≡ asked_in program_of pids s ++ asked_in program_of others (run program_of pids s).final
 asked-append [] others s = refl
 asked-append (pid ∷ pids) others s =
@@ -24,50 +24,50 @@ asked-append (pid ∷ pids) others s =
     ap (and_asked program_of pid (asked program_of s pid)) (asked-append pids others after)
     ∙ and-append pid (asked program_of s pid) (asked_in program_of pids after) (asked_in program_of others (run program_of pids after).final)
 
--- what is kept, after a step more
-keeps-step : (old new : List (List KeptStint)) (all : List (ℕ × Asked)) (pid : ℕ) (o : Option Asked) → Keeps old all → IsMoreBy old pid o new → Keeps new (all ++ and_asked program_of pid o [])
-keeps-step old new all pid None keeps more = subst (Keeps new) (sym (append-nil all)) (subst (λ (k : List (List KeptStint)). Keeps k all) (sym more) keeps)
+-- the records after one more step
+keeps-step : (old new : List (List RecordedImage)) (all : List (ℕ × Asked)) (pid : ℕ) (o : Option Asked) → Keeps old all → IsMoreBy old pid o new → Keeps new (all ++ and_asked program_of pid o [])
+keeps-step old new all pid None keeps more = subst (Keeps new) (sym (append-nil all)) (subst (λ (k : List (List RecordedImage)). Keeps k all) (sym more) keeps)
 keeps-step old new all pid (Some now) keeps more = keeps-more old new all pid now keeps more
 
 replicate-more : (n pid : ℕ) → replicate (suc n) pid ≡ replicate n pid ++ pid ∷ []
 replicate-more zero pid = refl
 replicate-more (suc n) pid = ap (λ xs. pid ∷ xs) (replicate-more n pid)
 
--- a step more of a turn
-pub keeps-turn : (s mid : State) (pid n : ℕ) (first old new : List (List KeptStint)) → mid ≡ (turn s pid n).final
+-- one more step of a turn
+pub keeps-turn : (s mid : State) (pid n : ℕ) (first old new : List (List RecordedImage)) → mid ≡ (turn s pid n).final
     → ((all : List (ℕ × Asked)) → Keeps first all → Keeps old (all ++ asked_in program_of (replicate n pid) s))
     → IsMoreBy old pid (asked program_of mid pid) new
     → (all : List (ℕ × Asked)) → Keeps first all → Keeps new (all ++ asked_in program_of (replicate (n + 1) pid) s)
-keeps-turn s mid pid n first old new at kept more all keeps =
+keeps-turn s mid pid n first old new at recorded more all keeps =
     subst (Keeps new)
     (append_assoc all (asked_in program_of (replicate n pid) s) (and_asked program_of pid (asked program_of mid pid) [])
     ∙ ap (λ (xs : List (ℕ × Asked)). all ++ xs)
     (ap (λ t. asked_in program_of (replicate n pid) s ++ asked_in program_of (pid ∷ []) t) at
     ∙ sym (asked-append (replicate n pid) (pid ∷ []) s) ∙ ap (λ pids. asked_in program_of pids s) (sym (replicate-more n pid) ∙ ap (λ k. replicate k pid) (sym (add-one n)))))
-    (keeps-step old new (all ++ asked_in program_of (replicate n pid) s) pid (asked program_of mid pid) (kept all keeps) more)
+    (keeps-step old new (all ++ asked_in program_of (replicate n pid) s) pid (asked program_of mid pid) (recorded all keeps) more)
 
--- a turn more of a schedule
-pub keeps-schedule : (s mid : State) (schedule : Schedule) (i : ℕ) (old new : List (List KeptStint)) → i < length schedule → mid ≡ (run_of_first s i schedule).final
+-- one more turn of a schedule
+pub keeps-schedule : (s mid : State) (schedule : Schedule) (i : ℕ) (old new : List (List RecordedImage)) → i < length schedule → mid ≡ (run_of_first s i schedule).final
     → Keeps old (asked_in program_of (steps_of (take i schedule)) s)
     → ((all : List (ℕ × Asked)) → Keeps old all → Keeps new (all ++ asked_in program_of (replicate (get_or schedule i (0, 0)).1 (get_or schedule i (0, 0)).0) mid))
     → Keeps new (asked_in program_of (steps_of (take (i + 1) schedule)) s)
-keeps-schedule s mid schedule i old new within at kept more =
+keeps-schedule s mid schedule i old new within at recorded more =
     let entry = get_or schedule i (0, 0) in
     subst (Keeps new)
     (ap (λ t. asked_in program_of (steps_of (take i schedule)) s ++ asked_in program_of (replicate entry.1 entry.0) t) at
     ∙ sym (asked-append (steps_of (take i schedule)) (replicate entry.1 entry.0) s) ∙ ap (λ pids. asked_in program_of pids s) (sym (steps_more schedule i within)))
-    (more (asked_in program_of (steps_of (take i schedule)) s) kept)
+    (more (asked_in program_of (steps_of (take i schedule)) s) recorded)
 
--- before the first step
+-- the records before the first step
 pub keeps-none : Keeps [] []
-unfolding stints
+unfolding process_images
 keeps-none pid = refl
 
 length-replicate : (n pid : ℕ) → length (replicate n pid) ≡ n
 length-replicate zero pid = refl
 length-replicate (suc n) pid = ap suc (length-replicate n pid)
 
--- the steps of a turn more
+-- the steps of one more turn
 pub steps-longer : (schedule : Schedule) (i : ℕ) → i < length schedule
     → length (steps_of (take (i + 1) schedule)) ≡ length (steps_of (take i schedule)) + (get_or schedule i (0, 0)).1
 steps-longer schedule i within =

@@ -1,11 +1,11 @@
--- How long stints are.
+-- Bounds of process images.
 use Rattle.std.proofs.Common.{◌≡◌, ℕ, suc, ◌+◌, ◌*◌, ◌≤◌, Bool, true, false, cond, List, [], ◌∷◌, length, map, sym, ap, subst, ◌∙◌, length-append, arith}
 use Rattle.std.specs.Prelude.{◌==◌}
 use Rattle.std.specs.List.{AllByRecursion, filter}
 use Rattle.std.proofs.lemmas.List.{length-map}
-use Rattle.pv_model.specs.Answers.Needs.{Asked, Judged, asked_by_one, onto_stint, stints, walks_judged}
+use Rattle.pv_model.specs.Answers.Needs.{Asked, Judged, asked_by_one, onto_process_image, process_images, walks_judged}
 
--- what passes a test is no more
+-- a filtered list is not longer
 pub filter-fewer : {X : Type 0} (p : X → Bool) (xs : List X) → length (filter p xs) ≤ length xs
 filter-fewer p [] = omega arith
 filter-fewer p (x ∷ xs) = by (p x) (filter-fewer p xs)
@@ -14,25 +14,25 @@ filter-fewer p (x ∷ xs) = by (p x) (filter-fewer p xs)
     by true few = omega arith
     by false few = omega arith
 
--- so many calls and walks at most
-pub record AreFew (calls walks : ℕ) (stint : List Asked) : Type 0 where
-  pub few_calls : length stint ≤ calls
-  pub few_walks : length (walks_judged stint) ≤ walks
+-- there are at most this many calls and walks
+pub record AreFew (calls walks : ℕ) (process_image : List Asked) : Type 0 where
+  pub few_calls : length process_image ≤ calls
+  pub few_walks : length (walks_judged process_image) ≤ walks
 
 abbrev pub Each : ℕ → ℕ → List (List Asked) → Type 0
 Each calls walks all = AllByRecursion (AreFew calls walks) all
 
 more : (calls walks k n : ℕ) (all : List (List Asked)) → calls ≤ k → walks ≤ n → Each calls walks all → Each k n all
 more calls walks k n [] far wide each = tt
-more calls walks k n (stint ∷ rest) far wide each =
+more calls walks k n (process_image ∷ rest) far wide each =
     (record { few_calls = omega (arith, each.0.few_calls, far); few_walks = omega (arith, each.0.few_walks, wide) }, more calls walks k n rest far wide each.1)
 
-walks-onto : (now : Asked) (stint : List Asked) → length (walks_judged (now ∷ stint)) ≡ length now.walks + length (walks_judged stint)
-walks-onto now stint = length-append (map (λ w. (now.line, w)) now.walks) (walks_judged stint) ∙ ap (λ n. n + length (walks_judged stint)) (length-map now.walks (λ (w : Judged). (now.line, w)))
+walks-onto : (now : Asked) (process_image : List Asked) → length (walks_judged (now ∷ process_image)) ≡ length now.walks + length (walks_judged process_image)
+walks-onto now process_image = length-append (map (λ w. (now.line, w)) now.walks) (walks_judged process_image) ∙ ap (λ n. n + length (walks_judged process_image)) (length-map now.walks (λ (w : Judged). (now.line, w)))
 
-each-onto : (now : Asked) (calls walks : ℕ) (all : List (List Asked)) → Each calls walks all → Each (suc calls) (length now.walks + walks) (onto_stint now all)
+each-onto : (now : Asked) (calls walks : ℕ) (all : List (List Asked)) → Each calls walks all → Each (suc calls) (length now.walks + walks) (onto_process_image now all)
 each-onto now calls walks [] each = (record { few_calls = omega arith; few_walks = rw (walks-onto now []) (omega arith) }, tt)
-each-onto now calls walks (stint ∷ rest) each = by now.ends_stint
+each-onto now calls walks (process_image ∷ rest) each = by now.ends_process_image
   where
     alone : AreFew (suc calls) (length now.walks + walks) (now ∷ [])
     alone = record { few_calls = omega arith; few_walks = rw (walks-onto now []) (omega arith) }
@@ -40,22 +40,22 @@ each-onto now calls walks (stint ∷ rest) each = by now.ends_stint
     later : Each (suc calls) (length now.walks + walks) rest
     later = more calls walks (suc calls) (length now.walks + walks) rest (omega arith) (omega arith) each.1
 
-    same : AreFew (suc calls) (length now.walks + walks) stint
+    same : AreFew (suc calls) (length now.walks + walks) process_image
     same = record { few_calls = omega (arith, each.0.few_calls); few_walks = omega (arith, each.0.few_walks) }
 
-    longer : AreFew (suc calls) (length now.walks + walks) (now ∷ stint)
-    longer = record { few_calls = omega (arith, each.0.few_calls); few_walks = rw (walks-onto now stint) (omega (arith, each.0.few_walks)) }
+    longer : AreFew (suc calls) (length now.walks + walks) (now ∷ process_image)
+    longer = record { few_calls = omega (arith, each.0.few_calls); few_walks = rw (walks-onto now process_image) (omega (arith, each.0.few_walks)) }
 
-    by : (b : Bool) → Each (suc calls) (length now.walks + walks) (cond b ((now ∷ []) ∷ stint ∷ rest) ((now ∷ stint) ∷ rest))
+    by : (b : Bool) → Each (suc calls) (length now.walks + walks) (cond b ((now ∷ []) ∷ process_image ∷ rest) ((now ∷ process_image) ∷ rest))
     by true = (alone, (same, later))
     by false = (longer, later)
 
--- a stint is no longer than all
-pub stints-few : (all : List Asked) → Each (length all) (length (walks_judged all)) (stints all)
-unfolding stints
-stints-few [] = tt
-stints-few (now ∷ rest) =
-    subst (λ n. Each (suc (length rest)) n (onto_stint now (stints rest))) (sym (walks-onto now rest)) (each-onto now (length rest) (length (walks_judged rest)) (stints rest) (stints-few rest))
+-- no process image is longer than the whole run
+pub process_images-few : (all : List Asked) → Each (length all) (length (walks_judged all)) (process_images all)
+unfolding process_images
+process_images-few [] = tt
+process_images-few (now ∷ rest) =
+    subst (λ n. Each (suc (length rest)) n (onto_process_image now (process_images rest))) (sym (walks-onto now rest)) (each-onto now (length rest) (length (walks_judged rest)) (process_images rest) (process_images-few rest))
 
 -- ---- the calls of one process
 
@@ -77,11 +77,11 @@ of-one pid (a ∷ all) each = by (a.0 == pid) (of-one pid all each.1)
 one-few : (pid : ℕ) (all : List (ℕ × Asked)) → length (asked_by_one all pid) ≤ length all
 one-few pid all = subst (λ n. n ≤ length all) (sym (length-map (filter (λ a. a.0 == pid) all) (λ (a : ℕ × Asked). a.1))) (filter-fewer (λ (a : ℕ × Asked). a.0 == pid) all)
 
--- each stint of a process has few calls and walks, where all its calls are few
+-- each process image has few calls and walks, if each call has few walks
 pub each-few : (pid : ℕ) (all : List (ℕ × Asked)) (most : ℕ) → AllByRecursion (λ (a : ℕ × Asked). length a.1.walks ≤ 2) all → 2 * length all ≤ most
-    → Each most most (stints (asked_by_one all pid))
+    → Each most most (process_images (asked_by_one all pid))
 each-few pid all most each within =
     let mine = asked_by_one all pid in
     let few : length mine ≤ length all = one-few pid all in
     let walks : length (walks_judged mine) ≤ 2 * length mine = walks-few mine (of-one pid all each) in
-    more (length mine) (length (walks_judged mine)) most most (stints mine) (omega arith) (omega arith) (stints-few mine)
+    more (length mine) (length (walks_judged mine)) most most (process_images mine) (omega arith) (omega arith) (process_images-few mine)

@@ -1,4 +1,4 @@
--- What is kept, as it stands in lists by index.
+-- The records in lists, by index.
 use Rattle.std.proofs.Common.{◌≡◌, ◌∙◌, ℕ, zero, suc, ◌+◌, ◌-◌, ◌<◌, Bool, true, false, cond, List, [], ◌∷◌, ◌++◌, length, take, get_or, slice_get, slice_set, Option, None, Some, option_map, refl, sym, ap, ap₂, subst, add-one, arith}
 use Rattle.std.specs.List.{cons_option, list_any, position_from}
 use Rattle.std.specs.Prelude.{◌==◌, option_to_list}
@@ -7,13 +7,13 @@ use Rattle.std.proofs.lemmas.Iterator.Adapters.{position_from-zero}
 use Rattle.std.proofs.lemmas.List.Quantifiers.{position-Some}
 use Rattle.pv_model.specs.declared.promise.Promise.{Promise}
 use Rattle.pv_model.specs.Answers.Needs.{Asked, Judged, same_judged, same_promise}
-use Rattle.pv_needs.specs.declared.stints.KeptTarget.{KeptTarget}
-use Rattle.pv_needs.specs.declared.stints.Times.{Times}
-use Rattle.pv_needs.specs.Stints.{KeptStint, IsProcessMore, call_more, first_walk, index_of, nothing_asked, once_more, open_at, process_more, promise_more, promises_more, stints_at, target_more, unless, walk_more, walks_more}
+use Rattle.pv_needs.specs.declared.process_images.RecordedTarget.{RecordedTarget}
+use Rattle.pv_needs.specs.declared.process_images.Times.{Times}
+use Rattle.pv_needs.specs.ProcessImages.{RecordedImage, IsProcessMore, call_more, first_walk, index_of, nothing_asked, once_more, open_at, process_more, promise_more, promises_more, process_images_at, target_more, unless, walk_more, walks_more}
 
 -- ---- promises
 
--- after the counts of the first promises, that of the next
+-- the count of the next promise follows those of the earlier ones
 pub promises-step : (ps : List Promise) (ts : List Times) (needed : List Promise) (line k : ℕ) (p : Promise) (t : Times) → k < length ps → k < length ts
     → promises_more (take (k + 1) ps) ts needed line
     ≡ slice_set (promises_more (take k ps) ts needed line) k (promise_more (get_or ps k p) (get_or (promises_more (take k ps) ts needed line) k t) needed line)
@@ -32,7 +32,7 @@ set-same [] k d = refl
 set-same (x ∷ xs) zero d = refl
 set-same (x ∷ xs) (suc k) d = ap (λ ys. x ∷ ys) (set-same xs k d)
 
--- where a promise was needed its count is another, and else none is
+-- the count of a promise changes exactly if the promise was needed
 pub promise-next : (ps : List Promise) (ts : List Times) (needed : List Promise) (line k : ℕ) (p : Promise) (t : Times) (now next : List Times) (b : Bool)
     → now ≡ promises_more (take k ps) ts needed line → k < length ps → k < length ts → b ≡ list_any (same_promise (get_or ps k p)) needed
     → next ≡ cond b (slice_set now k (once_more (get_or now k t) line)) now → next ≡ promises_more (take (k + 1) ps) ts needed line
@@ -49,54 +49,54 @@ promise-next ps ts needed line k p t now next b at within inside is on =
 -- ---- walks
 
 module _ (line : ℕ) (w : Judged) where
-  walk-at : (ts : List KeptTarget) (k : ℕ) (d : KeptTarget) → k < length ts → same_judged (get_or ts k d).judged w ≡ true
+  walk-at : (ts : List RecordedTarget) (k : ℕ) (d : RecordedTarget) → k < length ts → same_judged (get_or ts k d).judged w ≡ true
       → ((j : ℕ) → j < k → same_judged (get_or ts j d).judged w ≡ false) → walk_more ts line w ≡ slice_set ts k (target_more (get_or ts k d) line w.permissions)
   walk-at [] k d within here before = absurd (omega arith)
   walk-at (t ∷ ts) zero d within here before =
       ap (λ (b : Bool). cond b (target_more t line w.permissions ∷ ts) (t ∷ walk_more ts line w)) here
   walk-at (t ∷ ts) (suc k) d within here before =
       ap (λ (b : Bool). cond b (target_more t line w.permissions ∷ ts) (t ∷ walk_more ts line w)) (before 0 (omega arith))
-      ∙ ap (λ (xs : List KeptTarget). t ∷ xs) (walk-at ts k d (omega arith) here (λ j below. before (suc j) (omega arith)))
+      ∙ ap (λ (xs : List RecordedTarget). t ∷ xs) (walk-at ts k d (omega arith) here (λ j below. before (suc j) (omega arith)))
 
-  pub walk-there : (ts : List KeptTarget) (k : ℕ) (d : KeptTarget) → index_of ts w ≡ Some k
+  pub walk-there : (ts : List RecordedTarget) (k : ℕ) (d : RecordedTarget) → index_of ts w ≡ Some k
       → (k < length ts) × (walk_more ts line w ≡ slice_set ts k (target_more (get_or ts k d) line w.permissions))
   walk-there ts k d is =
-      let found = position-Some (λ (target : KeptTarget). same_judged target.judged w) ts k d is in
+      let found = position-Some (λ (target : RecordedTarget). same_judged target.judged w) ts k d is in
       (found.0, walk-at ts k d found.0 found.1 found.2)
 
-  walk-none : (ts : List KeptTarget) (n : ℕ) → position_from (λ (target : KeptTarget). same_judged target.judged w) n ts ≡ None
+  walk-none : (ts : List RecordedTarget) (n : ℕ) → position_from (λ (target : RecordedTarget). same_judged target.judged w) n ts ≡ None
       → walk_more ts line w ≡ ts ++ first_walk line w ∷ []
   walk-none [] n none = refl
   walk-none (t ∷ ts) n none = by (same_judged t.judged w) none (walk-none ts (n + 1))
     where
-      by : (b : Bool) → cond b (Some n) (position_from (λ (target : KeptTarget). same_judged target.judged w) (n + 1) ts) ≡ None
-          → (position_from (λ (target : KeptTarget). same_judged target.judged w) (n + 1) ts ≡ None → walk_more ts line w ≡ ts ++ first_walk line w ∷ [])
+      by : (b : Bool) → cond b (Some n) (position_from (λ (target : RecordedTarget). same_judged target.judged w) (n + 1) ts) ≡ None
+          → (position_from (λ (target : RecordedTarget). same_judged target.judged w) (n + 1) ts ≡ None → walk_more ts line w ≡ ts ++ first_walk line w ∷ [])
           → cond b (target_more t line w.permissions ∷ ts) (t ∷ walk_more ts line w) ≡ t ∷ (ts ++ first_walk line w ∷ [])
       by true is rest = absurd (cc)
-      by false is rest = ap (λ (xs : List KeptTarget). t ∷ xs) (rest is)
+      by false is rest = ap (λ (xs : List RecordedTarget). t ∷ xs) (rest is)
 
-  pub walk-new : (ts : List KeptTarget) → index_of ts w ≡ None → walk_more ts line w ≡ ts ++ first_walk line w ∷ []
-  walk-new ts none = walk-none ts 0 (sym (position_from-zero (λ (target : KeptTarget). same_judged target.judged w) ts) ∙ none)
+  pub walk-new : (ts : List RecordedTarget) → index_of ts w ≡ None → walk_more ts line w ≡ ts ++ first_walk line w ∷ []
+  walk-new ts none = walk-none ts 0 (sym (position_from-zero (λ (target : RecordedTarget). same_judged target.judged w) ts) ∙ none)
 
--- two walks, one after the other
-pub both-walks : (ts : List KeptTarget) (line : ℕ) (first second : Option Judged)
+-- two walks in sequence
+pub both-walks : (ts : List RecordedTarget) (line : ℕ) (first second : Option Judged)
     → walks_more (walks_more ts line (option_to_list first)) line (option_to_list second) ≡ walks_more ts line (cons_option first (cons_option second []))
 both-walks ts line None None = refl
 both-walks ts line None (Some w) = refl
 both-walks ts line (Some v) None = refl
 both-walks ts line (Some v) (Some w) = refl
 
--- ---- stints
+-- ---- process images
 
-last-one : KeptStint → List KeptStint → KeptStint
+last-one : RecordedImage → List RecordedImage → RecordedImage
 last-one s [] = s
 last-one s (t ∷ rest) = last-one t rest
 
-record EndsIn (s : KeptStint) (rest : List KeptStint) (n : ℕ) (last : KeptStint) : Type 0 where
+record EndsIn (s : RecordedImage) (rest : List RecordedImage) (n : ℕ) (last : RecordedImage) : Type 0 where
   there : slice_get (s ∷ rest) n ≡ Some last
   opened : open_at (s ∷ rest) ≡ unless last.ended n
 
-ends-in : (s : KeptStint) (rest : List KeptStint) → (last : KeptStint) × EndsIn s rest (length rest) last
+ends-in : (s : RecordedImage) (rest : List RecordedImage) → (last : RecordedImage) × EndsIn s rest (length rest) last
 ends-in s [] = (s, record { there = refl; opened = refl })
 ends-in s (t ∷ rest) =
     let more = ends-in t rest in
@@ -106,8 +106,8 @@ ends-in s (t ∷ rest) =
     suc_unless true n = refl
     suc_unless false n = refl
 
--- by the last one, where there is one
-pub open-last : (stints : List KeptStint) (last : KeptStint) → slice_get stints (length stints - 1) ≡ Some last → open_at stints ≡ unless last.ended (length stints - 1)
+-- the last process image, if there is one
+pub open-last : (process_images : List RecordedImage) (last : RecordedImage) → slice_get process_images (length process_images - 1) ≡ Some last → open_at process_images ≡ unless last.ended (length process_images - 1)
 open-last [] last is = absurd (cc)
 open-last (s ∷ rest) last is =
     let ends = ends-in s rest in
@@ -115,9 +115,9 @@ open-last (s ∷ rest) last is =
     let here : slice_get (s ∷ rest) (length rest) ≡ Some last = subst (λ n. slice_get (s ∷ rest) n ≡ Some last) at is in
     let there = ends.1.there in
     let same : ends.0 ≡ last = cc in
-    ends.1.opened ∙ ap₂ (λ (t : KeptStint) (n : ℕ). unless t.ended n) same (sym at)
+    ends.1.opened ∙ ap₂ (λ (t : RecordedImage) (n : ℕ). unless t.ended n) same (sym at)
 
-pub open-none : (stints : List KeptStint) → slice_get stints (length stints - 1) ≡ None → open_at stints ≡ None
+pub open-none : (process_images : List RecordedImage) → slice_get process_images (length process_images - 1) ≡ None → open_at process_images ≡ None
 open-none [] is = refl
 open-none (s ∷ rest) is =
     let ends = ends-in s rest in
@@ -127,15 +127,15 @@ open-none (s ∷ rest) is =
     absurd (cc)
 
 module _ (now : Asked) where
-  on-one : (s : KeptStint) (b : Bool) (k : ℕ) (d : KeptStint) → unless b 0 ≡ Some k
+  on-one : (s : RecordedImage) (b : Bool) (k : ℕ) (d : RecordedImage) → unless b 0 ≡ Some k
       → (k < 1) × (cond b (s ∷ call_more nothing_asked now ∷ []) (call_more s now ∷ []) ≡ slice_set (s ∷ []) k (call_more (get_or (s ∷ []) k d) now))
   on-one s true k d is = absurd (cc)
   on-one s false zero d is = (omega arith, refl)
   on-one s false (suc k) d is = absurd (cc)
 
-  -- the stint that goes on
-  pub process-open : (stints : List KeptStint) (k : ℕ) (d : KeptStint) → open_at stints ≡ Some k
-      → (k < length stints) × (process_more stints now ≡ slice_set stints k (call_more (get_or stints k d) now))
+  -- the current process image
+  pub process-open : (process_images : List RecordedImage) (k : ℕ) (d : RecordedImage) → open_at process_images ≡ Some k
+      → (k < length process_images) × (process_more process_images now ≡ slice_set process_images k (call_more (get_or process_images k d) now))
   process-open [] k d is = absurd (cc)
   process-open (s ∷ []) k d is = on-one s s.ended k d is
   process-open (s ∷ t ∷ rest) zero d is = absurd (never (open_at (t ∷ rest)) is)
@@ -145,21 +145,21 @@ module _ (now : Asked) where
       never (Some n) is = cc
   process-open (s ∷ t ∷ rest) (suc k) d is =
       let more = process-open (t ∷ rest) k d (back (open_at (t ∷ rest)) is) in
-      (omega (arith, more.0), ap (λ (xs : List KeptStint). s ∷ xs) more.1)
+      (omega (arith, more.0), ap (λ (xs : List RecordedImage). s ∷ xs) more.1)
     where
       back : (o : Option ℕ) → option_map suc o ≡ Some (suc k) → o ≡ Some k
       back None is = cc
       back (Some n) is = let e : n ≡ k = cc in ap Some e
 
-  begins : (s : KeptStint) (b : Bool) → unless b 0 ≡ None → cond b (s ∷ call_more nothing_asked now ∷ []) (call_more s now ∷ []) ≡ s ∷ call_more nothing_asked now ∷ []
+  begins : (s : RecordedImage) (b : Bool) → unless b 0 ≡ None → cond b (s ∷ call_more nothing_asked now ∷ []) (call_more s now ∷ []) ≡ s ∷ call_more nothing_asked now ∷ []
   begins s true is = refl
   begins s false is = absurd (cc)
 
-  -- another stint
-  pub process-new : (stints : List KeptStint) → open_at stints ≡ None → process_more stints now ≡ stints ++ call_more nothing_asked now ∷ []
+  -- a new process image
+  pub process-new : (process_images : List RecordedImage) → open_at process_images ≡ None → process_more process_images now ≡ process_images ++ call_more nothing_asked now ∷ []
   process-new [] is = refl
   process-new (s ∷ []) is = begins s s.ended is
-  process-new (s ∷ t ∷ rest) is = ap (λ (xs : List KeptStint). s ∷ xs) (process-new (t ∷ rest) (back (open_at (t ∷ rest)) is))
+  process-new (s ∷ t ∷ rest) is = ap (λ (xs : List RecordedImage). s ∷ xs) (process-new (t ∷ rest) (back (open_at (t ∷ rest)) is))
     where
       back : (o : Option ℕ) → option_map suc o ≡ None → o ≡ None
       back None is = refl
@@ -167,31 +167,31 @@ module _ (now : Asked) where
 
 -- ---- processes
 
-at-same : (xs : List (List KeptStint)) (k : ℕ) (v : List KeptStint) → k < length xs → stints_at (slice_set xs k v) k ≡ v
+at-same : (xs : List (List RecordedImage)) (k : ℕ) (v : List RecordedImage) → k < length xs → process_images_at (slice_set xs k v) k ≡ v
 at-same [] k v within = absurd (omega arith)
 at-same (x ∷ xs) zero v within = refl
 at-same (x ∷ xs) (suc k) v within = at-same xs k v (omega arith)
 
-at-other : (xs : List (List KeptStint)) (k q : ℕ) (v : List KeptStint) → (k ≡ q → ⊥) → stints_at (slice_set xs k v) q ≡ stints_at xs q
+at-other : (xs : List (List RecordedImage)) (k q : ℕ) (v : List RecordedImage) → (k ≡ q → ⊥) → process_images_at (slice_set xs k v) q ≡ process_images_at xs q
 at-other [] k q v apart = refl
 at-other (x ∷ xs) zero zero v apart = absurd (apart refl)
 at-other (x ∷ xs) zero (suc q) v apart = refl
 at-other (x ∷ xs) (suc k) zero v apart = refl
 at-other (x ∷ xs) (suc k) (suc q) v apart = at-other xs k q v (λ same. apart (ap suc same))
 
-at-get : (xs : List (List KeptStint)) (k : ℕ) (d : List KeptStint) → k < length xs → get_or xs k d ≡ stints_at xs k
+at-get : (xs : List (List RecordedImage)) (k : ℕ) (d : List RecordedImage) → k < length xs → get_or xs k d ≡ process_images_at xs k
 at-get [] k d within = absurd (omega arith)
 at-get (x ∷ xs) zero d within = refl
 at-get (x ∷ xs) (suc k) d within = at-get xs k d (omega arith)
 
--- one process has another list, and the others have theirs
-pub process-set : (old grown : List (List KeptStint)) (pid : ℕ) (now : Asked) (mine d : List KeptStint) → ((q : ℕ) → stints_at grown q ≡ stints_at old q) → pid < length grown
+-- one process has another list; the others keep theirs
+pub process-set : (old grown : List (List RecordedImage)) (pid : ℕ) (now : Asked) (mine d : List RecordedImage) → ((q : ℕ) → process_images_at grown q ≡ process_images_at old q) → pid < length grown
     → mine ≡ process_more (get_or grown pid d) now → IsProcessMore old pid now (slice_set grown pid mine)
 process-set old grown pid now mine d same within is other = by (pid == other) refl
   where
-    by : (b : Bool) → (pid == other) ≡ b → stints_at (slice_set grown pid mine) other ≡ cond b (process_more (stints_at old other) now) (stints_at old other)
+    by : (b : Bool) → (pid == other) ≡ b → process_images_at (slice_set grown pid mine) other ≡ cond b (process_more (process_images_at old other) now) (process_images_at old other)
     by true at =
         let here = eqb-true pid other at in
-        ap (stints_at (slice_set grown pid mine)) (sym here) ∙ at-same grown pid mine within ∙ is
-        ∙ ap (λ (xs : List KeptStint). process_more xs now) (at-get grown pid d within ∙ same pid ∙ ap (stints_at old) here)
+        ap (process_images_at (slice_set grown pid mine)) (sym here) ∙ at-same grown pid mine within ∙ is
+        ∙ ap (λ (xs : List RecordedImage). process_more xs now) (at-get grown pid d within ∙ same pid ∙ ap (process_images_at old) here)
     by false at = at-other grown pid other mine (eqb-false pid other at) ∙ same other

@@ -1,4 +1,4 @@
--- The path of a directory, from that of the directory in which it has its name, and the words for a target by it.
+-- The path of a directory, from the path of the directory that has its name; and the words for a target with that path.
 use Rattle.std.proofs.Common.{◌≡◌, ◌≢◌, ◌∙◌, ◌==◌, ◌≤◌, ⊎_elim, ℕ, zero, suc, true, false, cond, List, [], ◌∷◌, length, Option, None, Some, option_map, IsSome, refl, ap, sym, subst, arith}
 use Rattle.std.specs.Prelude.{IsTrue}
 use Rattle.std.proofs.lemmas.Bool.{eq-eqb, ne_eqb}
@@ -25,7 +25,7 @@ module _ (t : Tree) where
   path-step k n d name other is =
       ap (λ b. cond b (Some []) (path_by (path_within t k) (least_name t n))) (ne_eqb n root other) ∙ ap (path_by (path_within t k)) is
 
-  -- a path that is found so deep is found one deeper
+  -- a path within a depth is also a path within the next depth
   deeper : (k n : ℕ) → IsSome (path_within t k n) → path_within t (suc k) n ≡ path_within t k n
   deeper zero n some = cc some
   deeper (suc k) n some =
@@ -48,7 +48,7 @@ module _ (t : Tree) (w : IsWellFormed t) where
   least-found : (n d : ℕ) (name : Bytes) → IsTrue (is_directory_at t n) → find_entry t d name ≡ Some n → least_name t n ≡ Some (d, name)
   least-found n d name is found = only-one (d, name) (names_of t n) (w.directories_once n is) (entry-in t n d name found)
 
-  -- a directory that is found under a name has the path of the directory of that name, and the name after it
+  -- the path of a directory is the path of its parent, followed by its name
   pub found-path : (n d : ℕ) (name rest : Bytes) → n ≢ root → IsTrue (is_directory_at t n) → find_entry t d name ≡ Some n → node_path t d ≡ Some rest
       → node_path t n ≡ Some (with_name name rest)
   unfolding node_path
@@ -64,7 +64,7 @@ module _ (t : Tree) (w : IsWellFormed t) where
   unfolding node_path
   root-known = ap (λ j. path_within t j root) w.numbers
 
--- where the path of its directory is known, so are the words for a target
+-- a known path of the directory gives the words for a target
 pub known_is : (t : Tree) (target : Target) (path : Bytes) → IsKnown t target path → known_words target path ≡ target_words t target
 known_is t target [] known = absurd (omega (arith, known.some))
 known_is t (Directory n) (b ∷ path) known = sym (ap (node_words_by t n) known.is_path)

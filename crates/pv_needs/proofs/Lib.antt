@@ -1,13 +1,15 @@
--- Lemmas of what is kept of a run: Times (how often), Targets (the targets at which walks were judged), KeptStints (the stints of a process),
--- Keeping (what is kept, as it stands in lists by index), Bounds (how long stints are), Asked (what a step asks), AskedRuns (what a run asks), Numbers (the numbers of
--- those who ask), NeedsText (the text of what is kept), KeptLines (the lines of what is kept), KnownPaths (the path of a directory). TurnsMade has turns, TurnsReady
--- that their steps are of processes that are ready, Rounds which process has the next.
+-- Lemmas about the records of a run: Times (counts), Targets (the targets at which walks were checked), RecordedImages
+-- (the process images of a process), Keeping (records in lists, by index), Bounds (of process images), Asked (the
+-- demand of a step), AskedRuns (the demands of a run), Numbers (the numbers of the processes that make calls),
+-- NeedsText (the text of the records), RecordedLines (their lines), LineBytes (the bytes of lines), KnownPaths (the
+-- path of a directory). TurnsMade has turns, TurnsTaken follows them step by step, TurnsLines writes them, and Rounds
+-- finds the process with the next turn.
 pub mod Asked
 pub mod AskedRuns
 pub mod Bounds
 pub mod Keeping
-pub mod KeptLines
-pub mod KeptStints
+pub mod RecordedLines
+pub mod RecordedImages
 pub mod KnownPaths
 pub mod LineBytes
 pub mod NeedsText
@@ -17,5 +19,4 @@ pub mod Targets
 pub mod Times
 pub mod TurnsLines
 pub mod TurnsMade
-pub mod TurnsReady
 pub mod TurnsTaken

@@ -13,20 +13,20 @@ use Rattle.pv_model.specs.Answers.Lines.{AnswerLine, answer_bytes, answer_line, 
 use Rattle.pv_model.specs.Bytes.{Bytes}
 use Rattle.pv_model.specs.Promise.{all_promises, promise_name}
 use Rattle.pv_model.specs.Trace.{text_line}
-use Rattle.pv_streams.specs.Sinks.{TellsBeginning, and_all}
-use Rattle.pv_streams.proofs.Telling.{begins_first, begins_then, written_both}
-use Rattle.pv_needs.specs.declared.stints.KeptTarget.{KeptTarget}
-use Rattle.pv_needs.specs.declared.stints.Times.{Times}
-use Rattle.pv_needs.specs.KeptLines.{kept_promise_lines, kept_promises_lines, kept_stint_lines, kept_target_lines, kept_times_text}
-use Rattle.pv_needs.specs.Stints.{KeptStint}
+use Rattle.pv_streams.specs.Sinks.{WritesPrefix, and_all}
+use Rattle.pv_streams.proofs.Reporting.{begins_first, begins_then, written_both}
+use Rattle.pv_needs.specs.declared.process_images.RecordedTarget.{RecordedTarget}
+use Rattle.pv_needs.specs.declared.process_images.Times.{Times}
+use Rattle.pv_needs.specs.RecordedLines.{recorded_promise_lines, recorded_promises_lines, recorded_image_lines, recorded_target_lines, recorded_times_text}
+use Rattle.pv_needs.specs.ProcessImages.{RecordedImage}
 use Rattle.pv_answers.specs.Texts.{line_front}
 
--- what is written of a text is written of one that is the same
+-- the output of a text is the output of an equal text
 pub whole-as : (r : Result (Unit {0}) Failed) (before after : Option Bytes) (a b : Bytes) → a ≡ b → OnOk r (after ≡ and_all before a) → OnOk r (after ≡ and_all before b)
 whole-as r before after a b same whole = subst (λ (bs : Bytes). OnOk r (after ≡ and_all before bs)) same whole
 
-pub begins-as : (r : Result (Unit {0}) Failed) (before after : Option Bytes) (a b : Bytes) → a ≡ b → OnErr r (TellsBeginning a before after) → OnErr r (TellsBeginning b before after)
-begins-as r before after a b same begins = subst (λ (bs : Bytes). OnErr r (TellsBeginning bs before after)) same begins
+pub begins-as : (r : Result (Unit {0}) Failed) (before after : Option Bytes) (a b : Bytes) → a ≡ b → OnErr r (WritesPrefix a before after) → OnErr r (WritesPrefix b before after)
+begins-as r before after a b same begins = subst (λ (bs : Bytes). OnErr r (WritesPrefix bs before after)) same begins
 
 pub line-bytes : (pid : ℕ) (word text : Bytes) → line_front pid word ++ text ++ 10 ∷ [] ≡ answer_line_bytes (answer_line pid word text)
 unfolding text_line
@@ -34,22 +34,22 @@ line-bytes pid word text = refl
 
 -- the line of a promise that was needed
 pub promise-bytes : (pid : ℕ) (p : Promise) (times : Times) → (times.count ≡ 0 → ⊥)
-    → line_front pid (codes "PLDG") ++ (promise_name p ++ kept_times_text (codes "calls") times) ++ 10 ∷ [] ≡ answer_bytes (kept_promise_lines pid p times)
+    → line_front pid (codes "PLDG") ++ (promise_name p ++ recorded_times_text (codes "calls") times) ++ 10 ∷ [] ≡ answer_bytes (recorded_promise_lines pid p times)
 promise-bytes pid p times some =
-    let line = answer_line pid (codes "PLDG") (promise_name p ++ kept_times_text (codes "calls") times) in
-    line-bytes pid (codes "PLDG") (promise_name p ++ kept_times_text (codes "calls") times) ∙ sym (append-nil (answer_line_bytes line))
+    let line = answer_line pid (codes "PLDG") (promise_name p ++ recorded_times_text (codes "calls") times) in
+    line-bytes pid (codes "PLDG") (promise_name p ++ recorded_times_text (codes "calls") times) ∙ sym (append-nil (answer_line_bytes line))
     ∙ sym (ap (λ (b : Bool). answer_bytes (cond b [] (line ∷ []))) (ne_eqb times.count 0 some))
 
 -- the line of a target
-pub target-bytes : (pid : ℕ) (target : KeptTarget) (permissions : Perms) (words : Bytes) → permissions ≡ target.judged.permissions → words ≡ target.judged.words
-    → line_front pid (codes "UNVL") ++ (permissions_in_places permissions ++ codes ", " ++ words ++ kept_times_text (codes "walks") target.times) ++ 10 ∷ []
-    ≡ answer_bytes (kept_target_lines pid target)
+pub target-bytes : (pid : ℕ) (target : RecordedTarget) (permissions : Perms) (words : Bytes) → permissions ≡ target.judged.permissions → words ≡ target.judged.words
+    → line_front pid (codes "UNVL") ++ (permissions_in_places permissions ++ codes ", " ++ words ++ recorded_times_text (codes "walks") target.times) ++ 10 ∷ []
+    ≡ answer_bytes (recorded_target_lines pid target)
 target-bytes pid target permissions words given named =
-    ap₂ (λ (p : Perms) (w : Bytes). line_front pid (codes "UNVL") ++ (permissions_in_places p ++ codes ", " ++ w ++ kept_times_text (codes "walks") target.times) ++ 10 ∷ []) given named
-    ∙ line-bytes pid (codes "UNVL") (permissions_in_places target.judged.permissions ++ codes ", " ++ target.judged.words ++ kept_times_text (codes "walks") target.times)
-    ∙ sym (append-nil (answer_line_bytes (answer_line pid (codes "UNVL") (permissions_in_places target.judged.permissions ++ codes ", " ++ target.judged.words ++ kept_times_text (codes "walks") target.times))))
+    ap₂ (λ (p : Perms) (w : Bytes). line_front pid (codes "UNVL") ++ (permissions_in_places p ++ codes ", " ++ w ++ recorded_times_text (codes "walks") target.times) ++ 10 ∷ []) given named
+    ∙ line-bytes pid (codes "UNVL") (permissions_in_places target.judged.permissions ++ codes ", " ++ target.judged.words ++ recorded_times_text (codes "walks") target.times)
+    ∙ sym (append-nil (answer_line_bytes (answer_line pid (codes "UNVL") (permissions_in_places target.judged.permissions ++ codes ", " ++ target.judged.words ++ recorded_times_text (codes "walks") target.times))))
 
--- ---- lines one after the other
+-- ---- lines in sequence
 
 bytes-of : {X : Type 0} (g : X → List AnswerLine) (xs ys : List X) → answer_bytes (flat_map g (xs ++ ys)) ≡ answer_bytes (flat_map g xs) ++ answer_bytes (flat_map g ys)
 bytes-of g xs ys = ap answer_bytes (flat_map-append g xs ys) ∙ flat_map-append answer_line_bytes (flat_map g xs) (flat_map g ys)
@@ -65,21 +65,21 @@ module _ {X : Type 0} (g : X → List AnswerLine) (xs : List X) (k : ℕ) (d : X
       ap (λ (ys : List X). answer_bytes (flat_map g ys)) (sym (take-append-drop (k + 1) xs)) ∙ bytes-of g (take (k + 1) xs) (drop (k + 1) xs)
       ∙ ap (λ (bs : Bytes). bs ++ answer_bytes (flat_map g (drop (k + 1) xs))) bytes-next
 
-  -- another element's lines are written
+  -- the lines of another element are written
   pub whole-next : (before mid after : Option Bytes) → mid ≡ and_all before (answer_bytes (flat_map g (take k xs))) → after ≡ and_all mid (answer_bytes (g (get_or xs k d)))
       → after ≡ and_all before (answer_bytes (flat_map g (take (k + 1) xs)))
   whole-next before mid after first then =
       written_both (answer_bytes (flat_map g (take k xs))) (answer_bytes (g (get_or xs k d))) before mid after first then ∙ ap (and_all before) (sym bytes-next)
 
-  -- or a beginning of them
-  pub begins-next : (before mid after : Option Bytes) → mid ≡ and_all before (answer_bytes (flat_map g (take k xs))) → TellsBeginning (answer_bytes (g (get_or xs k d))) mid after
-      → TellsBeginning (answer_bytes (flat_map g xs)) before after
+  -- a prefix of its lines is written
+  pub begins-next : (before mid after : Option Bytes) → mid ≡ and_all before (answer_bytes (flat_map g (take k xs))) → WritesPrefix (answer_bytes (g (get_or xs k d))) mid after
+      → WritesPrefix (answer_bytes (flat_map g xs)) before after
   begins-next before mid after first then =
-      subst (λ (bs : Bytes). TellsBeginning bs before after) (sym bytes-all)
+      subst (λ (bs : Bytes). WritesPrefix bs before after) (sym bytes-all)
       (begins_first (answer_bytes (flat_map g (take k xs)) ++ answer_bytes (g (get_or xs k d))) (answer_bytes (flat_map g (drop (k + 1) xs))) before after
       (begins_then (answer_bytes (flat_map g (take k xs))) (answer_bytes (g (get_or xs k d))) before mid after first then))
 
--- all of them are written
+-- all lines are written
 pub whole-end : {X : Type 0} (g : X → List AnswerLine) (xs : List X) (k : ℕ) → length xs ≤ k → (before after : Option Bytes)
     → after ≡ and_all before (answer_bytes (flat_map g (take k xs))) → after ≡ and_all before (answer_bytes (flat_map g xs))
 whole-end g xs k end before after is = is ∙ ap (λ ys. and_all before (answer_bytes (flat_map g ys))) (take_all k xs end)
@@ -105,18 +105,18 @@ zip-at (x ∷ xs) [] k d e f same within = absurd (omega arith)
 zip-at (x ∷ xs) (y ∷ ys) zero d e f same within = refl
 zip-at (x ∷ xs) (y ∷ ys) (suc k) d e f same within = zip-at xs ys k d e f (omega arith) (omega arith)
 
--- a stint: its first line, those of promises, and those of targets
-pub stint-bytes : (pid k : ℕ) (stint : KeptStint) (counts : List Times) (targets : List KeptTarget) → counts ≡ stint.promises → targets ≡ stint.targets
-    → ((line_front pid (codes "STNT") ++ decimal k ++ 10 ∷ []) ++ answer_bytes (kept_promises_lines pid all_promises counts)) ++ answer_bytes (flat_map (kept_target_lines pid) targets)
-    ≡ answer_bytes (kept_stint_lines pid (k, stint))
-stint-bytes pid k stint counts targets given there =
-    ap₂ (λ (cs : List Times) (ts : List KeptTarget).
-    ((line_front pid (codes "STNT") ++ decimal k ++ 10 ∷ []) ++ answer_bytes (kept_promises_lines pid all_promises cs)) ++ answer_bytes (flat_map (kept_target_lines pid) ts)) given there
-    ∙ ap (λ (bs : Bytes). (bs ++ answer_bytes (kept_promises_lines pid all_promises stint.promises)) ++ answer_bytes (flat_map (kept_target_lines pid) stint.targets))
+-- a process image: its first line, those of promises, and those of targets
+pub process_image-bytes : (pid k : ℕ) (process_image : RecordedImage) (counts : List Times) (targets : List RecordedTarget) → counts ≡ process_image.promises → targets ≡ process_image.targets
+    → ((line_front pid (codes "STNT") ++ decimal k ++ 10 ∷ []) ++ answer_bytes (recorded_promises_lines pid all_promises counts)) ++ answer_bytes (flat_map (recorded_target_lines pid) targets)
+    ≡ answer_bytes (recorded_image_lines pid (k, process_image))
+process_image-bytes pid k process_image counts targets given there =
+    ap₂ (λ (cs : List Times) (ts : List RecordedTarget).
+    ((line_front pid (codes "STNT") ++ decimal k ++ 10 ∷ []) ++ answer_bytes (recorded_promises_lines pid all_promises cs)) ++ answer_bytes (flat_map (recorded_target_lines pid) ts)) given there
+    ∙ ap (λ (bs : Bytes). (bs ++ answer_bytes (recorded_promises_lines pid all_promises process_image.promises)) ++ answer_bytes (flat_map (recorded_target_lines pid) process_image.targets))
     (line-bytes pid (codes "STNT") (decimal k))
-    ∙ sym (flat_map-append answer_line_bytes (answer_line pid (codes "STNT") (decimal k) ∷ kept_promises_lines pid all_promises stint.promises) (flat_map (kept_target_lines pid) stint.targets))
+    ∙ sym (flat_map-append answer_line_bytes (answer_line pid (codes "STNT") (decimal k) ∷ recorded_promises_lines pid all_promises process_image.promises) (flat_map (recorded_target_lines pid) process_image.targets))
 
--- from 1, and from 0
+-- numbering from 1 and from 0
 pub counted-one : {X : Type 0} (xs : List X) (k : ℕ) (x : X) (e : ℕ × X) → k < length xs → x ≡ get_or xs k x → get_or (counted_from 1 xs) k e ≡ (k + 1, x)
 counted-one {X = X} xs k x e within is =
     let same : 1 + k ≡ k + 1 = omega arith in counted-at 1 xs k x e within ∙ ap₂ (λ (n : ℕ) (y : X). (n, y)) same (sym is)

@@ -1,26 +1,26 @@
--- The text of what is kept is that of what was asked.
+-- The text of the records is the text of the demands.
 use Rattle.std.proofs.Common.{◌≡◌, ◌∙◌, ℕ, zero, suc, ◌+◌, ◌*◌, ◌<◌, ◌≤◌, List, [], ◌∷◌, ◌++◌, length, map, refl, sym, ap, ap₂, add-zero, zero-add, arith}
 use Rattle.std.specs.List.{AllByRecursion, flat_map, range_with_len}
 use Rattle.pv_model.specs.Answers.Lines.{AnswerLine, counted_from}
-use Rattle.pv_model.specs.Answers.Needs.{Asked, asked_by_one, asked_in, needs_lines, needs_of_all, needs_of_process, stint_lines, stints}
+use Rattle.pv_model.specs.Answers.Needs.{Asked, asked_by_one, asked_in, needs_lines, needs_of_all, needs_of_process, process_image_lines, process_images}
 use Rattle.pv_model.specs.Grammar.Programs.{program_of}
 use Rattle.pv_model.specs.State.{State}
 use Rattle.pv_model.specs.Step.{run}
-use Rattle.pv_laws_states.specs.States.{IsWhole}
-use Rattle.pv_needs.specs.declared.stints.TheConstants.{MANY}
-use Rattle.pv_needs.specs.KeptLines.{kept_lines, kept_process_lines}
-use Rattle.pv_needs.specs.Stints.{KeptStint, Keeps, kept_stint, stints_at}
+use Rattle.pv_laws_states.specs.States.{IsValid}
+use Rattle.pv_needs.specs.declared.process_images.TheConstants.{MANY}
+use Rattle.pv_needs.specs.RecordedLines.{recorded_lines, recorded_process_lines}
+use Rattle.pv_needs.specs.ProcessImages.{RecordedImage, Keeps, recorded_image, process_images_at}
 use Rattle.pv_needs.proofs.Bounds.{Each, each-few}
-use Rattle.pv_needs.proofs.KeptLines.{process-lines}
+use Rattle.pv_needs.proofs.RecordedLines.{process-lines}
 use Rattle.pv_needs.proofs.Numbers.{IsAsked, asked-fewer, each-asked, none-asked}
 
--- ---- numbers one after the other
+-- ---- numbers in sequence
 
 module _ (g : ℕ → List AnswerLine) where
   over : ℕ → ℕ → List AnswerLine
   over n k = flat_map g (range_with_len n k)
 
-  -- where nothing is said of numbers from one on
+  -- nothing is written for numbers from one on
   silent : (n k : ℕ) → ((m : ℕ) → n ≤ m → g m ≡ []) → flat_map g (range_with_len n k) ≡ []
   silent n zero none = refl
   silent n (suc k) none =
@@ -46,52 +46,52 @@ module _ (g : ℕ → List AnswerLine) where
 
 -- ---- the processes
 
-at-list : (xs : List (List KeptStint)) (k : ℕ) → length xs ≤ k → stints_at xs k ≡ []
+at-list : (xs : List (List RecordedImage)) (k : ℕ) → length xs ≤ k → process_images_at xs k ≡ []
 at-list [] k past = refl
 at-list (x ∷ xs) zero past = absurd (omega arith)
 at-list (x ∷ xs) (suc k) past = at-list xs k (omega arith)
 
-module _ (all : List (ℕ × Asked)) (few : (pid : ℕ) → Each MANY MANY (stints (asked_by_one all pid))) where
-  one-process : (pid : ℕ) (kept : List KeptStint) → kept ≡ map kept_stint (stints (asked_by_one all pid)) → kept_process_lines pid kept ≡ needs_of_process all pid
-  one-process pid kept is = ap (kept_process_lines pid) is ∙ sym (process-lines pid 1 (stints (asked_by_one all pid)) (few pid))
+module _ (all : List (ℕ × Asked)) (few : (pid : ℕ) → Each MANY MANY (process_images (asked_by_one all pid))) where
+  one-process : (pid : ℕ) (recorded : List RecordedImage) → recorded ≡ map recorded_image (process_images (asked_by_one all pid)) → recorded_process_lines pid recorded ≡ needs_of_process all pid
+  one-process pid recorded is = ap (recorded_process_lines pid) is ∙ sym (process-lines pid 1 (process_images (asked_by_one all pid)) (few pid))
 
   -- each list under its number
-  from-number : (xs : List (List KeptStint)) (n : ℕ) → ((k : ℕ) → k < length xs → stints_at xs k ≡ map kept_stint (stints (asked_by_one all (n + k))))
-      → flat_map (λ (e : ℕ × List KeptStint). kept_process_lines e.0 e.1) (counted_from n xs) ≡ flat_map (needs_of_process all) (range_with_len n (length xs))
+  from-number : (xs : List (List RecordedImage)) (n : ℕ) → ((k : ℕ) → k < length xs → process_images_at xs k ≡ map recorded_image (process_images (asked_by_one all (n + k))))
+      → flat_map (λ (e : ℕ × List RecordedImage). recorded_process_lines e.0 e.1) (counted_from n xs) ≡ flat_map (needs_of_process all) (range_with_len n (length xs))
   from-number [] n keeps = refl
   from-number (x ∷ xs) n keeps =
       ap₂ (λ (a b : List AnswerLine). a ++ b)
-      (one-process n x (keeps 0 (omega arith) ∙ ap (λ m. map kept_stint (stints (asked_by_one all m))) (add-zero n)))
+      (one-process n x (keeps 0 (omega arith) ∙ ap (λ m. map recorded_image (process_images (asked_by_one all m))) (add-zero n)))
       (from-number xs (n + 1) (λ k within.
-      let same : n + suc k ≡ (n + 1) + k = omega arith in keeps (suc k) (omega (arith, within)) ∙ ap (λ m. map kept_stint (stints (asked_by_one all m))) same))
+      let same : n + suc k ≡ (n + 1) + k = omega arith in keeps (suc k) (omega (arith, within)) ∙ ap (λ m. map recorded_image (process_images (asked_by_one all m))) same))
 
-  unsaid : (pid : ℕ) → stints (asked_by_one all pid) ≡ [] → needs_of_process all pid ≡ []
-  unsaid pid none = ap (λ (ss : List (List Asked)). flat_map (stint_lines pid) (counted_from 1 ss)) none
+  unsaid : (pid : ℕ) → process_images (asked_by_one all pid) ≡ [] → needs_of_process all pid ≡ []
+  unsaid pid none = ap (λ (ss : List (List Asked)). flat_map (process_image_lines pid) (counted_from 1 ss)) none
 
-  no-stints : (ss : List (List Asked)) → map kept_stint ss ≡ [] → ss ≡ []
-  no-stints [] is = refl
-  no-stints (x ∷ xs) is = cc is
+  no-process_images : (ss : List (List Asked)) → map recorded_image ss ≡ [] → ss ≡ []
+  no-process_images [] is = refl
+  no-process_images (x ∷ xs) is = cc is
 
-  all-processes : (kept : List (List KeptStint)) (last : ℕ) → Keeps kept all → AllByRecursion (IsAsked last) all → kept_lines kept ≡ needs_of_all all last
-  unfolding stints
-  all-processes kept last keeps each =
-      from-number kept 0 (λ k within. keeps k ∙ ap (λ m. map kept_stint (stints (asked_by_one all m))) (sym (zero-add k)))
-      ∙ both-ranges (needs_of_process all) (length kept) last
-      (unsaid 0 (ap stints (none-asked last 0 all each (λ bad. omega (arith, bad.0)))))
-      (λ m past. unsaid m (no-stints (stints (asked_by_one all m)) (sym (keeps m) ∙ at-list kept m past)))
-      (λ m beyond. unsaid m (ap stints (none-asked last m all each (λ bad. omega (arith, bad.1, beyond)))))
+  all-processes : (recorded : List (List RecordedImage)) (last : ℕ) → Keeps recorded all → AllByRecursion (IsAsked last) all → recorded_lines recorded ≡ needs_of_all all last
+  unfolding process_images
+  all-processes recorded last keeps each =
+      from-number recorded 0 (λ k within. keeps k ∙ ap (λ m. map recorded_image (process_images (asked_by_one all m))) (sym (zero-add k)))
+      ∙ both-ranges (needs_of_process all) (length recorded) last
+      (unsaid 0 (ap process_images (none-asked last 0 all each (λ bad. omega (arith, bad.0)))))
+      (λ m past. unsaid m (no-process_images (process_images (asked_by_one all m)) (sym (keeps m) ∙ at-list recorded m past)))
+      (λ m beyond. unsaid m (ap process_images (none-asked last m all each (λ bad. omega (arith, bad.1, beyond)))))
 
 weaker : (last : ℕ) (all : List (ℕ × Asked)) → AllByRecursion (IsAsked last) all → AllByRecursion (λ (a : ℕ × Asked). length a.1.walks ≤ 2) all
 weaker last [] each = tt
 weaker last (a ∷ all) each = (each.0.walks, weaker last all each.1)
 
--- what is kept of a run is told as what it asked
-pub needs-told : (pids : List ℕ) (s : State) (kept : List (List KeptStint)) → IsWhole s → 2 * length pids ≤ MANY → Keeps kept (asked_in program_of pids s)
-    → kept_lines kept ≡ needs_lines program_of pids s
+-- the text of the records of a run is the text of its demands
+pub needs-reported : (pids : List ℕ) (s : State) (recorded : List (List RecordedImage)) → IsValid s → 2 * length pids ≤ MANY → Keeps recorded (asked_in program_of pids s)
+    → recorded_lines recorded ≡ needs_lines program_of pids s
 unfolding needs_lines
-needs-told pids s kept whole short keeps =
+needs-reported pids s recorded whole short keeps =
     let all = asked_in program_of pids s in
     let last = (run program_of pids s).final.last_process in
     let each = each-asked pids s whole in
     let fewer = asked-fewer pids s in
-    all-processes all (λ pid. each-few pid all MANY (weaker last all each) (omega (arith, fewer, short))) kept last keeps each
+    all-processes all (λ pid. each-few pid all MANY (weaker last all each) (omega (arith, fewer, short))) recorded last keeps each

@@ -13,16 +13,16 @@ use Rattle.pv_model.specs.Calls.Processes.{end_process, with_result}
 use Rattle.pv_model.specs.Effect.{Effect, Reply, returns, returns_bytes, ends, waits}
 use Rattle.pv_model.specs.Errno.{errno_number}
 use Rattle.pv_model.specs.Grammar.Programs.{program_of}
-use Rattle.pv_model.specs.Held.{trim}
+use Rattle.pv_model.specs.Held.{collect}
 use Rattle.pv_model.specs.Program.{Next, calls_for, inside, next}
 use Rattle.pv_model.specs.State.{Process, State, live, process_at}
 use Rattle.pv_model.specs.Step.{run, step, step_by, step_of}
 use Rattle.pv_model.specs.Walks.{walks_of}
 use Rattle.pv_laws_access.proofs.EffectByCall.{does-effect}
 use Rattle.pv_laws_access.proofs.HasEffect.{Did, HasEffect, stays, restrains, begins, closes, copies, forks, reaps, moves, cuts, writes_bytes, makes, links, unlinks, renames, opens, creates}
-use Rattle.pv_laws_runs.proofs.Ranges.{program_of-spells}
+use Rattle.pv_laws_runs.proofs.Ranges.{program_of-encodes}
 use Rattle.pv_laws_states.specs.Courses.{is_unveil}
-use Rattle.pv_laws_states.specs.States.{IsWhole, is_number}
+use Rattle.pv_laws_states.specs.States.{IsValid, is_number}
 use Rattle.pv_laws_states.proofs.Attempts.{Leads}
 use Rattle.pv_laws_states.proofs.BySteps.{step-keeps_whole}
 use Rattle.pv_laws_states.proofs.Members.{find_number-list_all, live-found}
@@ -30,19 +30,19 @@ use Rattle.pv_laws_states.proofs.Outcomes.{at_call, by_answer}
 use Rattle.pv_laws_states.proofs.Processes.{last_process-update}
 use Rattle.pv_needs.proofs.Asked.{by-unveil, walks-short}
 
--- ---- the last number given never falls
+-- ---- the last process number never decreases
 
-last-trim : (s : State) → (trim s).last_process ≡ s.last_process
-unfolding trim
-last-trim s = refl
+last-collect : (s : State) → (collect s).last_process ≡ s.last_process
+unfolding collect
+last-collect s = refl
 
 last-end : (s : State) (pid : ℕ) (me : Process) (status : ℕ) → (end_process s pid me status).last_process ≡ s.last_process
 unfolding end_process
 last-end s pid me status = refl
 
-last-told : (s after : State) (pid : ℕ) (f : Process → Process) → s.last_process ≤ after.last_process → s.last_process ≤ (trim (update after pid f)).last_process
-last-told s after pid f low =
-    let same = last-trim (update after pid f) ∙ last_process-update after pid f in subst (λ n. s.last_process ≤ n) (sym same) low
+last-reported : (s after : State) (pid : ℕ) (f : Process → Process) → s.last_process ≤ after.last_process → s.last_process ≤ (collect (update after pid f)).last_process
+last-reported s after pid f low =
+    let same = last-collect (update after pid f) ∙ last_process-update after pid f in subst (λ n. s.last_process ≤ n) (sym same) low
 
 last-effect : (s : State) (pid : ℕ) (me : Process) (call : Call) (after : State) (r : Reply) → HasEffect s pid me call after r → s.last_process ≤ after.last_process
 last-effect s pid me call _ _ (stays r waiting) = omega arith
@@ -68,16 +68,16 @@ Later s a = s.last_process ≤ a.after.last_process
 last-attempt : (before s : State) (pid : ℕ) (me : Process) (call : Call) (a : Attempt Effect) → before.last_process ≡ s.last_process → Leads (Did s pid me call) a
     → before.last_process ≤ (answer_by_attempt before s pid me a).after.last_process
 last-attempt before s pid me call (done walks (after, returns n)) same did =
-    last-told before after pid (λ p. with_result p (pos n) 0) (subst (λ k. k ≤ after.last_process) (sym same) (last-effect s pid me call after (returns n) did))
+    last-reported before after pid (λ p. with_result p (pos n) 0) (subst (λ k. k ≤ after.last_process) (sym same) (last-effect s pid me call after (returns n) did))
 last-attempt before s pid me call (done walks (after, returns_bytes n bytes)) same did =
-    last-told before after pid (λ p. with_front bytes (with_result p (pos n) 0))
+    last-reported before after pid (λ p. with_front bytes (with_result p (pos n) 0))
     (subst (λ k. k ≤ after.last_process) (sym same) (last-effect s pid me call after (returns_bytes n bytes) did))
 last-attempt before s pid me call (done walks (after, ends status)) same did =
-    let kept = last-trim (end_process after pid me status) ∙ last-end after pid me status in
-    subst (λ k. before.last_process ≤ k) (sym kept) (subst (λ k. k ≤ after.last_process) (sym same) (last-effect s pid me call after (ends status) did))
+    let recorded = last-collect (end_process after pid me status) ∙ last-end after pid me status in
+    subst (λ k. before.last_process ≤ k) (sym recorded) (subst (λ k. k ≤ after.last_process) (sym same) (last-effect s pid me call after (ends status) did))
 last-attempt before s pid me call (done walks (after, waits)) same did = omega arith
 last-attempt before s pid me call (refused walks errno cause) same did =
-    let kept = last_process-update s pid (λ p. with_result p (negsuc 0) (errno_number errno)) ∙ sym same in omega (arith, kept)
+    let recorded = last_process-update s pid (λ p. with_result p (negsuc 0) (errno_number errno)) ∙ sym same in omega (arith, recorded)
 
 last-answer : (s : State) (pid : ℕ) (call : Call) → s.last_process ≤ (answer program_of s pid call).after.last_process
 last-answer s pid call =
@@ -86,7 +86,7 @@ last-answer s pid call =
     (λ me at met. last-attempt s (at_call s pid me) pid (at_next_line me) call (effect program_of (at_call s pid me) pid (at_next_line me) call) refl
     (does-effect program_of (at_call s pid me) pid (at_next_line me) call))
     (λ me p at missing lenient. last-attempt s (at_call s pid me) pid (at_next_line me) call (refused 0 ENOSYS (ByPromise p)) refl tt)
-    (λ me p at missing strict. let kept = last-trim (end_process s pid (at_next_line me) 6) ∙ last-end s pid (at_next_line me) 6 in omega (arith, kept))
+    (λ me p at missing strict. let recorded = last-collect (end_process s pid (at_next_line me) 6) ∙ last-end s pid (at_next_line me) 6 in omega (arith, recorded))
 
 last-step : (s : State) (pid : ℕ) → s.last_process ≤ (step program_of s pid).after.last_process
 unfolding step
@@ -104,9 +104,9 @@ last-run : (pids : List ℕ) (s : State) → s.last_process ≤ (run program_of 
 last-run [] s = omega arith
 last-run (pid ∷ pids) s = omega (arith, last-step s pid, last-run pids (step program_of s pid).after)
 
--- ---- what is asked
+-- ---- demands
 
--- a call of a process that has a number up to the last one given, with at most two walks
+-- a call of a process whose number was given, with at most two walks
 pub record IsAsked (last : ℕ) (a : ℕ × Asked) : Type 0 where
   pub first : 1 ≤ a.0
   pub within : a.0 ≤ last
@@ -127,7 +127,7 @@ judged-few s pid p call n = subst (λ (js : List Judged). length js ≤ 2) (sym 
     by true = omega arith
     by false = omega (arith, filter_map-fewer (judged s p) (take n (walks_of call)), length-take n (walks_of call), walks-short call)
 
-asked-step : (s : State) → IsWhole s → (pid : ℕ) (now : Asked) → asked program_of s pid ≡ Some now → IsAsked s.last_process (pid, now)
+asked-step : (s : State) → IsValid s → (pid : ℕ) (now : Asked) → asked program_of s pid ≡ Some now → IsAsked s.last_process (pid, now)
 unfolding asked
 asked-step s whole pid now is = of (process_at s pid) refl is
   where
@@ -151,10 +151,10 @@ wider : (last more : ℕ) (all : List (ℕ × Asked)) → last ≤ more → AllB
 wider last more [] low each = tt
 wider last more (a ∷ all) low each = (record { first = each.0.first; within = omega (arith, each.0.within, low); walks = each.0.walks }, wider last more all low each.1)
 
--- each call of a run is so
-pub each-asked : (pids : List ℕ) (s : State) → IsWhole s → AllByRecursion (IsAsked (run program_of pids s).final.last_process) (asked_in program_of pids s)
+-- each call of a run is of this kind
+pub each-asked : (pids : List ℕ) (s : State) → IsValid s → AllByRecursion (IsAsked (run program_of pids s).final.last_process) (asked_in program_of pids s)
 each-asked [] s whole = tt
-each-asked (pid ∷ pids) s whole = by (asked program_of s pid) refl (each-asked pids after (step-keeps_whole program_of program_of-spells s pid whole))
+each-asked (pid ∷ pids) s whole = by (asked program_of s pid) refl (each-asked pids after (step-keeps_whole program_of program_of-encodes s pid whole))
   where
     after : State
     after = (step program_of s pid).after
@@ -179,7 +179,7 @@ asked-fewer (pid ∷ pids) s = by (asked program_of s pid) (asked-fewer pids (st
     by None few = omega arith
     by (Some now) few = omega arith
 
--- of other numbers there are none
+-- processes with other numbers make no calls
 pub none-asked : (last pid : ℕ) (all : List (ℕ × Asked)) → AllByRecursion (IsAsked last) all → ((1 ≤ pid) × (pid ≤ last) → ⊥) → asked_by_one all pid ≡ []
 none-asked last pid [] each apart = refl
 none-asked last pid (a ∷ all) each apart =

@@ -10,7 +10,7 @@ use Rattle.std.proofs.lemmas.Bool.{and_parts, eq-eqb, le-leb, leb-true, leb-fals
 use Rattle.std.proofs.lemmas.List.Elements.{filter-append}
 use Rattle.pv_model.specs.declared.limits.TheConstants.{LAST_PROCESS}
 use Rattle.pv_model.specs.Answers.Nodes.{first_of}
-use Rattle.pv_model.specs.Answers.Turns.{goes_on, next_turn}
+use Rattle.pv_model.specs.Answers.Turns.{continues, next_turn}
 use Rattle.pv_model.specs.Bytes.{Bytes}
 use Rattle.pv_model.specs.Held.{live_processes}
 use Rattle.pv_model.specs.State.{Process, ProcessRecord, Program, State, ended_record, live, live_process, process_at}
@@ -38,7 +38,7 @@ first-append : {X : Type 0} (xs ys : List X) → first_of (xs ++ ys) ≡ or_else
 first-append [] ys = refl
 first-append (x ∷ xs) ys = refl
 
--- ---- numbers that ascend
+-- ---- ascending numbers
 
 less : (k n : ℕ) → is_lt (nat_cmp k n) ≡ true → k < n
 less k n is = by (nat_lt k n) refl
@@ -77,7 +77,7 @@ module _ (g : ℕ → Bool) (up : ℕ) where
   abbrev pub chosen : Bool → ℕ → Option ℕ → Option ℕ
   chosen b n rest = if b then Some n else rest
 
-  -- beyond the first one that is greater, wherever one begins below it
+  -- the start does not matter below the first greater number
   same-after : (k n : ℕ) (rs : List (ℕ × ProcessRecord)) → k ≤ n → AllAbove n rs → between k rs ≡ between n rs
   same-after k n [] low far = refl
   same-after k n (r ∷ rs) low far =
@@ -119,7 +119,7 @@ module _ (g : ℕ → Bool) (up : ℕ) where
       by true low found rest = let same : r.0 ≡ n = cc in subst (λ m. k < m) same (ltb-true k r.0 low)
       by false not found rest = rest found
 
-  -- the first that is greater, and then those after it
+  -- the first greater number, and those after it
   pub next-one : (k n : ℕ) (rs : List (ℕ × ProcessRecord)) → is_sorted nat_cmp rs ≡ true → after_of k rs ≡ Some n
       → first_of (between k rs) ≡ (if nat_le n up then chosen (g n) n (first_of (between n rs)) else None)
   next-one k n [] sorted is = absurd (cc)
@@ -140,7 +140,7 @@ module _ (g : ℕ → Bool) (up : ℕ) where
           ap first_of (skipped k r rs far) ∙ rest found
           ∙ sym (ap (λ (xs : List ℕ). if nat_le n up then chosen (g n) n (first_of xs) else None) (skipped n r rs (omega arith)))
 
-  -- none is greater
+  -- no number is greater
   pub next-none : (k : ℕ) (rs : List (ℕ × ProcessRecord)) → after_of k rs ≡ None → between k rs ≡ []
   next-none k [] is = refl
   next-none k (r ∷ rs) is = by (nat_lt k r.0) refl is (next-none k rs)
@@ -150,7 +150,7 @@ module _ (g : ℕ → Bool) (up : ℕ) where
       by true low none rest = absurd (cc)
       by false not none rest = skipped k r rs (ltb-false k r.0 not) ∙ rest none
 
--- ---- live processes, and all
+-- ---- live processes and all processes
 
 find_here : (k : ℕ) (v : ProcessRecord) (rs : List (ℕ × ProcessRecord)) → find nat_cmp k ((k, v) ∷ rs) ≡ Some v
 find_here k v rs = ap (λ (b : Bool). cond b (Some v) (find nat_cmp k rs)) (sym (unsigned_ties k k) ∙ eq-eqb k k refl)
@@ -209,13 +209,13 @@ module _ (g : ℕ → Bool) (pid last : ℕ) (low : last ≤ LAST_PROCESS) where
 
 module _ (program_of : Bytes → Option Program) (s : State) (processes : AreProcesses s) where
   abbrev goes : ℕ → Bool
-  goes k = goes_on (step program_of s k).outcome
+  goes k = continues (step program_of s k).outcome
 
   goes-gone : (k : ℕ) → process_at s k ≡ None → goes k ≡ false
   unfolding step
-  goes-gone k none = ap (λ (p : Option Process). goes_on (step_of program_of s k p).outcome) none
+  goes-gone k none = ap (λ (p : Option Process). continues (step_of program_of s k p).outcome) none
 
-  -- those above come first, and then those from the first on
+  -- greater numbers come first, then those from the first process on
   pub next-turn : (pid : ℕ) → next_turn program_of pid s ≡ or_else (first_between program_of s pid LAST_PROCESS) (first_between program_of s 0 pid)
   next-turn pid =
       let live = map (λ (p : ℕ × Process). p.0) (live_processes s.processes) in

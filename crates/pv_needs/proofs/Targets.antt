@@ -1,4 +1,4 @@
--- The targets at which walks were judged, and what is kept of them, one walk more.
+-- The targets at which walks were checked, and their records, with one more walk.
 use Rattle.std.proofs.Common.{◌≡◌, ◌∙◌, ℕ, Bool, true, false, cond, not, ◌&&◌, ◌||◌, bytes_eq, List, [], ◌∷◌, ◌++◌, map, append_assoc, refl, sym, ap, ap₂}
 use Rattle.std.specs.Prelude.{◌==◌}
 use Rattle.std.specs.List.{filter, list_any}
@@ -12,12 +12,12 @@ use Rattle.pv_model.specs.declared.target.Target.TheVariants.{Directory, Name}
 use Rattle.pv_model.specs.Answers.Needs.{Judged, permissions_asked, same_judged, targets_in, walks_to}
 use Rattle.pv_model.specs.Bytes.{Bytes}
 use Rattle.pv_model.specs.Unveil.{same_target}
-use Rattle.pv_needs.specs.declared.stints.KeptTarget.{KeptTarget}
-use Rattle.pv_needs.specs.declared.stints.Times.{Times}
-use Rattle.pv_needs.specs.Stints.{first_walk, kept_target, kept_targets, target_more, times_of, walk_more, walks_more}
+use Rattle.pv_needs.specs.declared.process_images.RecordedTarget.{RecordedTarget}
+use Rattle.pv_needs.specs.declared.process_images.Times.{Times}
+use Rattle.pv_needs.specs.ProcessImages.{first_walk, recorded_target, recorded_targets, target_more, times_of, walk_more, walks_more}
 use Rattle.pv_needs.proofs.Times.{permissions-more, times-more}
 
--- ---- targets that are one
+-- ---- equal targets
 
 target-equal : (a b : Target) → same_target a b ≡ true → a ≡ b
 target-equal (Directory d) (Directory e) same = ap Directory (eqb-true d e same)
@@ -42,7 +42,7 @@ are-one a b same =
     let parts = and_parts (same_target a.target b.target) (bytes_eq a.words b.words) same in
     record { target = target-equal a.target b.target parts.0; words = (bytes_eq-Decides a.words b.words).0 parts.1 }
 
--- what is one with another is one with what that is one with
+-- equality of targets is transitive
 alike : (a b x : Judged) → same_judged a b ≡ true → same_judged a x ≡ same_judged b x
 alike a b x same = let one = are-one a b same in ap₂ (λ (t : Target) (w : Bytes). same_target t x.target && bytes_eq w x.words) one.target one.words
 
@@ -63,12 +63,12 @@ swapped a b apart = by (same_judged b a) refl
     by true is = let back = same-back b a is in cc (back, apart)
     by false is = is
 
--- ---- targets, each once
+-- ---- distinct targets
 
 abbrev unlike : Judged → Judged → Bool
 unlike a b = not (same_judged a b)
 
--- whether a target is one of others
+-- a target is among others
 abbrev among : List Judged → Judged → Bool
 among ts w = list_any (λ t. same_judged t w) ts
 
@@ -81,11 +81,11 @@ among-one : (b : Bool) (t w : Judged) (fs ts : List Judged) → (b ≡ true → 
 among-one true t w fs ts apart same = same ∙ sym (ap (λ (x : Bool). x || among ts w) (apart refl))
 among-one false t w fs ts apart same = ap (λ (x : Bool). same_judged t w || x) same
 
--- without those that are one with another target, the rest is as much among them
-among-kept : (v w : Judged) → same_judged v w ≡ false → (ts : List Judged) → among (filter (unlike v) ts) w ≡ among ts w
-among-kept v w apart [] = refl
-among-kept v w apart (t ∷ ts) =
-    among-one (same_judged v t) t w (filter (unlike v) ts) ts (λ is. sym (alike v t w is) ∙ apart) (among-kept v w apart ts)
+-- removing targets equal to another does not change whether a different one is among the rest
+among-recorded : (v w : Judged) → same_judged v w ≡ false → (ts : List Judged) → among (filter (unlike v) ts) w ≡ among ts w
+among-recorded v w apart [] = refl
+among-recorded v w apart (t ∷ ts) =
+    among-one (same_judged v t) t w (filter (unlike v) ts) ts (λ is. sym (alike v t w is) ∙ apart) (among-recorded v w apart ts)
 
 filter-one : (b : Bool) (v w : Judged) → same_judged v w ≡ b → filter (unlike v) (w ∷ []) ≡ cond (not b) (w ∷ []) []
 filter-one b v w is = ap (λ (x : Bool). cond (not x) (w ∷ []) []) is
@@ -101,14 +101,14 @@ module _ (v w : Judged) where
   cut-apart apart false ts =
       ap (λ (xs : List Judged). v ∷ xs) (filter-append (unlike v) ts (w ∷ []) ∙ ap (λ (xs : List Judged). filter (unlike v) ts ++ xs) (filter-one false v w apart))
 
-  -- one target more, after the first
+  -- one more target, after the first
   target-then : (b : Bool) → same_judged v w ≡ b → (ts : List Judged)
       → v ∷ filter (unlike v) (unless_among (among ts w) ts w) ≡ unless_among (b || among (filter (unlike v) ts) w) (v ∷ filter (unlike v) ts) w
   target-then true is ts = ap (λ (xs : List Judged). v ∷ xs) (cut-same is (among ts w) ts)
   target-then false is ts =
-      cut-apart is (among ts w) ts ∙ ap (λ (x : Bool). unless_among x (v ∷ filter (unlike v) ts) w) (sym (among-kept v w is ts))
+      cut-apart is (among ts w) ts ∙ ap (λ (x : Bool). unless_among x (v ∷ filter (unlike v) ts) w) (sym (among-recorded v w is ts))
 
--- the targets of walks, and one walk more
+-- the targets of walks, with one more walk
 targets-more : (ws : List (ℕ × Judged)) (w : ℕ × Judged) → targets_in (ws ++ w ∷ []) ≡ unless_among (among (targets_in ws) w.1) (targets_in ws) w.1
 targets-more [] w = refl
 targets-more (v ∷ ws) w =
@@ -120,15 +120,15 @@ walks-more : (ws : List (ℕ × Judged)) (w : ℕ × Judged) (t : Judged) (b : B
 walks-more ws w t b is =
     filter-append (λ (v : ℕ × Judged). same_judged t v.1) ws (w ∷ []) ∙ ap (λ (x : Bool). walks_to t ws ++ cond x (w ∷ []) []) is
 
--- none leads to what is not among the targets
+-- no walk leads to a target that is not among the targets
 none-there : (ws : List (ℕ × Judged)) (w : Judged) → among (targets_in ws) w ≡ false → walks_to w ws ≡ []
 none-there [] w none = refl
 none-there (v ∷ ws) w none =
     let parts = or_parts (same_judged v.1 w) (among (filter (unlike v.1) (targets_in ws)) w) none in
     ap (λ (x : Bool). cond x (v ∷ walks_to w ws) (walks_to w ws)) (swapped v.1 w parts.0)
-    ∙ none-there ws w (sym (among-kept v.1 w parts.0 (targets_in ws)) ∙ parts.1)
+    ∙ none-there ws w (sym (among-recorded v.1 w parts.0 (targets_in ws)) ∙ parts.1)
 
--- ---- no two targets are one
+-- ---- no two targets are equal
 
 abbrev AreApart : List Judged → Type 0
 AreApart [] = Unit {0}
@@ -163,44 +163,44 @@ targets-apart : (ws : List (ℕ × Judged)) → AreApart (targets_in ws)
 targets-apart [] = tt
 targets-apart (v ∷ ws) = (none-like v.1 (targets_in ws), apart-filter (unlike v.1) (targets_in ws) (targets-apart ws))
 
--- ---- what is kept
+-- ---- the records
 
 module _ (ws : List (ℕ × Judged)) (line : ℕ) (w : Judged) where
   abbrev later : List (ℕ × Judged)
   later = ws ++ (line, w) ∷ []
 
-  -- of a target to which the walk does not lead
-  unmoved : (t : Judged) → same_judged t w ≡ false → kept_target later t ≡ kept_target ws t
+  -- the record of a target to which the walk does not lead
+  unmoved : (t : Judged) → same_judged t w ≡ false → recorded_target later t ≡ recorded_target ws t
   unmoved t apart =
-      ap (λ (there : List (ℕ × Judged)). let it : KeptTarget = record { judged = record t { permissions = permissions_asked there }; times = times_of (map (λ v. v.0) there) } in it)
+      ap (λ (there : List (ℕ × Judged)). let it : RecordedTarget = record { judged = record t { permissions = permissions_asked there }; times = times_of (map (λ v. v.0) there) } in it)
       (walks-more ws (line, w) t false apart ∙ append-nil (walks_to t ws))
 
-  -- of the one to which it leads
-  moved : (t : Judged) → same_judged t w ≡ true → kept_target later t ≡ target_more (kept_target ws t) line w.permissions
+  -- the record of the target to which the walk leads
+  moved : (t : Judged) → same_judged t w ≡ true → recorded_target later t ≡ target_more (recorded_target ws t) line w.permissions
   moved t same =
-      ap (λ (there : List (ℕ × Judged)). let it : KeptTarget = record { judged = record t { permissions = permissions_asked there }; times = times_of (map (λ v. v.0) there) } in it)
+      ap (λ (there : List (ℕ × Judged)). let it : RecordedTarget = record { judged = record t { permissions = permissions_asked there }; times = times_of (map (λ v. v.0) there) } in it)
       (walks-more ws (line, w) t true same)
-      ∙ ap₂ (λ (p : Perms) (times : Times). let it : KeptTarget = record { judged = record t { permissions = p }; times = times } in it)
+      ∙ ap₂ (λ (p : Perms) (times : Times). let it : RecordedTarget = record { judged = record t { permissions = p }; times = times } in it)
       (permissions-more (walks_to t ws) (line, w))
       (ap times_of (map-append (λ (v : ℕ × Judged). v.0) (walks_to t ws) ((line, w) ∷ [])) ∙ times-more (map (λ v. v.0) (walks_to t ws)) line)
 
-  -- of a target to which no walk has led
-  first : walks_to w ws ≡ [] → kept_target later w ≡ first_walk line w
+  -- the record of a new target
+  first : walks_to w ws ≡ [] → recorded_target later w ≡ first_walk line w
   first none =
-      ap (λ (there : List (ℕ × Judged)). let it : KeptTarget = record { judged = record w { permissions = permissions_asked there }; times = times_of (map (λ v. v.0) there) } in it)
+      ap (λ (there : List (ℕ × Judged)). let it : RecordedTarget = record { judged = record w { permissions = permissions_asked there }; times = times_of (map (λ v. v.0) there) } in it)
       (walks-more ws (line, w) w true (same-self w) ∙ ap (λ (vs : List (ℕ × Judged)). vs ++ (line, w) ∷ []) none)
-      ∙ ap (λ (p : Perms). let it : KeptTarget = record { judged = record w { permissions = p }; times = record { count = 1; last = line } } in it)
+      ∙ ap (λ (p : Perms). let it : RecordedTarget = record { judged = record w { permissions = p }; times = record { count = 1; last = line } } in it)
       (permissions-more [] (line, w))
 
-  others : (t : Judged) → same_judged t w ≡ true → (ts : List Judged) → list_any (same_judged t) ts ≡ false → map (kept_target ws) ts ≡ map (kept_target later) ts
+  others : (t : Judged) → same_judged t w ≡ true → (ts : List Judged) → list_any (same_judged t) ts ≡ false → map (recorded_target ws) ts ≡ map (recorded_target later) ts
   others t same [] apart = refl
   others t same (u ∷ ts) apart =
       let parts = or_parts (same_judged t u) (list_any (same_judged t) ts) apart in
-      ap₂ (λ (x : KeptTarget) (xs : List KeptTarget). x ∷ xs) (sym (unmoved u (swapped w u (sym (alike t w u same) ∙ parts.0)))) (others t same ts parts.1)
+      ap₂ (λ (x : RecordedTarget) (xs : List RecordedTarget). x ∷ xs) (sym (unmoved u (swapped w u (sym (alike t w u same) ∙ parts.0)))) (others t same ts parts.1)
 
   walk-in : (ts : List Judged) → AreApart ts → (among ts w ≡ false → walks_to w ws ≡ [])
-      → walk_more (map (kept_target ws) ts) line w ≡ map (kept_target later) (unless_among (among ts w) ts w)
-  walk-in [] apart none = ap (λ (x : KeptTarget). x ∷ []) (sym (first (none refl)))
+      → walk_more (map (recorded_target ws) ts) line w ≡ map (recorded_target later) (unless_among (among ts w) ts w)
+  walk-in [] apart none = ap (λ (x : RecordedTarget). x ∷ []) (sym (first (none refl)))
   walk-in (t ∷ ts) apart none = by (same_judged t w) refl (walk-in ts apart.1)
     where
       onto : (b : Bool) → t ∷ unless_among b ts w ≡ unless_among b (t ∷ ts) w
@@ -208,21 +208,21 @@ module _ (ws : List (ℕ × Judged)) (line : ℕ) (w : Judged) where
       onto false = refl
 
       by : (b : Bool) → same_judged t w ≡ b
-          → ((among ts w ≡ false → walks_to w ws ≡ []) → walk_more (map (kept_target ws) ts) line w ≡ map (kept_target later) (unless_among (among ts w) ts w))
-          → cond b (target_more (kept_target ws t) line w.permissions ∷ map (kept_target ws) ts) (kept_target ws t ∷ walk_more (map (kept_target ws) ts) line w)
-          ≡ map (kept_target later) (unless_among (b || among ts w) (t ∷ ts) w)
-      by true is rest = ap₂ (λ (x : KeptTarget) (xs : List KeptTarget). x ∷ xs) (sym (moved t is)) (others t is ts apart.0)
+          → ((among ts w ≡ false → walks_to w ws ≡ []) → walk_more (map (recorded_target ws) ts) line w ≡ map (recorded_target later) (unless_among (among ts w) ts w))
+          → cond b (target_more (recorded_target ws t) line w.permissions ∷ map (recorded_target ws) ts) (recorded_target ws t ∷ walk_more (map (recorded_target ws) ts) line w)
+          ≡ map (recorded_target later) (unless_among (b || among ts w) (t ∷ ts) w)
+      by true is rest = ap₂ (λ (x : RecordedTarget) (xs : List RecordedTarget). x ∷ xs) (sym (moved t is)) (others t is ts apart.0)
       by false is rest =
-          ap₂ (λ (x : KeptTarget) (xs : List KeptTarget). x ∷ xs) (sym (unmoved t is))
+          ap₂ (λ (x : RecordedTarget) (xs : List RecordedTarget). x ∷ xs) (sym (unmoved t is))
           (rest (λ absent. none (ap (λ (x : Bool). x || among ts w) is ∙ absent)))
-          ∙ ap (map (kept_target later)) (onto (among ts w))
+          ∙ ap (map (recorded_target later)) (onto (among ts w))
 
-  walk-kept : walk_more (kept_targets ws) line w ≡ kept_targets later
-  walk-kept = walk-in (targets_in ws) (targets-apart ws) (none-there ws w) ∙ ap (map (kept_target later)) (sym (targets-more ws (line, w)))
+  walk-recorded : walk_more (recorded_targets ws) line w ≡ recorded_targets later
+  walk-recorded = walk-in (targets_in ws) (targets-apart ws) (none-there ws w) ∙ ap (map (recorded_target later)) (sym (targets-more ws (line, w)))
 
--- the walks of a call, one after another
-pub walks-kept : (line : ℕ) (js : List Judged) (ws : List (ℕ × Judged)) → walks_more (kept_targets ws) line js ≡ kept_targets (ws ++ map (λ (w : Judged). (line, w)) js)
-walks-kept line [] ws = ap kept_targets (sym (append-nil ws))
-walks-kept line (w ∷ js) ws =
-    ap (λ (ts : List KeptTarget). walks_more ts line js) (walk-kept ws line w)
-    ∙ walks-kept line js (ws ++ (line, w) ∷ []) ∙ ap kept_targets (append_assoc ws ((line, w) ∷ []) (map (λ (v : Judged). (line, v)) js))
+-- the walks of a call, in sequence
+pub walks-recorded : (line : ℕ) (js : List Judged) (ws : List (ℕ × Judged)) → walks_more (recorded_targets ws) line js ≡ recorded_targets (ws ++ map (λ (w : Judged). (line, w)) js)
+walks-recorded line [] ws = ap recorded_targets (sym (append-nil ws))
+walks-recorded line (w ∷ js) ws =
+    ap (λ (ts : List RecordedTarget). walks_more ts line js) (walk-recorded ws line w)
+    ∙ walks-recorded line js (ws ++ (line, w) ∷ []) ∙ ap recorded_targets (append_assoc ws ((line, w) ∷ []) (map (λ (v : Judged). (line, v)) js))

@@ -1,12 +1,12 @@
--- How often something was asked, and the permissions of all, one more.
+-- Counts, and the permissions of all walks, with one more.
 use Rattle.std.proofs.Common.{◌≡◌, ◌∙◌, ℕ, ◌+◌, Bool, true, false, ◌||◌, List, [], ◌∷◌, ◌++◌, length, length-append, refl, ap, ap₂, arith}
 use Rattle.std.specs.Prelude.{min}
 use Rattle.pv_model.specs.declared.perms.Perms.{Perms}
 use Rattle.pv_model.specs.Answers.Needs.{Judged, last_of, permissions_asked}
 use Rattle.pv_model.specs.Perms.{join_permissions, no_permissions}
-use Rattle.pv_needs.specs.declared.stints.TheConstants.{MANY}
-use Rattle.pv_needs.specs.declared.stints.Times.{Times}
-use Rattle.pv_needs.specs.Stints.{once_more, times_of}
+use Rattle.pv_needs.specs.declared.process_images.TheConstants.{MANY}
+use Rattle.pv_needs.specs.declared.process_images.Times.{Times}
+use Rattle.pv_needs.specs.ProcessImages.{once_more, times_of}
 
 last-more : (n line : ℕ) (lines : List ℕ) → last_of n (lines ++ line ∷ []) ≡ line
 last-more n line [] = refl
@@ -15,7 +15,7 @@ last-more n line (m ∷ lines) = last-more m line lines
 one-more : (n limit : ℕ) → min (n + 1) limit ≡ min (min n limit + 1) limit
 one-more n limit = omega arith
 
--- once more
+-- the count with one more call
 pub times-more : (lines : List ℕ) (line : ℕ) → times_of (lines ++ line ∷ []) ≡ once_more (times_of lines) line
 times-more lines line =
     ap₂ (λ (n m : ℕ). let it : Times = record { count = n; last = m } in it)
@@ -45,7 +45,7 @@ join-none p = joined _ _ (or-none p.r) (or-none p.w) (or-none p.x) (or-none p.c)
 none-join : (p : Perms) → p ≡ join_permissions no_permissions p
 none-join p = refl
 
--- the permissions of one walk more
+-- the permissions with one more walk
 pub permissions-more : (ws : List (ℕ × Judged)) (w : ℕ × Judged) → permissions_asked (ws ++ w ∷ []) ≡ join_permissions (permissions_asked ws) w.1.permissions
 permissions-more [] w = join-none w.1.permissions ∙ none-join w.1.permissions
 permissions-more (v ∷ ws) w =

@@ -9,17 +9,18 @@ use Rattle.pv_model.specs.Grammar.Programs.{program_of}
 use Rattle.pv_model.specs.State.{State}
 use Rattle.pv_model.specs.Step.{Run, Schedule, run, steps_of}
 use Rattle.pv_model.proofs.Runs.{run-append}
+use Rattle.pv_laws_runs.proofs.TurnsMade.{next-goes, turn-few, turn-some}
+use Rattle.pv_laws_runs.proofs.TurnsReady.{turn-is}
 use Rattle.pv_session.specs.Running.{run_of}
-use Rattle.pv_streams.specs.Sinks.{and_all, TellsBeginning}
+use Rattle.pv_streams.specs.Sinks.{and_all, WritesPrefix}
 use Rattle.pv_streams.proofs.Sinks.{begins_whole}
-use Rattle.pv_streams.proofs.Telling.{begins_first, begins_then, written_both, written_none}
+use Rattle.pv_streams.proofs.Reporting.{begins_first, begins_then, written_both, written_none}
 use Rattle.pv_needs.specs.Turning.{IsMade, IsTaken, TurnsWritten}
-use Rattle.pv_needs.proofs.TurnsMade.{next-goes, rest_of, turn-few, turn-some, turns-end, turns-from, turns-next}
-use Rattle.pv_needs.proofs.TurnsReady.{turn-is}
+use Rattle.pv_needs.proofs.TurnsMade.{rest_of, turns-end, turns-from, turns-next}
 use Rattle.pv_needs.proofs.TurnsTaken.{none-above}
 
 module _ (slice steps : ℕ) (s : State) where
-  -- the lines of the first turns were written, and those of so many steps more are left
+  -- the lines of the first turns are written, and this many steps remain
   pub record AreWritten (left last : ℕ) (now : State) (before after : Option Bytes) : Type 0 where
     pub made : Schedule
     pub all : turns program_of slice steps s ≡ made ++ rest_of program_of slice left last now
@@ -34,17 +35,17 @@ module _ (slice : ℕ) (whole : 1 ≤ slice) (steps : ℕ) (s : State) where
     pub lines-so-far : TurnsWritten (turns program_of slice steps s) before mid
     lines-so-far = record { made = so_far.made; rest = rest_of program_of slice left last now; all = so_far.all; as_written = so_far.as_written }
 
-    -- what the schedule spells, and what was written of it
-    spelled : schedule_text so_far.made ++ schedule_text (rest_of program_of slice left last now) ≡ schedule_text (turns program_of slice steps s)
-    spelled = sym (ap schedule_text so_far.all ∙ flat_map-append turn_line so_far.made (rest_of program_of slice left last now))
+    -- the text of the schedule, and the part of it that is written
+    encoded : schedule_text so_far.made ++ schedule_text (rest_of program_of slice left last now) ≡ schedule_text (turns program_of slice steps s)
+    encoded = sym (ap schedule_text so_far.all ∙ flat_map-append turn_line so_far.made (rest_of program_of slice left last now))
 
-    pub begun-so-far : TellsBeginning (schedule_text (turns program_of slice steps s)) before mid
+    pub begun-so-far : WritesPrefix (schedule_text (turns program_of slice steps s)) before mid
     begun-so-far =
-        subst (λ (bs : Bytes). TellsBeginning bs before mid) spelled
+        subst (λ (bs : Bytes). WritesPrefix bs before mid) encoded
         (begins_first (schedule_text so_far.made) (schedule_text (rest_of program_of slice left last now)) before mid
         (begins_whole (schedule_text so_far.made) before mid so_far.as_written))
 
-    -- ---- one turn more
+    -- ---- one more turn
 
     module _ (some : 1 ≤ left) (q count : ℕ) (new : State) (taken : IsTaken (min slice left) now (next_turn program_of last now) (Some (q, count)) new) where
       record IsNext : Type 0 where
@@ -82,10 +83,10 @@ module _ (slice : ℕ) (whole : 1 ≤ slice) (steps : ℕ) (s : State) where
       text-next : schedule_text (rest_of program_of slice left last now) ≡ turn_line (q, count) ++ schedule_text (rest_of program_of slice (left - count) q new)
       text-next = ap schedule_text rest-next
 
-      pub begun-next : (after : Option Bytes) → TellsBeginning (turn_line (q, count)) mid after → TellsBeginning (schedule_text (turns program_of slice steps s)) before after
+      pub begun-next : (after : Option Bytes) → WritesPrefix (turn_line (q, count)) mid after → WritesPrefix (schedule_text (turns program_of slice steps s)) before after
       begun-next after begun =
           let rest = schedule_text (rest_of program_of slice (left - count) q new) in
-          subst (λ (bs : Bytes). TellsBeginning bs before after) (ap (λ (bs : Bytes). schedule_text so_far.made ++ bs) (sym text-next) ∙ spelled)
+          subst (λ (bs : Bytes). WritesPrefix bs before after) (ap (λ (bs : Bytes). schedule_text so_far.made ++ bs) (sym text-next) ∙ encoded)
           (begins_then (schedule_text so_far.made) (turn_line (q, count) ++ rest) before mid after so_far.as_written
           (begins_first (turn_line (q, count)) rest mid after begun))
 
@@ -111,7 +112,7 @@ module _ (slice : ℕ) (whole : 1 ≤ slice) (steps : ℕ) (s : State) where
             ∙ ap (and_all before) (sym (flat_map-append turn_line so_far.made ((q, count) ∷ []) ∙ ap (λ bs. schedule_text so_far.made ++ bs) (append-nil (turn_line (q, count)))));
       }
 
-    -- ---- no turn more
+    -- ---- no more turns
 
     pub record IsAll : Type 0 where
       pub after : now ≡ (run_of s (turns program_of slice steps s)).final
@@ -122,7 +123,7 @@ module _ (slice : ℕ) (whole : 1 ≤ slice) (steps : ℕ) (s : State) where
         let same : so_far.made ≡ turns program_of slice steps s = sym (so_far.all ∙ ap (λ (sch : Schedule). so_far.made ++ sch) none ∙ append-nil so_far.made) in
         record { after = so_far.at ∙ ap (λ (sch : Schedule). (run_of s sch).final) same; as_written = so_far.as_written ∙ ap (λ (sch : Schedule). and_all before (schedule_text sch)) same }
 
-    -- no step is left
+    -- no step remains
     pub all-over : left ≤ 0 → IsAll
     all-over over = let none : left ≡ 0 = omega (arith, over) in all-where (ap (λ n. rest_of program_of slice n last now) none)
 

@@ -1,37 +1,15 @@
 -- Turns: a fair schedule, turn by turn.
-use Rattle.std.proofs.Common.{◌≡◌, ◌∙◌, ℕ, zero, suc, ◌-◌, ◌≤◌, Bool, true, false, cond, List, [], ◌∷◌, Option, None, Some, refl, ap, subst, min, arith}
-use Rattle.std.specs.List.{filter}
-use Rattle.pv_model.specs.Answers.Nodes.{first_of}
-use Rattle.pv_model.specs.Answers.Turns.{Turn, goes_on, live_after, next_turn, one_step_more, turn, turn_then, turns, turns_within}
+use Rattle.std.proofs.Common.{◌≡◌, ◌∙◌, ℕ, zero, suc, ◌-◌, ◌≤◌, Bool, true, false, cond, List, [], ◌∷◌, Option, None, Some, refl, ap, min, arith}
+use Rattle.pv_model.specs.Answers.Turns.{Turn, continues, next_turn, one_step_more, turn, turn_then, turns, turns_within}
 use Rattle.pv_model.specs.Bytes.{Bytes}
 use Rattle.pv_model.specs.State.{Program, State}
 use Rattle.pv_model.specs.Step.{Schedule, step}
-
-first-passes : {X : Type 0} (p : X → Bool) (xs : List X) (x : X) → first_of (filter p xs) ≡ Some x → p x ≡ true
-first-passes p [] x is = absurd (cc)
-first-passes p (y ∷ ys) x is = by (p y) refl is (first-passes p ys x)
-  where
-    by : (b : Bool) → p y ≡ b → first_of (cond b (y ∷ filter p ys) (filter p ys)) ≡ Some x → (first_of (filter p ys) ≡ Some x → p x ≡ true) → p x ≡ true
-    by true passes is rest = let same : y ≡ x = cc in subst (λ z. p z ≡ true) same passes
-    by false fails is rest = rest is
+use Rattle.pv_laws_runs.proofs.TurnsMade.{next-goes, turn-some}
 
 module _ (program_of : Bytes → Option Program) where
-  -- the process that has the next turn goes on
-  pub next-goes : (pid : ℕ) (s : State) (q : ℕ) → next_turn program_of pid s ≡ Some q → goes_on (step program_of s q).outcome ≡ true
-  next-goes pid s q is = first-passes (λ other. goes_on (step program_of s other).outcome) (live_after pid s) q is
-
   -- ---- one turn
 
-  stopped : State → Turn
-  stopped s = record { count = 0; after = s }
-
-  pub turn-goes : (n pid : ℕ) (s : State) → goes_on (step program_of s pid).outcome ≡ true
-      → turn program_of (suc n) pid s ≡ one_step_more (turn program_of n pid (step program_of s pid).after)
-  unfolding turn
-  turn-goes n pid s is =
-      ap (λ (b : Bool). cond b (one_step_more (turn program_of n pid (step program_of s pid).after)) (let it : Turn = record { count = 0; after = s } in it)) is
-
-  pub turn-stops : (n pid : ℕ) (s : State) → goes_on (step program_of s pid).outcome ≡ false → turn program_of n pid s ≡ record { count = 0; after = s }
+  pub turn-stops : (n pid : ℕ) (s : State) → continues (step program_of s pid).outcome ≡ false → turn program_of n pid s ≡ record { count = 0; after = s }
   unfolding turn
   turn-stops zero pid s is = refl
   turn-stops (suc n) pid s is =
@@ -41,26 +19,10 @@ module _ (program_of : Bytes → Option Program) where
   unfolding turn
   turn-none pid s = refl
 
-  -- a turn is no longer than it may be
-  pub turn-few : (n pid : ℕ) (s : State) → (turn program_of n pid s).count ≤ n
-  unfolding turn
-  turn-few zero pid s = omega arith
-  turn-few (suc n) pid s = by (goes_on (step program_of s pid).outcome) (turn-few n pid (step program_of s pid).after)
-    where
-      by : (b : Bool) → (turn program_of n pid (step program_of s pid).after).count ≤ n
-          → (cond b (one_step_more (turn program_of n pid (step program_of s pid).after)) (let it : Turn = record { count = 0; after = s } in it)).count ≤ suc n
-      by true few = omega arith
-      by false few = omega arith
-
-  -- one of a process that goes on has a step
-  pub turn-some : (n pid : ℕ) (s : State) → 1 ≤ n → goes_on (step program_of s pid).outcome ≡ true → 1 ≤ (turn program_of n pid s).count
-  turn-some zero pid s some is = absurd (omega arith)
-  turn-some (suc n) pid s some is = rw (turn-goes n pid s is) (omega arith)
-
   -- ---- turns
 
   module _ (slice : ℕ) where
-    -- the turns of so many steps, by the next one
+    -- the turns of the remaining steps
     abbrev pub rest_of : ℕ → ℕ → State → Schedule
     rest_of left pid s = turns_within program_of slice left left pid s
 
@@ -91,7 +53,7 @@ module _ (program_of : Bytes → Option Program) where
         by (next_turn program_of pid s) refl
         (λ q is.
         let now = turn program_of (min slice (suc n)) q s in
-        let some : 1 ≤ now.count = turn-some (min slice (suc n)) q s (least n) (next-goes pid s q is) in
+        let some : 1 ≤ now.count = turn-some program_of (min slice (suc n)) q s (least n) (next-goes program_of pid s q is) in
         enough f g (suc n - now.count) q now.after (omega arith) (omega arith))
       where
         by : (o : Option ℕ) → next_turn program_of pid s ≡ o
@@ -106,6 +68,6 @@ module _ (program_of : Bytes → Option Program) where
     turns-next zero pid s q some is = absurd (omega arith)
     turns-next (suc n) pid s q some is =
         let now = turn program_of (min slice (suc n)) q s in
-        let step : 1 ≤ now.count = turn-some (min slice (suc n)) q s (least n) (next-goes pid s q is) in
+        let step : 1 ≤ now.count = turn-some program_of (min slice (suc n)) q s (least n) (next-goes program_of pid s q is) in
         ap (turn_then program_of slice (turns_within program_of slice n) (suc n) s) is
         ∙ ap (λ (sch : Schedule). (q, now.count) ∷ sch) (enough n (suc n - now.count) (suc n - now.count) q now.after (omega arith) (omega arith))

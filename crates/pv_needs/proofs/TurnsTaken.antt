@@ -1,4 +1,4 @@
--- Turns as they are made, step by step and process by process.
+-- Turns as the code makes them, step by step and process by process.
 use Rattle.std.proofs.Common.{◌≡◌, ◌∙◌, ℕ, suc, ◌+◌, ◌-◌, ◌<◌, ◌≤◌, Bool, true, false, cond, if◌then◌else◌, nat_le, length, Option, None, Some, is_some, refl, sym, ap, subst, arith}
 use Rattle.std.specs.Prelude.{IsSome}
 use Rattle.std.specs.FinMap.Entries.{is_sorted}
@@ -10,7 +10,7 @@ use Rattle.pv_model.specs.declared.outcome.Outcome.{Outcome}
 use Rattle.pv_model.specs.declared.outcome.Outcome.TheVariants.{Blocked, Gone}
 use Rattle.pv_model.specs.Answer.{answer}
 use Rattle.pv_model.specs.Answers.Nodes.{first_of}
-use Rattle.pv_model.specs.Answers.Turns.{Turn, goes_on, next_turn, turn}
+use Rattle.pv_model.specs.Answers.Turns.{Turn, continues, next_turn, turn}
 use Rattle.pv_model.specs.Grammar.Programs.{program_of}
 use Rattle.pv_model.specs.Program.{Next, calls_for, inside, next}
 use Rattle.pv_model.specs.State.{Process, State, process_at}
@@ -19,25 +19,26 @@ use Rattle.pv_procs.specs.ProcessTable.{ProcessTable, number_after}
 use Rattle.pv_answers.proofs.Following.{fewer-after, next-record, records_after}
 use Rattle.pv_laws_states.specs.States.{AreProcesses}
 use Rattle.pv_laws_states.proofs.Outcomes.{blocked-leaves, gone-leaves}
+use Rattle.pv_laws_runs.proofs.TurnsMade.{turn-goes, turn-some}
 use Rattle.pv_needs.specs.Turning.{IsMade, IsTaken, first_between}
 use Rattle.pv_needs.proofs.Rounds.{chosen, next-none, next-one, next-turn, or_else}
-use Rattle.pv_needs.proofs.TurnsMade.{turn-goes, turn-none, turn-some, turn-stops}
+use Rattle.pv_needs.proofs.TurnsMade.{turn-none, turn-stops}
 
--- ---- steps that a turn doesn't make
+-- ---- steps that a turn does not make
 
--- such an outcome
+-- the outcome of a blocked wait or of a process that is not live
 abbrev Stays : Outcome → Type 0
 Stays Blocked = Unit {0}
 Stays Gone = Unit {0}
 Stays _ = ⊥
 
-stopping : (o : Outcome) → goes_on o ≡ false → Stays o
+stopping : (o : Outcome) → continues o ≡ false → Stays o
 stopping Blocked is = tt
 stopping Gone is = tt
 stopping o is = absurd (cc)
 
--- one that doesn't go on leaves the state
-pub stays : (s : State) (pid : ℕ) → goes_on (step program_of s pid).outcome ≡ false → (step program_of s pid).after ≡ s
+-- a step with such an outcome keeps the state
+pub stays : (s : State) (pid : ℕ) → continues (step program_of s pid).outcome ≡ false → (step program_of s pid).after ≡ s
 unfolding step
 stays s pid is = at (process_at s pid) is
   where
@@ -46,11 +47,11 @@ stays s pid is = at (process_at s pid) is
     left call Gone same stop = (gone-leaves program_of s pid call same).leaves
     left call o same stop = absurd stop
 
-    by : (p : Process) (n : Next) → goes_on (step_by program_of s pid p n).outcome ≡ false → (step_by program_of s pid p n).after ≡ s
+    by : (p : Process) (n : Next) → continues (step_by program_of s pid p n).outcome ≡ false → (step_by program_of s pid p n).after ≡ s
     by p (inside q) not = cc not
     by p (calls_for call) not = left call (answer program_of s pid call).outcome refl (stopping (answer program_of s pid call).outcome not)
 
-    at : (o : Option Process) → goes_on (step_of program_of s pid o).outcome ≡ false → (step_of program_of s pid o).after ≡ s
+    at : (o : Option Process) → continues (step_of program_of s pid o).outcome ≡ false → (step_of program_of s pid o).after ≡ s
     at None not = refl
     at (Some p) not = by p (next p) not
 
@@ -59,7 +60,7 @@ stays s pid is = at (process_at s pid) is
 abbrev and_more : ℕ → Turn → Turn
 and_more k t = record { count = k + t.count; after = t.after }
 
--- so many steps of a turn were made
+-- this many steps of a turn were made
 pub record IsSoFar (most pid : ℕ) (s : State) (made : ℕ) (now : State) : Type 0 where
   pub fits : made ≤ most
   pub is : turn program_of most pid s ≡ and_more made (turn program_of (most - made) pid now)
@@ -73,7 +74,7 @@ so-far-none most pid s =
       is = ap (λ n. turn program_of n pid s) all ∙ ap (λ n. let it : Turn = record { count = n; after = (turn program_of (most - 0) pid s).after } in it) counts;
     }
 
-pub so-far-more : (most pid : ℕ) (s : State) (made : ℕ) (now : State) → made < most → IsSoFar most pid s made now → goes_on (step program_of now pid).outcome ≡ true
+pub so-far-more : (most pid : ℕ) (s : State) (made : ℕ) (now : State) → made < most → IsSoFar most pid s made now → continues (step program_of now pid).outcome ≡ true
     → IsSoFar most pid s (made + 1) (step program_of now pid).after
 so-far-more most pid s made now more so goes =
     let after = (step program_of now pid).after in
@@ -89,7 +90,7 @@ so-far-more most pid s made now more so goes =
 count-plain : (n : ℕ) (s : State) → and_more n (record { count = 0; after = s }) ≡ record { count = n; after = s }
 count-plain n s = let same : n + 0 ≡ n = omega arith in ap (λ k. let it : Turn = record { count = k; after = s } in it) same
 
-pub so-far-stops : (most pid : ℕ) (s : State) (made : ℕ) (now : State) → IsSoFar most pid s made now → goes_on (step program_of now pid).outcome ≡ false
+pub so-far-stops : (most pid : ℕ) (s : State) (made : ℕ) (now : State) → IsSoFar most pid s made now → continues (step program_of now pid).outcome ≡ false
     → IsMade most pid s made (step program_of now pid).after
 so-far-stops most pid s made now so stops =
     so.is ∙ ap (and_more made) (turn-stops program_of (most - made) pid now stops) ∙ count-plain made now
@@ -100,12 +101,12 @@ so-far-all most pid s now so =
     let none : most - most ≡ 0 = omega arith in
     so.is ∙ ap (λ n. and_more most (turn program_of n pid now)) none ∙ ap (and_more most) (turn-none program_of pid now) ∙ count-plain most now
 
--- ---- one with no step, and one with some
+-- ---- turns without a step and with steps
 
-pub made-none : (most pid : ℕ) (s after : State) → 1 ≤ most → IsMade most pid s 0 after → goes_on (step program_of s pid).outcome ≡ false
-made-none most pid s after some made = by (goes_on (step program_of s pid).outcome) refl
+pub made-none : (most pid : ℕ) (s after : State) → 1 ≤ most → IsMade most pid s 0 after → continues (step program_of s pid).outcome ≡ false
+made-none most pid s after some made = by (continues (step program_of s pid).outcome) refl
   where
-    by : (b : Bool) → goes_on (step program_of s pid).outcome ≡ b → goes_on (step program_of s pid).outcome ≡ false
+    by : (b : Bool) → continues (step program_of s pid).outcome ≡ b → continues (step program_of s pid).outcome ≡ false
     by true goes = let few = turn-some program_of most pid s some goes in let count = ap (λ (t : Turn). t.count) made in absurd (omega (arith, few, count))
     by false stops = stops
 
@@ -113,10 +114,10 @@ pub made-leaves : (most pid : ℕ) (s after : State) → 1 ≤ most → IsMade m
 made-leaves most pid s after some made =
     ap (λ (t : Turn). t.after) (sym made ∙ turn-stops program_of most pid s (made-none most pid s after some made))
 
-pub made-some : (most pid : ℕ) (s after : State) (count : ℕ) → 0 < count → IsMade most pid s count after → goes_on (step program_of s pid).outcome ≡ true
-made-some most pid s after count some made = by (goes_on (step program_of s pid).outcome) refl
+pub made-some : (most pid : ℕ) (s after : State) (count : ℕ) → 0 < count → IsMade most pid s count after → continues (step program_of s pid).outcome ≡ true
+made-some most pid s after count some made = by (continues (step program_of s pid).outcome) refl
   where
-    by : (b : Bool) → goes_on (step program_of s pid).outcome ≡ b → goes_on (step program_of s pid).outcome ≡ true
+    by : (b : Bool) → continues (step program_of s pid).outcome ≡ b → continues (step program_of s pid).outcome ≡ true
     by true goes = goes
     by false stops = let none = ap (λ (t : Turn). t.count) (sym made ∙ turn-stops program_of most pid s stops) in absurd (omega (arith, none, some))
 
@@ -124,26 +125,26 @@ made-some most pid s after count some made = by (goes_on (step program_of s pid)
 
 module _ (s : State) (sorted : is_sorted nat_cmp s.processes ≡ true) (last up_to : ℕ) where
   goes : ℕ → Bool
-  goes k = goes_on (step program_of s k).outcome
+  goes k = continues (step program_of s k).outcome
 
   module _ (pid : ℕ) (is : number_after last s.processes ≡ Some pid) where
-    one : first_between program_of s last up_to ≡ (if nat_le pid up_to then chosen (λ k. goes_on (step program_of s k).outcome) up_to (goes_on (step program_of s pid).outcome) pid (first_between program_of s pid up_to) else None)
-    one = next-one (λ k. goes_on (step program_of s k).outcome) up_to last pid s.processes sorted is
+    one : first_between program_of s last up_to ≡ (if nat_le pid up_to then chosen (λ k. continues (step program_of s k).outcome) up_to (continues (step program_of s pid).outcome) pid (first_between program_of s pid up_to) else None)
+    one = next-one (λ k. continues (step program_of s k).outcome) up_to last pid s.processes sorted is
 
     pub beyond : up_to < pid → first_between program_of s last up_to ≡ None
-    beyond past = one ∙ ap (λ (b : Bool). cond b (chosen (λ k. goes_on (step program_of s k).outcome) up_to (goes_on (step program_of s pid).outcome) pid (first_between program_of s pid up_to)) None) (lt-leb pid up_to past)
+    beyond past = one ∙ ap (λ (b : Bool). cond b (chosen (λ k. continues (step program_of s k).outcome) up_to (continues (step program_of s pid).outcome) pid (first_between program_of s pid up_to)) None) (lt-leb pid up_to past)
 
-    within : pid ≤ up_to → first_between program_of s last up_to ≡ chosen (λ k. goes_on (step program_of s k).outcome) up_to (goes_on (step program_of s pid).outcome) pid (first_between program_of s pid up_to)
-    within low = one ∙ ap (λ (b : Bool). cond b (chosen (λ k. goes_on (step program_of s k).outcome) up_to (goes_on (step program_of s pid).outcome) pid (first_between program_of s pid up_to)) None) (le-leb pid up_to low)
+    within : pid ≤ up_to → first_between program_of s last up_to ≡ chosen (λ k. continues (step program_of s k).outcome) up_to (continues (step program_of s pid).outcome) pid (first_between program_of s pid up_to)
+    within low = one ∙ ap (λ (b : Bool). cond b (chosen (λ k. continues (step program_of s k).outcome) up_to (continues (step program_of s pid).outcome) pid (first_between program_of s pid up_to)) None) (le-leb pid up_to low)
 
-    pub here : pid ≤ up_to → goes_on (step program_of s pid).outcome ≡ true → first_between program_of s last up_to ≡ Some pid
+    pub here : pid ≤ up_to → continues (step program_of s pid).outcome ≡ true → first_between program_of s last up_to ≡ Some pid
     here low goes = within low ∙ ap (λ (b : Bool). cond b (Some pid) (first_between program_of s pid up_to)) goes
 
-    pub later : pid ≤ up_to → goes_on (step program_of s pid).outcome ≡ false → first_between program_of s last up_to ≡ first_between program_of s pid up_to
+    pub later : pid ≤ up_to → continues (step program_of s pid).outcome ≡ false → first_between program_of s last up_to ≡ first_between program_of s pid up_to
     later low stops = within low ∙ ap (λ (b : Bool). cond b (Some pid) (first_between program_of s pid up_to)) stops
 
   pub nobody : number_after last s.processes ≡ None → first_between program_of s last up_to ≡ None
-  nobody is = ap first_of (next-none (λ k. goes_on (step program_of s k).outcome) up_to last s.processes is)
+  nobody is = ap first_of (next-none (λ k. continues (step program_of s k).outcome) up_to last s.processes is)
 
 -- ---- the turn that is taken
 
@@ -155,7 +156,7 @@ module _ (most : ℕ) (s : State) where
       → IsTaken most s o made after
   taken-one o made after pid count one is turn-made = subst (λ (x : Option ℕ). IsTaken most s x made after) (sym one) (count, is, turn-made)
 
-  -- one above is taken, or one from the first on
+  -- a process with a greater number has the turn, or otherwise the first that can make a step
   pub taken-above : (o other : Option ℕ) (made : Option (ℕ × ℕ)) (after : State) → IsSome made → IsTaken most s o made after → IsTaken most s (or_else o other) made after
   taken-above None other made after some taken = let none = taken.0 in cc (none, some)
   taken-above (Some pid) other made after some taken = taken
@@ -174,13 +175,13 @@ taken-as n m s after o made same most is taken =
 
 -- ---- from one process to the next
 
--- what a table has of the processes is what the state has
+-- the table of processes is that of the state
 pub numbered : (last : ℕ) (o : Option ℕ) (table : ProcessTable) (mid now : State) → o ≡ number_after last table.processes
     → table ≡ record { processes = mid.processes; last_process = mid.last_process } → mid ≡ now → number_after last now.processes ≡ o
 numbered last o table mid now is copies same =
     sym (is ∙ ap (λ (t : ProcessTable). number_after last t.processes) copies ∙ ap (λ (s : State). number_after last s.processes) same)
 
--- no process up to one number goes on: those after it are left
+-- no process up to a number can make a step; those after it remain
 pub record IsLeft (s : State) (after up_to last : ℕ) (now : State) : Type 0 where
   pub same : now ≡ s
   pub left : first_between program_of s after up_to ≡ first_between program_of s last up_to
@@ -217,14 +218,14 @@ module _ (most : ℕ) (s : State) (sorted : is_sorted nat_cmp s.processes ≡ tr
           left = is.left ∙ later s sorted last up_to pid comes low (made-none most pid s new some made-here);
         }
 
-    -- and they are fewer
+    -- fewer processes remain
     pub left-fewer : (new : State) → new ≡ s → length (records_after pid new.processes) < length (records_after last now.processes)
     left-fewer new same =
         let fewer = fewer-after last pid s.processes (next-record last pid s.processes sorted comes) in
         subst (λ (t : State). length (records_after pid t.processes) < length (records_after last now.processes)) (sym same)
         (subst (λ (t : State). length (records_after pid s.processes) < length (records_after last t.processes)) (sym is.same) fewer)
 
--- those above a process, and none of them
+-- the processes after one, none of which can make a step
 pub taken-next : (most : ℕ) (s : State) → AreProcesses s → (last : ℕ) (made : Option (ℕ × ℕ)) (after : State) → IsSome made
     → IsTaken most s (first_between program_of s last LAST_PROCESS) made after → IsTaken most s (next_turn program_of last s) made after
 taken-next most s processes last made after some taken =

@@ -1,4 +1,4 @@
--- Words for a target whose directory has a path that is known.
+-- Words for a target whose directory has a known path.
 use Rattle.std.specs.Prelude.{◌≡◌, ℕ, ◌<◌, ◌++◌, codes, length, Some}
 use Rattle.std.specs.Fmt.{decimal}
 use Rattle.pv_model.specs.declared.target.Target.{Target}
@@ -8,12 +8,12 @@ use Rattle.pv_model.specs.Bytes.{Bytes}
 use Rattle.pv_model.specs.Trace.{quote}
 use Rattle.pv_model.specs.Tree.{Tree}
 
--- the directory that a target is, or in which it is a name
+-- the directory of a target: the target itself, or the directory of its name
 abbrev pub directory_in : Target → ℕ
 directory_in (Directory n) = n
 directory_in (Name d name) = d
 
--- this is the path of its directory, which is not the root
+-- this is the path of the target's directory, which is not the root
 pub record IsKnown (t : Tree) (target : Target) (path : Bytes) : Type 0 where
   pub some : 0 < length path
   pub is_path : node_path t (directory_in target) ≡ Some path

@@ -1,5 +1,5 @@
 pub mod Asking
-pub mod KeptLines
+pub mod RecordedLines
 pub mod KnownWords
-pub mod Stints
+pub mod ProcessImages
 pub mod Turning

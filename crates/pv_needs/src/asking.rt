@@ -1,15 +1,15 @@
-//! What a call asks of its sandbox: the promises that it needs, and the walks that are judged.
+//! The demands of a call on its sandbox: the promises that it needs, and its walks that are checked against the table.
 ghost use Rattle.std.specs.Prelude.{◌≡◌, filter_map, IfOk, IsSome, OnOk, Some};
 ghost use Rattle.pv_needs.specs.Asking.{ends_before, judged_begun};
 ghost use Rattle.pv_laws_states.specs.Courses.{is_unveil};
-ghost use Rattle.pv_laws_states.specs.States.{IsWhole};
+ghost use Rattle.pv_laws_states.specs.States.{IsValid};
 ghost use Rattle.pv_model.specs.Answers.Needs.{begins_program as begins_by_definition, promises_needed as needed_by_definition};
 ghost use Rattle.pv_model.specs.Answers.Nodes.{first_of};
 ghost use Rattle.pv_model.specs.CallRef.{call_of, walk_of};
 ghost use Rattle.pv_model.specs.Needs.{needs_of_open};
 ghost use Rattle.pv_model.specs.State.{Process, process_at};
 
-use crate::stints::{JudgedWalk, JudgedWalks};
+use crate::process_images::{JudgedWalk, JudgedWalks};
 use crate::wording::{TargetText, TargetTexts};
 use pv_calls_path::ends::end_of;
 use pv_calls_path::unveil::target_of;
@@ -17,7 +17,7 @@ use pv_calls_state::Parts;
 use pv_model::{CallRef, Mode, OpenFlags, Outcome, Promise, Walk, Walks};
 use std::alloc::AllocError;
 
-// The promises that an open needs.
+// Returns the promises that an open needs.
 fn needed_to_open(flags: OpenFlags) -> &'static [Promise]
     ensures { result.now ≡ filter_map first_of (needs_of_open flags) }
 {
@@ -31,7 +31,7 @@ fn needed_to_open(flags: OpenFlags) -> &'static [Promise]
     }
 }
 
-/// The promises that a call needs: of two of which one would do, the first.
+/// Returns the promises that a call needs. If either of two promises is enough, the first is returned.
 #[tactic(auto, unfolding(pv_model::specs::Needs::needs))]
 pub(crate) fn promises_needed(call: CallRef<'_>) -> &'static [Promise]
     ensures { result.now ≡ needed_by_definition (call_of call.entry) }
@@ -67,7 +67,7 @@ pub(crate) fn promises_needed(call: CallRef<'_>) -> &'static [Promise]
     }
 }
 
-/// Whether a call that had this outcome has begun a program.
+/// Returns whether a call with this outcome has loaded a program.
 pub(crate) fn begins_program(call: CallRef<'_>, outcome: Outcome) -> bool
     ensures { result ≡ begins_by_definition (call_of call.entry) outcome }
 {
@@ -77,14 +77,14 @@ pub(crate) fn begins_program(call: CallRef<'_>, outcome: Outcome) -> bool
     }
 }
 
-// What a walk asks in the state as it is: nothing where it is not begun, or ends at no place.
+// Returns the demand of a walk in the current state, or `None` if the walk fails or cannot start.
 fn judged<'a>(
     text: &'a mut TargetText,
     parts: &Parts,
     pid: u32,
     walk: Walk<'_>,
 ) -> Result<Option<JudgedWalk<'a>>, AllocError>
-    requires whole { IsWhole parts.now }
+    requires whole { IsValid parts.now }
     requires live { IsSome (process_at parts.now pid) }
     ensures { IfOk result (λ found. (me : Process) → process_at parts.now pid ≡ Some me → found ≡ judged_begun parts.now pid me (walk_of walk.entry)) }
 {
@@ -95,7 +95,7 @@ fn judged<'a>(
     Ok(Some(text.walk(walk.needed)))
 }
 
-// Whether a call is an unveil: its walk is not judged.
+// Returns whether a call is an unveil(2), whose walk is not checked.
 fn is_unveil(call: CallRef<'_>) -> bool
     ensures { result ≡ is_unveil (call_of call.entry) }
 {
@@ -105,19 +105,19 @@ fn is_unveil(call: CallRef<'_>) -> bool
     }
 }
 
-/// What the walks of a call that a live process makes would ask, in the state before it. An unveil's walk is not judged. Their
-/// targets are put into words in `texts`.
+/// Returns the demands of the walks of a live process's call, in the state before it. The walk of an unveil(2) is not
+/// checked. The targets are written in words to `texts`.
 ///
 /// # Errors
 ///
-/// Where there is no memory for the words.
+/// `AllocError`, if there is no memory for the words.
 pub(crate) fn judged_walks<'a>(
     texts: &'a mut TargetTexts,
     parts: &Parts,
     pid: u32,
     call: CallRef<'_>,
 ) -> Result<JudgedWalks<'a>, AllocError>
-    requires whole { IsWhole parts.now }
+    requires whole { IsValid parts.now }
     requires live { IsSome (process_at parts.now pid) }
     ensures { IfOk result (λ walks. (me : Process) → process_at parts.now pid ≡ Some me → walks ≡ ends_before parts.now pid me (call_of call.entry)) }
 {

@@ -1,4 +1,4 @@
-//! Paths that are guessed: whether a guess is right costs less than a path.
+//! Guessed paths. To check a guess is cheaper than to compute a path.
 ghost use Rattle.std.specs.Prelude.{◌≡◌, ◌++◌, ◌∷◌, IfSome, IsTrue, Some};
 ghost use Rattle.pv_model.specs.Answers.Nodes.{node_path};
 ghost use Rattle.pv_model.specs.Tree.{is_directory_at};
@@ -6,7 +6,7 @@ ghost use Rattle.pv_model.specs.Tree.{is_directory_at};
 use pv_model::limits::ROOT;
 use pv_tree::Tree;
 
-/// What stands before the last byte of a value, and what stands after it.
+/// Splits bytes at the last occurrence of a value. Neither part includes that occurrence.
 pub(crate) fn around_last(bytes: &[u8], value: u8) -> Option<(&[u8], &[u8])>
     ensures { IfSome result (λ parts. bytes.now ≡ parts.0.now ++ value ∷ parts.1.now) }
 {
@@ -20,12 +20,13 @@ pub(crate) fn around_last(bytes: &[u8], value: u8) -> Option<(&[u8], &[u8])>
     None
 }
 
-/// Whether a path is that of a directory, as far as it is found by its names: no other is. The root's is empty.
+/// Returns whether a path is the path of a directory. The path of the root is empty. The function compares names from
+/// the directory upwards, and a directory has only one path.
 pub(crate) fn is_path_of(tree: &Tree, directory: u16, path: &[u8]) -> bool
     requires { IsTrue (is_directory_at tree.now.tree directory) }
     ensures { IsTrue result → node_path tree.now.tree directory ≡ Some path.now }
 {
-    // What the sizes tell with them: the tree is well-formed.
+    // The contract of `sizes` states that the tree is well-formed.
     let _ = tree.sizes();
     let mut reached = directory;
     let mut rest = path;

@@ -1,12 +1,12 @@
 //! A fair schedule of a session.
 ghost use Rattle.std.specs.Prelude.{◌≡◌, ◌≤◌, ◌*◌, ℕ, IfErr, IfOk, IsErrOf, OnErr, OnOk};
 ghost use Rattle.pv_needs.specs.Turning.{IsMade, IsTaken, TurnsWritten, first_between};
-ghost use Rattle.pv_model.specs.Answers.Turns.{goes_on as goes_on_by_definition, next_turn, schedule_text, turns};
+ghost use Rattle.pv_model.specs.Answers.Turns.{continues as continues_by_definition, next_turn, schedule_text, turns};
 ghost use Rattle.pv_model.specs.Grammar.Programs.{program_of};
 ghost use Rattle.pv_session.specs.Running.{FailsBy, run_of};
 ghost use Rattle.pv_session.specs.Stopping.{NextLoads};
 ghost use Rattle.pv_session.specs.declared.session.Stop.TheVariants.{Memory};
-ghost use Rattle.pv_streams.specs.Sinks.{and_all, TellsBeginning};
+ghost use Rattle.pv_streams.specs.Sinks.{WritesOr};
 
 use pv_answers::{Decimal, Fragment, Plain};
 use pv_model::Outcome;
@@ -15,9 +15,9 @@ use pv_session::{Session, Stop};
 use pv_streams::Sink;
 use std::alloc::Global;
 
-// Whether a turn makes a step with this outcome: one of a live process that is no blocked wait.
-fn goes_on(outcome: Outcome) -> bool
-    ensures { result ≡ goes_on_by_definition outcome }
+// Returns whether a turn can make a step with this outcome: the process is live, and the step is not a blocked wait(2).
+fn continues(outcome: Outcome) -> bool
+    ensures { result ≡ continues_by_definition outcome }
 {
     match outcome {
         Outcome::Blocked | Outcome::Gone => false,
@@ -25,7 +25,7 @@ fn goes_on(outcome: Outcome) -> bool
     }
 }
 
-// Makes the steps of a turn of a process: answers how many.
+// Makes the steps of one turn of a process, and returns their number.
 fn make_turn(alloc: Global, session: &mut Session, pid: u32, most: u32) -> Result<u32, Stop>
     ensures made { IfOk result (λ count. IsMade most pid session.old count session.new) }
     ensures few { IfOk result (λ count. count ≤ most) }
@@ -33,15 +33,15 @@ fn make_turn(alloc: Global, session: &mut Session, pid: u32, most: u32) -> Resul
     ensures loads { OnErr result (NextLoads session.new pid) }
 {
     for made in 0..most {
-        if !goes_on(session.step(alloc, pid)?) {
+        if !continues(session.step(alloc, pid)?) {
             return Ok(made);
         }
     }
     Ok(most)
 }
 
-// Makes the turn of the first process above one number, up to another, whose next step goes on: answers which it is, and how
-// many steps it made.
+// Finds the first process above one number, up to another, whose next step can be made, and makes its turn. Returns the
+// process and the number of steps.
 fn turn_between(
     alloc: Global,
     session: &mut Session,
@@ -69,7 +69,7 @@ fn turn_between(
     Ok(None)
 }
 
-// Makes the next turn after one that a process had: answers whose it is, and how many steps it made.
+// Makes the next turn after the turn of a process. Returns the process of the turn and the number of steps.
 fn take_turn(
     alloc: Global,
     session: &mut Session,
@@ -89,15 +89,17 @@ fn take_turn(
     turn_between(alloc, session, 0, last, most)
 }
 
-/// Makes the steps of a fair schedule, and writes it: live processes by ascending number, by turns of at most `slice` steps, and
-/// `steps` steps together, or fewer where no process can make one. A turn's line is written as it is made.
+/// Makes the steps of a fair schedule, and writes the schedule. The live processes take turns by ascending number. Each
+/// turn has at most `slice` steps. The schedule has `steps` steps in all, or fewer if no process can make a step. The
+/// line of a turn is written as soon as the turn is made.
 ///
-/// Each step is of a live process, and no blocked wait: see `pv_laws_runs::turns`.
+/// Each step is of a live process, and no step is a blocked wait(2): see `pv_laws_runs::turns`.
 ///
 /// # Errors
 ///
-/// `Memory` where memory was refused for the program of an execve(2), as in `Session::step`: the sink was given the lines of the
-/// turns before. `Write` where a write failed: the sink was given a beginning of the lines.
+/// - `Memory`, if there is no memory for the program of an execve(2), as for `Session::step`. The sink received the
+///   lines of the earlier turns.
+/// - `Write`, if a write failed. The sink received a prefix of the lines.
 pub fn write_turns<W: Sink>(
     alloc: Global,
     session: &mut Session,
@@ -107,12 +109,9 @@ pub fn write_turns<W: Sink>(
 ) -> Result<(), Stop>
     requires { 1 ≤ slice }
     ensures after { OnOk result (session.new ≡ (run_of session.old (turns program_of slice steps session.old)).final) }
-    ensures whole { OnOk result (W.written out.new ≡ and_all (W.written out.old) (schedule_text (turns program_of slice steps session.old))) }
-    ensures beginning { OnErr result (TellsBeginning (schedule_text (turns program_of slice steps session.old)) (W.written out.old) (W.written out.new)) }
-    ensures failed { IfErr result (λ stop. FailsBy stop (W.failures out.old) (W.failures out.new)) }
-    ensures quiet { OnOk result (W.failures out.new ≡ W.failures out.old) }
+    ensures written { WritesOr W.Sink FailsBy (schedule_text (turns program_of slice steps session.old)) out.old out.new result }
 
-    // Where memory was refused: the lines of the first turns were written, and an execve(2) comes next.
+    // After out of memory, the sink has the lines of the earlier turns, and the next step is an execve(2).
     ensures lines { IsErrOf result Stop.Memory → TurnsWritten (turns program_of slice steps session.old) (W.written out.old) (W.written out.new) }
     ensures loads { IsErrOf result Stop.Memory → (pid : ℕ) × NextLoads session.new pid }
 {

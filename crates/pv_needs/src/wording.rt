@@ -1,7 +1,7 @@
 //! Targets of walks in words.
 //!
-//! The path of a directory costs a step for each directory above it. Where the last target in this place had the same directory,
-//! that was its path: whether it still is costs less.
+//! To find the path of a directory takes a step for each directory above it. If the previous target in this storage had
+//! the same directory, the path is probably the same, and to check this is cheaper.
 ghost use Rattle.std.specs.Prelude.{◌≡◌, ◌<◌, ◌++◌, [], codes, length, IsTrue, OnOk};
 ghost use Rattle.std.specs.Fmt.{decimal};
 ghost use Rattle.pv_model.specs.Answers.Nodes.{target_words};
@@ -9,7 +9,7 @@ ghost use Rattle.pv_model.specs.Trace.{quote};
 ghost use Rattle.pv_needs.specs.KnownWords.{IsKnown, directory_in, known_words};
 
 use crate::paths::{around_last, is_path_of};
-use crate::stints::JudgedWalk;
+use crate::process_images::JudgedWalk;
 use pv_answers::{Decimal, Fragment, Plain, Quoted, write_target};
 use pv_model::limits::ROOT;
 use pv_model::{Perms, Target};
@@ -17,7 +17,7 @@ use pv_streams::Gathered;
 use pv_tree::Tree;
 use std::alloc::{AllocError, Global};
 
-// The directory that a target is, or in which it is a name.
+// Returns the directory of a target: the target itself, or the directory of its name.
 fn directory_of(target: &Target) -> u16
     ensures { result ≡ directory_in target.now }
 {
@@ -27,7 +27,8 @@ fn directory_of(target: &Target) -> u16
     }
 }
 
-// Whether this is the path of a target's directory, and that is not the root: no other path is.
+// Returns whether this is the path of a target's directory, and that directory is not the root. A directory has only
+// one path.
 fn is_known(tree: &Tree, target: &Target, path: &[u8]) -> bool
     ensures { IsTrue result → IsKnown tree.now.tree target.now path.now }
 {
@@ -38,7 +39,7 @@ fn is_known(tree: &Tree, target: &Target, path: &[u8]) -> bool
     is_path_of(tree, directory, path)
 }
 
-// Writes a directory of this path in words.
+// Writes in words a directory with this path.
 fn write_directory(words: &mut Gathered, node: u16, path: &[u8]) -> Result<(), AllocError>
     requires { words.old.bytes.items ≡ [] }
     ensures { OnOk result (words.new.bytes.items ≡ codes "node " ++ decimal node ++ codes " " ++ quote path.now) }
@@ -50,7 +51,7 @@ fn write_directory(words: &mut Gathered, node: u16, path: &[u8]) -> Result<(), A
     }
 }
 
-// Writes a name in a directory of this path in words.
+// Writes in words a name in a directory with this path.
 fn write_name(words: &mut Gathered, path: &mut Vec<u8>, name: &[u8]) -> Result<(), AllocError>
     requires { words.old.bytes.items ≡ [] }
     ensures { OnOk result (words.new.bytes.items ≡ quote (path.old.items ++ codes "/" ++ name.now)) }
@@ -66,7 +67,7 @@ fn write_name(words: &mut Gathered, path: &mut Vec<u8>, name: &[u8]) -> Result<(
     }
 }
 
-// Writes a target in words, whose directory has this path.
+// Writes in words a target whose directory has this path.
 fn write_known(words: &mut Gathered, target: &Target, path: &mut Vec<u8>) -> Result<(), AllocError>
     requires { words.old.bytes.items ≡ [] }
     ensures { OnOk result (words.new.bytes.items ≡ known_words target.now path.old.items) }
@@ -77,7 +78,7 @@ fn write_known(words: &mut Gathered, target: &Target, path: &mut Vec<u8>) -> Res
     }
 }
 
-// What stands in the words of a target where the path of its directory stands, if it has one.
+// Returns the part of a target's words that is the path of its directory, if it has a path.
 fn path_in<'a>(target: &Target, words: &'a [u8]) -> &'a [u8] {
     let end = match target {
         Target::Directory(_) => b'"',
@@ -92,7 +93,7 @@ fn path_in<'a>(target: &Target, words: &'a [u8]) -> &'a [u8] {
     }
 }
 
-// Writes a target in words, and guesses that the path of its directory will be the same.
+// Writes a target in words, and remembers the path of its directory as a guess.
 fn write_and_guess(
     words: &mut Gathered,
     tree: &Tree,
@@ -109,17 +110,17 @@ fn write_and_guess(
     }
 }
 
-/// The target of a walk, and where it is put into words.
+/// The target of a walk, with the buffer for its words.
 #[derive(Drop)]
 pub(crate) struct TargetText {
     target: Target,
     words: Gathered,
-    // The path of its directory, as it was when it was last found: a guess.
+    // The path of its directory when it was last computed: a guess.
     path: Vec<u8>,
 }
 
 impl TargetText {
-    // The root, with nothing in words.
+    // Returns the root as target, without words.
     fn new(alloc: Global) -> TargetText {
         TargetText {
             target: Target::Directory(ROOT),
@@ -128,11 +129,11 @@ impl TargetText {
         }
     }
 
-    /// Has this target from then on, and puts it into words.
+    /// Sets the target, and writes it in words.
     ///
     /// # Errors
     ///
-    /// Where there is no memory for the words.
+    /// `AllocError`, if there is no memory for the words.
     #[tactic(auto, using(crate::proofs::KnownPaths::known_is))]
     pub(crate) fn put(&mut self, tree: &Tree, target: Target) -> Result<(), AllocError>
         ensures target { self.new.target ≡ target }
@@ -147,7 +148,7 @@ impl TargetText {
         }
     }
 
-    /// The walk to the target, which asks for permissions.
+    /// Returns the walk to the target that needs the given permissions.
     pub(crate) fn walk(&self, permissions: Perms) -> JudgedWalk<'_>
         ensures { result ≡ record { target = self.now.target; words = self.now.words.bytes.items; permissions = permissions } }
     {
@@ -155,17 +156,17 @@ impl TargetText {
     }
 }
 
-/// The targets of a call's walks, in words: one serves for any number of calls.
+/// The targets of a call's walks, in words. One value can be reused for any number of calls.
 #[derive(Drop)]
 pub(crate) struct TargetTexts {
-    /// That of the first walk.
+    /// The target of the first walk.
     pub(crate) first: TargetText,
-    /// That of the second.
+    /// The target of the second walk.
     pub(crate) second: TargetText,
 }
 
 impl TargetTexts {
-    /// Before the first call.
+    /// Returns the storage before the first call.
     pub(crate) fn new(alloc: Global) -> TargetTexts {
         TargetTexts {
             first: TargetText::new(alloc),

@@ -1,11 +1,10 @@
-//! The lines of what is kept.
-ghost use Rattle.std.specs.Prelude.{◌≡◌, ◌≤◌, decimal, flat_map, length, OnErr, OnOk};
-ghost use Rattle.pv_needs.specs.KeptLines.{kept_lines, kept_process_lines, kept_promise_lines, kept_promises_lines, kept_stint_lines, kept_target_lines, kept_times_text};
+//! The lines of the records.
+ghost use Rattle.std.specs.Prelude.{◌≡◌, ◌≤◌, decimal, flat_map, length};
+ghost use Rattle.pv_needs.specs.RecordedLines.{recorded_lines, recorded_process_lines, recorded_promise_lines, recorded_promises_lines, recorded_image_lines, recorded_target_lines, recorded_times_text};
 ghost use Rattle.pv_model.specs.Answers.Lines.{answer_bytes};
-ghost use Rattle.pv_model.specs.Stream.{Rose};
-ghost use Rattle.pv_streams.specs.Sinks.{and_all, TellsBeginning};
+ghost use Rattle.pv_streams.specs.Sinks.{Writes};
 
-use crate::stints::{Kept, KeptTarget, Stint, Stints, Times};
+use crate::process_images::{ProcessImage, ProcessImages, Recorded, RecordedTarget, Times};
 use itoa::Buffer;
 use pv_answers::{Fragment, Letters, Line, Plain};
 use pv_model::Promise;
@@ -25,17 +24,17 @@ impl Fragment for Count {
     }
 }
 
-// How often something was asked, in words.
+// A count in words, with the line of the last call.
 #[derive(Clone, Copy)]
 struct TimesWords<'a> {
     // What is counted.
     what: &'a [u8],
-    // How often it was, and the line of the last.
+    // The count and the line of the last.
     times: Times,
 }
 
 impl<'a> Fragment for TimesWords<'a> {
-    ghost text = { λ p. kept_times_text p.what.now p.times };
+    ghost text = { λ p. recorded_times_text p.what.now p.times };
 
     fn write<W: Sink>(&self, out: &mut W) -> Result<(), Failed> {
         let count = (
@@ -49,17 +48,14 @@ impl<'a> Fragment for TimesWords<'a> {
     }
 }
 
-// Writes the line of a promise, where a call needed it.
+// Writes the line of a promise, if a call needed it.
 fn write_promise<W: Sink>(
     out: &mut W,
     pid: u32,
     promise: Promise,
     times: Times,
 ) -> Result<(), Failed>
-    ensures whole { OnOk result (W.written out.new ≡ and_all (W.written out.old) (answer_bytes (kept_promise_lines pid promise times))) }
-    ensures beginning { OnErr result (TellsBeginning (answer_bytes (kept_promise_lines pid promise times)) (W.written out.old) (W.written out.new)) }
-    ensures failed { OnErr result (Rose (W.failures out.old) (W.failures out.new)) }
-    ensures quiet { OnOk result (W.failures out.new ≡ W.failures out.old) }
+    ensures { Writes W.Sink (answer_bytes (recorded_promise_lines pid promise times)) out.old out.new result }
 {
     if times.count == 0 {
         return Ok(());
@@ -80,11 +76,8 @@ fn write_promise<W: Sink>(
 }
 
 // Writes the line of a target.
-fn write_target_line<W: Sink>(out: &mut W, pid: u32, target: &KeptTarget) -> Result<(), Failed>
-    ensures whole { OnOk result (W.written out.new ≡ and_all (W.written out.old) (answer_bytes (kept_target_lines pid target.now))) }
-    ensures beginning { OnErr result (TellsBeginning (answer_bytes (kept_target_lines pid target.now)) (W.written out.old) (W.written out.new)) }
-    ensures failed { OnErr result (Rose (W.failures out.old) (W.failures out.new)) }
-    ensures quiet { OnOk result (W.failures out.new ≡ W.failures out.old) }
+fn write_target_line<W: Sink>(out: &mut W, pid: u32, target: &RecordedTarget) -> Result<(), Failed>
+    ensures { Writes W.Sink (answer_bytes (recorded_target_lines pid target.now)) out.old out.new result }
 {
     let times = TimesWords {
         what: b"walks",
@@ -104,7 +97,7 @@ fn write_target_line<W: Sink>(out: &mut W, pid: u32, target: &KeptTarget) -> Res
     .write(out)
 }
 
-// Writes the lines of these promises, where calls needed them.
+// Writes the lines of the promises that calls needed.
 fn write_promises<W: Sink>(
     out: &mut W,
     pid: u32,
@@ -112,10 +105,7 @@ fn write_promises<W: Sink>(
     promises: &[Times],
 ) -> Result<(), Failed>
     requires { length promises.now ≡ length all.now }
-    ensures whole { OnOk result (W.written out.new ≡ and_all (W.written out.old) (answer_bytes (kept_promises_lines pid all.now promises.now))) }
-    ensures beginning { OnErr result (TellsBeginning (answer_bytes (kept_promises_lines pid all.now promises.now)) (W.written out.old) (W.written out.new)) }
-    ensures failed { OnErr result (Rose (W.failures out.old) (W.failures out.new)) }
-    ensures quiet { OnOk result (W.failures out.new ≡ W.failures out.old) }
+    ensures { Writes W.Sink (answer_bytes (recorded_promises_lines pid all.now promises.now)) out.old out.new result }
 {
     for (k, promise) in all.iter().enumerate() {
         write_promise(out, pid, *promise, promises[k])?;
@@ -124,11 +114,8 @@ fn write_promises<W: Sink>(
 }
 
 // Writes the lines of targets.
-fn write_targets<W: Sink>(out: &mut W, pid: u32, targets: &[KeptTarget]) -> Result<(), Failed>
-    ensures whole { OnOk result (W.written out.new ≡ and_all (W.written out.old) (answer_bytes (flat_map (kept_target_lines pid) targets.now))) }
-    ensures beginning { OnErr result (TellsBeginning (answer_bytes (flat_map (kept_target_lines pid) targets.now)) (W.written out.old) (W.written out.new)) }
-    ensures failed { OnErr result (Rose (W.failures out.old) (W.failures out.new)) }
-    ensures quiet { OnOk result (W.failures out.new ≡ W.failures out.old) }
+fn write_targets<W: Sink>(out: &mut W, pid: u32, targets: &[RecordedTarget]) -> Result<(), Failed>
+    ensures { Writes W.Sink (answer_bytes (flat_map (recorded_target_lines pid) targets.now)) out.old out.new result }
 {
     for target in targets {
         write_target_line(out, pid, target)?;
@@ -136,12 +123,14 @@ fn write_targets<W: Sink>(out: &mut W, pid: u32, targets: &[KeptTarget]) -> Resu
     Ok(())
 }
 
-// Writes the lines of a stint, with its number.
-fn write_stint<W: Sink>(out: &mut W, pid: u32, number: u64, stint: &Stint) -> Result<(), Failed>
-    ensures whole { OnOk result (W.written out.new ≡ and_all (W.written out.old) (answer_bytes (kept_stint_lines pid (number, stint.now)))) }
-    ensures beginning { OnErr result (TellsBeginning (answer_bytes (kept_stint_lines pid (number, stint.now))) (W.written out.old) (W.written out.new)) }
-    ensures failed { OnErr result (Rose (W.failures out.old) (W.failures out.new)) }
-    ensures quiet { OnOk result (W.failures out.new ≡ W.failures out.old) }
+// Writes the lines of a process image, with its number.
+fn write_process_image<W: Sink>(
+    out: &mut W,
+    pid: u32,
+    number: u64,
+    process_image: &ProcessImage,
+) -> Result<(), Failed>
+    ensures { Writes W.Sink (answer_bytes (recorded_image_lines pid (number, process_image.now))) out.old out.new result }
 {
     let line = Line {
         pid,
@@ -149,47 +138,42 @@ fn write_stint<W: Sink>(out: &mut W, pid: u32, number: u64, stint: &Stint) -> Re
         text: Count(number),
     };
     line.write(out)?;
-    write_promises(out, pid, &ALL, stint.promises())?;
-    write_targets(out, pid, stint.targets())
+    write_promises(out, pid, &ALL, process_image.promises())?;
+    write_targets(out, pid, process_image.targets())
 }
 
-// Writes the lines of the stints of a process.
-fn write_process<W: Sink>(out: &mut W, pid: u32, stints: &[Stint]) -> Result<(), Failed>
-    ensures whole { OnOk result (W.written out.new ≡ and_all (W.written out.old) (answer_bytes (kept_process_lines pid stints.now))) }
-    ensures beginning { OnErr result (TellsBeginning (answer_bytes (kept_process_lines pid stints.now)) (W.written out.old) (W.written out.new)) }
-    ensures failed { OnErr result (Rose (W.failures out.old) (W.failures out.new)) }
-    ensures quiet { OnOk result (W.failures out.new ≡ W.failures out.old) }
+// Writes the lines of the process images of a process.
+fn write_process<W: Sink>(
+    out: &mut W,
+    pid: u32,
+    process_images: &[ProcessImage],
+) -> Result<(), Failed>
+    ensures { Writes W.Sink (answer_bytes (recorded_process_lines pid process_images.now)) out.old out.new result }
 {
-    for (k, stint) in stints.iter().enumerate() {
-        write_stint(out, pid, k as u64 + 1, stint)?;
+    for (k, process_image) in process_images.iter().enumerate() {
+        write_process_image(out, pid, k as u64 + 1, process_image)?;
     }
     Ok(())
 }
 
-// Writes the lines of processes, by their numbers.
-fn write_processes<W: Sink>(out: &mut W, processes: &[Stints]) -> Result<(), Failed>
+// Writes the lines of processes, by process number.
+fn write_processes<W: Sink>(out: &mut W, processes: &[ProcessImages]) -> Result<(), Failed>
     requires { length processes.now ≤ 4294967296 }
-    ensures whole { OnOk result (W.written out.new ≡ and_all (W.written out.old) (answer_bytes (kept_lines processes.now))) }
-    ensures beginning { OnErr result (TellsBeginning (answer_bytes (kept_lines processes.now)) (W.written out.old) (W.written out.new)) }
-    ensures failed { OnErr result (Rose (W.failures out.old) (W.failures out.new)) }
-    ensures quiet { OnOk result (W.failures out.new ≡ W.failures out.old) }
+    ensures { Writes W.Sink (answer_bytes (recorded_lines processes.now)) out.old out.new result }
 {
-    for (pid, stints) in processes.iter().enumerate() {
-        write_process(out, pid as u32, stints.as_slice())?;
+    for (pid, process_images) in processes.iter().enumerate() {
+        write_process(out, pid as u32, process_images.as_slice())?;
     }
     Ok(())
 }
 
-/// Writes the lines of what is kept.
+/// Writes the lines of all records.
 ///
 /// # Errors
 ///
-/// `Failed` where a write failed: the sink was given a beginning of the lines.
-pub(crate) fn write_kept<W: Sink>(out: &mut W, kept: &Kept) -> Result<(), Failed>
-    ensures whole { OnOk result (W.written out.new ≡ and_all (W.written out.old) (answer_bytes (kept_lines kept.now))) }
-    ensures beginning { OnErr result (TellsBeginning (answer_bytes (kept_lines kept.now)) (W.written out.old) (W.written out.new)) }
-    ensures failed { OnErr result (Rose (W.failures out.old) (W.failures out.new)) }
-    ensures quiet { OnOk result (W.failures out.new ≡ W.failures out.old) }
+/// `Failed`, if a write failed. The sink received a prefix of the lines.
+pub(crate) fn write_recorded<W: Sink>(out: &mut W, recorded: &Recorded) -> Result<(), Failed>
+    ensures { Writes W.Sink (answer_bytes (recorded_lines recorded.now)) out.old out.new result }
 {
-    write_processes(out, kept.as_slice())
+    write_processes(out, recorded.as_slice())
 }

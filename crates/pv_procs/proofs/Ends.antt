@@ -1,4 +1,4 @@
--- The end of a process, on the places.
+-- The end of a process, on the slots.
 use Rattle.std.proofs.Common.{◌≡◌, ◌≢◌, ℕ, zero, suc, ◌+◌, ◌<◌, Bool, true, false, cond, not, ◌&&◌, ◌==◌, nat_lt, List, [], ◌∷◌, map, filter, length, count_by, Option, None, Some, is_none, is_some, refl, sym, ap, ap₂, subst, ◌∙◌, ⊎_elim, arith}
 use Rattle.std.specs.FinMap.Entries.{find, put}
 use Rattle.std.specs.List.{list_all}
@@ -11,12 +11,12 @@ use Rattle.pv_model.specs.State.{OpenFile, Program, Process, ProcessRecord, ende
 use Rattle.pv_model.specs.Tree.{Tree}
 use Rattle.pv_procs.specs.declared.slot.ProcessSlot.{ProcessSlot}
 use Rattle.pv_procs.specs.declared.shared.Shared.{Shared}
-use Rattle.pv_procs.specs.Slots.{IsKept, process_of, entry_by, entry_of, entries_of, is_above, ascends, is_numbered, uses, users_at, program_at, table_of, adopted, is_claimed}
+use Rattle.pv_procs.specs.Slots.{IsConsistent, process_of, entry_by, entry_of, entries_of, is_above, ascends, is_numbered, uses, users_at, program_at, table_of, adopted, is_claimed}
 use Rattle.pv_procs.specs.ProcessTable.{ProcessTable, state_with, process_in}
 use Rattle.pv_procs.proofs.Finding.{IsAt, put-at}
 use Rattle.pv_procs.proofs.Keeping.{bit, count_by-cons, list_all-set, list_all-at, count-set, ascends-set}
 
--- ---- entries with other counts of users
+-- ---- entries with other user counts
 
 pub same-entries : (programs other : List Shared) → ((k : ℕ) → program_at other k ≡ program_at programs k) → (slots : List ProcessSlot) → entries_of other slots ≡ entries_of programs slots
 same-entries programs other same [] = refl
@@ -63,7 +63,7 @@ entries-claimed programs (p ∷ ps) =
           (sym is ∙ claimed-entry p (program_at programs p.program) p.status)
     ] refl
 
--- ---- what holds of the places holds of those with other parents
+-- ---- slots with other parents satisfy the same properties
 
 module _ {X : Type 0} (f : X → X) where
   list_all-map : (test : X → Bool) → ((x : X) → test (f x) ≡ test x) → (xs : List X) → list_all test (map f xs) ≡ list_all test xs
@@ -75,18 +75,18 @@ module _ {X : Type 0} (f : X → X) where
   count_by-map test same (x ∷ xs) = count_by-cons test (f x) (map f xs) ∙ ap₂ (λ a n. bit a + n) (same x) (count_by-map test same xs) ∙ sym (count_by-cons test x xs)
 
 module _ {X : Type 0} (keeps : X → Bool) where
-  list_all-kept : (test : X → Bool) (xs : List X) → list_all test xs ≡ true → list_all test (filter keeps xs) ≡ true
-  list_all-kept test [] all = refl
-  list_all-kept test (x ∷ xs) all =
+  list_all-preserved : (test : X → Bool) (xs : List X) → list_all test xs ≡ true → list_all test (filter keeps xs) ≡ true
+  list_all-preserved test [] all = refl
+  list_all-preserved test (x ∷ xs) all =
       let parts = and_parts (test x) (list_all test xs) all in
-      elim (keeps x) as (λ b. list_all test (cond b (x ∷ filter keeps xs) (filter keeps xs)) ≡ true) [ true ↦ and_from _ _ parts.0 (list_all-kept test xs parts.1) | false ↦ list_all-kept test xs parts.1 ]
+      elim (keeps x) as (λ b. list_all test (cond b (x ∷ filter keeps xs) (filter keeps xs)) ≡ true) [ true ↦ and_from _ _ parts.0 (list_all-preserved test xs parts.1) | false ↦ list_all-preserved test xs parts.1 ]
 
-  count_by-kept : (test : X → Bool) → ((x : X) → keeps x ≡ false → test x ≡ false) → (xs : List X) → count_by test (filter keeps xs) ≡ count_by test xs
-  count_by-kept test unless [] = refl
-  count_by-kept test unless (x ∷ xs) =
+  count_by-preserved : (test : X → Bool) → ((x : X) → keeps x ≡ false → test x ≡ false) → (xs : List X) → count_by test (filter keeps xs) ≡ count_by test xs
+  count_by-preserved test unless [] = refl
+  count_by-preserved test unless (x ∷ xs) =
       elim (keeps x) as (λ b. keeps x ≡ b → count_by test (cond b (x ∷ filter keeps xs) (filter keeps xs)) ≡ bit (test x) + count_by test xs) [
-        | true ↦ λ is. count_by-cons test x (filter keeps xs) ∙ ap (λ n. bit (test x) + n) (count_by-kept test unless xs)
-        | false ↦ λ is. count_by-kept test unless xs ∙ (let zero : bit (test x) ≡ 0 = ap bit (unless x is) in let e : count_by test xs ≡ bit (test x) + count_by test xs = omega (arith, zero) in e)
+        | true ↦ λ is. count_by-cons test x (filter keeps xs) ∙ ap (λ n. bit (test x) + n) (count_by-preserved test unless xs)
+        | false ↦ λ is. count_by-preserved test unless xs ∙ (let zero : bit (test x) ≡ 0 = ap bit (unless x is) in let e : count_by test xs ≡ bit (test x) + count_by test xs = omega (arith, zero) in e)
       ] refl ∙ sym (count_by-cons test x xs)
 
 ascends-adopted : (old new : ℕ) (slots : List ProcessSlot) → ascends (map (adopted old new) slots) ≡ ascends slots
@@ -100,40 +100,40 @@ ascends-adopted old new (p ∷ ps) =
     above : (q : ProcessSlot) → is_above p.number (adopted old new q) ≡ is_above p.number q
     above q = ap (λ n. nat_lt p.number n) (number-adopted q)
 
-ascends-kept : (slots : List ProcessSlot) → ascends slots ≡ true → ascends (filter is_claimed slots) ≡ true
-ascends-kept [] asc = refl
-ascends-kept (p ∷ ps) asc =
+ascends-preserved : (slots : List ProcessSlot) → ascends slots ≡ true → ascends (filter is_claimed slots) ≡ true
+ascends-preserved [] asc = refl
+ascends-preserved (p ∷ ps) asc =
     let parts = and_parts (list_all (is_above p.number) ps) (ascends ps) asc in
     elim (is_claimed p) as (λ b. ascends (cond b (p ∷ filter is_claimed ps) (filter is_claimed ps)) ≡ true) [
-      | true ↦ and_from _ _ (list_all-kept is_claimed (is_above p.number) ps parts.0) (ascends-kept ps parts.1)
-      | false ↦ ascends-kept ps parts.1
+      | true ↦ and_from _ _ (list_all-preserved is_claimed (is_above p.number) ps parts.0) (ascends-preserved ps parts.1)
+      | false ↦ ascends-preserved ps parts.1
     ]
 
 by-parent : (test : ProcessSlot → Bool) (old new : ℕ) → ((q : ProcessSlot) → test (record q { parent = new }) ≡ test q) → (q : ProcessSlot) → test (adopted old new q) ≡ test q
 by-parent test old new same q = elim (q.parent == old) as (λ b. test (cond b (record q { parent = new }) q) ≡ test q) [ true ↦ same q | false ↦ refl ]
 
--- what is not claimed has ended
+-- a process that no process can wait for has ended
 unclaimed-unused : (j : ℕ) (q : ProcessSlot) → is_claimed q ≡ false → uses j q ≡ false
 unclaimed-unused j q is = by q.status refl
   where
     by : (s : Option ℕ) → q.status ≡ s → uses j q ≡ false
-    by None none = let kept = ap (λ s. not (is_some s && (q.parent == 0))) none in cc
+    by None none = let preserved = ap (λ s. not (is_some s && (q.parent == 0))) none in cc
     by (Some n) some = ap (λ s. is_none s && (q.program == j)) some
 
-pub kept-claimed : (slots : List ProcessSlot) (programs : List Shared) (last old new : ℕ) → IsKept slots programs last → IsKept (filter is_claimed (map (adopted old new) slots)) programs last
-kept-claimed slots programs last old new kept = record {
-  ascending = ascends-kept (map (adopted old new) slots) (ascends-adopted old new slots ∙ kept.ascending);
-  numbers = list_all-kept is_claimed (is_numbered last) (map (adopted old new) slots)
-      (list_all-map (adopted old new) (is_numbered last) (by-parent (is_numbered last) old new (λ q. refl)) slots ∙ kept.numbers);
-  last = kept.last;
-  table = kept.table;
-  within = list_all-kept is_claimed (λ (p : ProcessSlot). nat_lt p.program 32) (map (adopted old new) slots)
-      (list_all-map (adopted old new) (λ (p : ProcessSlot). nat_lt p.program 32) (by-parent (λ (p : ProcessSlot). nat_lt p.program 32) old new (λ q. refl)) slots ∙ kept.within);
-  users = λ j. kept.users j ∙ sym (count_by-kept is_claimed (uses j) (unclaimed-unused j) (map (adopted old new) slots)
+pub preserved-claimed : (slots : List ProcessSlot) (programs : List Shared) (last old new : ℕ) → IsConsistent slots programs last → IsConsistent (filter is_claimed (map (adopted old new) slots)) programs last
+preserved-claimed slots programs last old new preserved = record {
+  ascending = ascends-preserved (map (adopted old new) slots) (ascends-adopted old new slots ∙ preserved.ascending);
+  numbers = list_all-preserved is_claimed (is_numbered last) (map (adopted old new) slots)
+      (list_all-map (adopted old new) (is_numbered last) (by-parent (is_numbered last) old new (λ q. refl)) slots ∙ preserved.numbers);
+  last = preserved.last;
+  table = preserved.table;
+  within = list_all-preserved is_claimed (λ (p : ProcessSlot). nat_lt p.program 32) (map (adopted old new) slots)
+      (list_all-map (adopted old new) (λ (p : ProcessSlot). nat_lt p.program 32) (by-parent (λ (p : ProcessSlot). nat_lt p.program 32) old new (λ q. refl)) slots ∙ preserved.within);
+  users = λ j. preserved.users j ∙ sym (count_by-preserved is_claimed (uses j) (unclaimed-unused j) (map (adopted old new) slots)
       ∙ count_by-map (adopted old new) (uses j) (by-parent (uses j) old new (λ q. refl)) slots);
 }
 
--- ---- the place of a process that ends
+-- ---- the slot of a process that ends
 
 pub counted : {X : Type 0} (p : X → Bool) (xs : List X) (k : ℕ) (x : X) → k < length xs → x ≡ get_or xs k x → p x ≡ true → 0 < count_by p xs
 counted p [] k x within is here = absurd (omega arith)
@@ -142,15 +142,15 @@ counted p (y ∷ ys) zero x within is here =
 counted p (y ∷ ys) (suc k) x within is here =
     let rest = counted p ys k x (omega arith) is here in let all = count_by-cons p y ys in let e : 0 < count_by p (y ∷ ys) = omega (arith, rest, all) in e
 
-module _ (slots : List ProcessSlot) (programs : List Shared) (last : ℕ) (kept : IsKept slots programs last) (pid k : ℕ) (slot : ProcessSlot) (at : IsAt slots pid k slot) (lives : slot.status ≡ None) where
+module _ (slots : List ProcessSlot) (programs : List Shared) (last : ℕ) (preserved : IsConsistent slots programs last) (pid k : ℕ) (slot : ProcessSlot) (at : IsAt slots pid k slot) (lives : slot.status ≡ None) where
   pub used-here : uses slot.program slot ≡ true
   used-here = ap (λ s. is_none s && (slot.program == slot.program)) lives ∙ eq-eqb slot.program slot.program refl
 
   pub has-users : 0 < users_at programs slot.program
-  has-users = subst (λ n. 0 < n) (sym (kept.users slot.program)) (counted (uses slot.program) slots k slot at.within at.is used-here)
+  has-users = subst (λ n. 0 < n) (sym (preserved.users slot.program)) (counted (uses slot.program) slots k slot at.within at.is used-here)
 
   pub program-within : slot.program < 32
-  program-within = ltb-true slot.program 32 (list_all-at (λ (p : ProcessSlot). nat_lt p.program 32) slots k slot kept.within at.within at.is)
+  program-within = ltb-true slot.program 32 (list_all-at (λ (p : ProcessSlot). nat_lt p.program 32) slots k slot preserved.within at.within at.is)
 
   module _ (other : List Shared) (long : length other ≡ length programs) (fewer : users_at other slot.program + 1 ≡ users_at programs slot.program)
       (rest : (j : ℕ) → j ≢ slot.program → users_at other j ≡ users_at programs j) (status : ℕ) where
@@ -164,29 +164,29 @@ module _ (slots : List ProcessSlot) (programs : List Shared) (last : ℕ) (kept 
         (λ (same : j ≡ slot.program).
         let here : bit (uses j slot) ≡ 1 = ap bit (ap (λ i. uses i slot) same ∙ used-here) in
         let few : users_at other j + 1 ≡ users_at programs j = ap (λ i. users_at other i + 1) same ∙ fewer ∙ ap (users_at programs) (sym same) in
-        let was = kept.users j in
+        let was = preserved.users j in
         let e : users_at other j ≡ count_by (uses j) (set slots k gone) = omega (arith, count, here, few, was) in e)
         (λ (different : j ≢ slot.program).
         let none : bit (uses j slot) ≡ 0 = ap bit (ap (λ s. is_none s && (slot.program == j)) lives ∙ ne_eqb slot.program j (λ same. different (sym same))) in
-        let was = kept.users j in
+        let was = preserved.users j in
         let stays = rest j different in
         let e : users_at other j ≡ count_by (uses j) (set slots k gone) = omega (arith, count, none, stays, was) in e)
         (cases_eq j slot.program)
 
-    pub kept-gone : IsKept (set slots k gone) other last
-    kept-gone = record {
-      ascending = ascends-set slots pid k slot gone kept.ascending at at.number;
-      numbers = list_all-set (is_numbered last) slots k gone kept.numbers (list_all-at (is_numbered last) slots k slot kept.numbers at.within at.is);
-      last = kept.last;
-      table = long ∙ kept.table;
-      within = list_all-set (λ (p : ProcessSlot). nat_lt p.program 32) slots k gone kept.within (list_all-at (λ (p : ProcessSlot). nat_lt p.program 32) slots k slot kept.within at.within at.is);
+    pub preserved-gone : IsConsistent (set slots k gone) other last
+    preserved-gone = record {
+      ascending = ascends-set slots pid k slot gone preserved.ascending at at.number;
+      numbers = list_all-set (is_numbered last) slots k gone preserved.numbers (list_all-at (is_numbered last) slots k slot preserved.numbers at.within at.is);
+      last = preserved.last;
+      table = long ∙ preserved.table;
+      within = list_all-set (λ (p : ProcessSlot). nat_lt p.program 32) slots k gone preserved.within (list_all-at (λ (p : ProcessSlot). nat_lt p.program 32) slots k slot preserved.within at.within at.is);
       users = users-gone;
     }
 
     module _ (same : (j : ℕ) → program_at other j ≡ program_at programs j) (heir : ℕ) (t : Tree) (files : Numbered OpenFile) (me : Process) (parent : me.parent ≡ slot.parent) where
       put-gone : entries_of other (set slots k gone) ≡ put nat_cmp pid (ended_record me.parent status) (entries_of programs slots)
       put-gone =
-          put-at other slots pid k slot gone kept.ascending at at.number
+          put-at other slots pid k slot gone preserved.ascending at at.number
           ∙ ap₂ (λ r es. put nat_cmp pid r es) (ap (λ n. ended_record n status) (sym parent)) (same-entries programs other same slots)
 
       abbrev put_state : State
@@ -202,6 +202,6 @@ module _ (slots : List ProcessSlot) (programs : List Shared) (last : ℕ) (kept 
           (entries-adopted other pid heir (set slots k gone) ∙ ap₂ (λ n es. map (adopt pid n) es) heir_is put-gone) in
           ap (λ es. record { tree = t; files = files; processes = es; last_process = last }) entries
 
--- two names of one process
+-- two descriptions of one process
 pub parent-is : (ps : ProcessTable) (pid : ℕ) (program : Program) (slot : ProcessSlot) (me : Process) → process_in ps pid ≡ Some (process_of program slot) → process_in ps pid ≡ Some me → me.parent ≡ slot.parent
 parent-is ps pid program slot me one other = let both : Some me ≡ Some (process_of program slot) = sym other ∙ one in let same : me ≡ process_of program slot = cc both in ap (λ (p : Process). p.parent) same

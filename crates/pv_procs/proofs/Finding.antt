@@ -1,4 +1,4 @@
--- Places found by their numbers, and what is seen of a change there.
+-- Finding slots by their numbers, and the effect of a change there.
 use Rattle.std.proofs.Common.{◌≡◌, ℕ, zero, suc, ◌+◌, ◌<◌, ◌≤◌, Bool, true, false, cond, not, ◌==◌, nat_lt, List, [], ◌∷◌, length, Option, None, Some, is_some, position, IsSome, option_map, refl, sym, ap, ap₂, subst, ◌∙◌, arith}
 use Rattle.std.specs.Prelude.{find as first_where}
 use Rattle.std.specs.Cmp.{tied_itself, unsigned_ties}
@@ -21,7 +21,7 @@ use Rattle.pv_procs.specs.declared.shared.Shared.{Shared}
 use Rattle.pv_procs.specs.Slots.{process_of, entry_by, entry_of, entries_of, is_above, ascends, program_at, table_of}
 use Rattle.pv_procs.specs.ProcessTable.{ProcessTable, ended_process, number_after, process_in, update, update_live}
 
--- a place with a number stands at an index
+-- a slot with a number has an index
 pub record IsAt (slots : List ProcessSlot) (pid k : ℕ) (slot : ProcessSlot) : Type 0 where
   pub within : k < length slots
   pub is : slot ≡ get_or slots k slot
@@ -33,7 +33,7 @@ above_at n (p ∷ ps) zero slot all within is =
     subst (λ (q : ProcessSlot). n < q.number) (sym is) (ltb-true n p.number (and_parts (is_above n p) (list_all (is_above n) ps) all).0)
 above_at n (p ∷ ps) (suc k) slot all within is = above_at n ps k slot (and_parts (is_above n p) (list_all (is_above n) ps) all).1 (omega arith) is
 
--- what stands after the first place of a list
+-- a slot after the first of a list
 pub following : (p : ProcessSlot) (ps : List ProcessSlot) (pid k : ℕ) (slot : ProcessSlot) → IsAt (p ∷ ps) pid (suc k) slot → IsAt ps pid k slot
 following p ps pid k slot at = record { within = omega (arith, at.within); is = at.is; number = at.number }
 
@@ -96,7 +96,7 @@ module _ (programs : List Shared) where
             ∙ none-found ps pid (omega (arith, one))
       ] refl is
 
-  -- where no place has the number
+  -- if no slot has the number
   pub find-none : (slots : List ProcessSlot) (pid : ℕ) → position (λ (p : ProcessSlot). p.number == pid) slots ≡ None → find nat_cmp pid (entries_of programs slots) ≡ None
   find-none slots pid none =
       none-found slots pid
@@ -122,7 +122,7 @@ first-at (p ∷ ps) pid (suc k) slot asc at =
     ap (λ b. cond (not b) (1 + prefix_len (λ (q : ProcessSlot). not (q.number == pid)) ps) 0) (ne_eqb p.number pid (λ same. absurd (omega arith)))
     ∙ onward (position_or_len (λ (q : ProcessSlot). q.number == pid) ps) k (first-at ps pid k slot (and_parts (list_all (is_above p.number) ps) (ascends ps) asc).1 (following p ps pid k slot at))
 
--- the numbers rise
+-- the numbers ascend
 rises : (slots : List ProcessSlot) (i j : ℕ) (d : ProcessSlot) → ascends slots ≡ true → i ≤ j → j < length slots → (get_or slots i d).number ≤ (get_or slots j d).number
 rises [] i j d asc le within = absurd (omega arith)
 rises (p ∷ ps) zero zero d asc le within = omega arith
@@ -136,7 +136,7 @@ rises (p ∷ ps) (suc i) (suc j) d asc le within = rises ps i j d (and_parts (li
 higher : (a b n : ℕ) → a ≤ b → ordering_index (nat_cmp a n) ≤ ordering_index (nat_cmp b n)
 higher a b n le = grind (arith, nat_tests)
 
--- what no search finds
+-- a number that no search finds
 first-none : (slots : List ProcessSlot) (pid : ℕ) → ((k : ℕ) (d : ProcessSlot) → k < length slots → nat_cmp (get_or slots k d).number pid ≡ Equal → ⊥) → position_or_len (λ (p : ProcessSlot). p.number == pid) slots ≡ length slots
 first-none [] pid none = refl
 first-none (p ∷ ps) pid none =
@@ -146,13 +146,13 @@ first-none (p ∷ ps) pid none =
 same-number : (q n : ℕ) → nat_cmp q n ≡ Equal → q ≡ n
 same-number q n tied = eqb-true q n (unsigned_ties q n ∙ ap is_eq tied)
 
--- a place with the number is the first
-pub stood-found : (slots : List ProcessSlot) (pid k : ℕ) (slot : ProcessSlot) → ascends slots ≡ true → IsAt slots pid k slot → Some k ≡ position (λ (p : ProcessSlot). p.number == pid) slots
-stood-found slots pid k slot asc at =
+-- a slot with the number is the first
+pub appeared-found : (slots : List ProcessSlot) (pid k : ℕ) (slot : ProcessSlot) → ascends slots ≡ true → IsAt slots pid k slot → Some k ≡ position (λ (p : ProcessSlot). p.number == pid) slots
+appeared-found slots pid k slot asc at =
     sym (ap (λ n. cond (nat_lt n (length slots)) (Some n) None) (first-at slots pid k slot asc at) ∙ ap (λ b. cond b (Some k) None) (lt-ltb k (length slots) at.within))
 
 module _ (slots : List ProcessSlot) (pid : ℕ) (asc : ascends slots ≡ true) where
-  -- an index at which a binary search stops is the first with the number
+  -- the index at which a binary search stops is the first with the number
   pub half-found : (k : ℕ) → k < length slots → HoldsAt (λ (p : ProcessSlot). nat_cmp p.number pid ≡ Equal) slots k → Some k ≡ position (λ (p : ProcessSlot). p.number == pid) slots
   half-found k within tied = by slots refl within
     where
@@ -162,9 +162,9 @@ module _ (slots : List ProcessSlot) (pid : ℕ) (asc : ascends slots ≡ true) w
           let slot = get_or slots k p in
           let number = same-number slot.number pid (tied p) in
           let at : IsAt slots pid k slot = record { within = within; is = get_or_default slots k p slot within; number = number } in
-          stood-found slots pid k slot asc at
+          appeared-found slots pid k slot asc at
 
-  -- and where it finds none, no place has it
+  -- if it finds none, no slot has the number
   pub half-none : (i : ℕ) → (IsNonDecreasingBy (λ (p : ProcessSlot). ordering_index (nat_cmp p.number pid)) slots
       → AllWithin (λ (p : ProcessSlot). nat_cmp p.number pid ≡ Less) slots 0 i × AllWithin (λ (p : ProcessSlot). nat_cmp p.number pid ≡ Greater) slots i (length slots))
       → None ≡ position (λ (p : ProcessSlot). p.number == pid) slots
@@ -199,12 +199,12 @@ pub parent-entry : (slot : ProcessSlot) (program : Program) (status : Option ℕ
 parent-entry slot program None = refl
 parent-entry slot program (Some n) = refl
 
--- what is left of a process that has ended
+-- the entry of a zombie
 pub ended-entry : (slot : ProcessSlot) (program : Program) (status : Option ℕ) → ended_process (Some (entry_by slot program status)) ≡ option_map (λ n. (slot.parent, n)) status
 ended-entry slot program None = refl
 ended-entry slot program (Some n) = refl
 
--- the first number that is greater
+-- the first greater number
 pub number-seen : (programs : List Shared) (last : ℕ) (slots : List ProcessSlot)
     → option_map (λ (slot : ProcessSlot). slot.number) (first_where (λ (slot : ProcessSlot). nat_lt last slot.number) slots) ≡ number_after last (entries_of programs slots)
 number-seen programs last [] = refl
@@ -219,20 +219,19 @@ unless-none : {X : Type 0} (o : Option X) → (o ≡ None → ⊥) → is_some o
 unless-none None not = absurd (not refl)
 unless-none (Some x) not = refl
 
--- whether there is a value, by its lack
 pub none-some : {X : Type 0} (o : Option X) → o ≡ None → is_some o ≡ true → ⊥
 none-some o none some = let no = ap is_some none in cc
 
--- what is seen of a place and its process from what clauses see
+-- a slot and its process, derived from what contracts see
 module _ (slots : List ProcessSlot) (programs : List Shared) (last : ℕ) (ps : ProcessTable) (seen : table_of slots programs last ≡ ps) (pid : ℕ) where
   pub seen-none : position (λ (p : ProcessSlot). p.number == pid) slots ≡ None → find nat_cmp pid ps.processes ≡ None
   seen-none none = ap (λ (t : ProcessTable). find nat_cmp pid t.processes) (sym seen) ∙ find-none programs slots pid none
 
-  -- what has no place of a live process is not live
+  -- a process without a slot of a live process is not live
   pub gone-in : live_process (find nat_cmp pid (entries_of programs slots)) ≡ None → process_in ps pid ≡ None
   gone-in none = ap (λ (t : ProcessTable). process_in t pid) (sym seen) ∙ none
 
-  -- a live process has a place
+  -- a live process has a slot
   pub live-slot : IsSome (process_in ps pid) → IsSome (position (λ (p : ProcessSlot). p.number == pid) slots)
   live-slot there = unless-none (position (λ (p : ProcessSlot). p.number == pid) slots) (λ none. none-some (process_in ps pid) (ap live_process (seen-none none)) there)
 
@@ -249,7 +248,7 @@ module _ (slots : List ProcessSlot) (programs : List Shared) (last : ℕ) (ps : 
     pub process-at : IsSome (process_in ps pid) → process_in ps pid ≡ Some (process_of (program_at programs slot.program) slot)
     process-at there = living (status-at there)
 
-    -- another place there is a change of the live process
+    -- another slot there changes the live process
     pub changed-at : (there : IsSome (process_in ps pid)) (new : ProcessSlot) (f : Process → Process) → new.number ≡ pid → new.status ≡ None
         → process_of (program_at programs new.program) new ≡ f (process_of (program_at programs slot.program) slot)
         → table_of (set slots k new) programs last ≡ update ps pid f

@@ -1,4 +1,4 @@
--- A child, on the places; and what holds of the places, as clauses see it.
+-- A child, on the slots; and the properties of slots as contracts see them.
 use Rattle.std.proofs.Common.{◌≡◌, ◌≢◌, ℕ, suc, ◌+◌, ◌<◌, ◌≤◌, Bool, true, false, cond, ◌&&◌, ◌||◌, ◌==◌, nat_lt, nat_le, List, [], ◌∷◌, ◌++◌, length, count_by, Some, refl, sym, ap, ap₂, ◌∙◌, ⊎_elim, arith}
 use Rattle.std.specs.FinMap.Entries.{by_order, put, is_sorted, below_all}
 use Rattle.std.specs.List.{list_all}
@@ -18,13 +18,13 @@ use Rattle.pv_model.specs.Tree.{Tree}
 use Rattle.pv_procs.specs.declared.slot.ProcessSlot.{ProcessSlot}
 use Rattle.pv_procs.specs.declared.shared.Shared.{Shared}
 use Rattle.pv_procs.specs.Children.{child_slot}
-use Rattle.pv_procs.specs.Slots.{IsKept, IsRoomy, process_of, entry_of, entries_of, is_above, ascends, is_numbered, uses, users_at, program_at, table_of}
+use Rattle.pv_procs.specs.Slots.{IsConsistent, IsRoomy, process_of, entry_of, entries_of, is_above, ascends, is_numbered, uses, users_at, program_at, table_of}
 use Rattle.pv_procs.specs.ProcessTable.{ProcessTable, IsProcessTable, state_with, process_in}
 use Rattle.pv_procs.proofs.Finding.{IsAt}
 use Rattle.pv_procs.proofs.Keeping.{bit, count_by-cons, list_all-at}
 use Rattle.pv_procs.proofs.Ends.{same-entries}
 
--- ---- what clauses see
+-- ---- what contracts see
 
 less-is : (x y : ℕ) → is_lt (nat_cmp x y) ≡ nat_lt x y
 less-is x y =
@@ -48,13 +48,13 @@ numbers-are programs last (p ∷ ps) = ap (λ b. is_numbered last p && b) (numbe
 pub length-entries : (programs : List Shared) (slots : List ProcessSlot) → length (entries_of programs slots) ≡ length slots
 length-entries programs slots = length-map slots (λ p. (p.number, entry_of programs p))
 
-pub told : (slots spare : List ProcessSlot) (programs : List Shared) (last capacity spare_capacity : ℕ) → IsKept slots programs last
+pub reported : (slots spare : List ProcessSlot) (programs : List Shared) (last capacity spare_capacity : ℕ) → IsConsistent slots programs last
     → IsRoomy (length slots) (length spare) capacity spare_capacity → IsProcessTable (table_of slots programs last)
-told slots spare programs last capacity spare_capacity kept roomy = record {
-  ascending = sorted-is programs slots ∙ kept.ascending;
-  numbers = numbers-are programs last slots ∙ kept.numbers;
+reported slots spare programs last capacity spare_capacity preserved roomy = record {
+  ascending = sorted-is programs slots ∙ preserved.ascending;
+  numbers = numbers-are programs last slots ∙ preserved.numbers;
   count = omega (arith, length-entries programs slots, roomy.full);
-  last = kept.last;
+  last = preserved.last;
 }
 
 -- ---- a greater number at the end
@@ -102,9 +102,9 @@ put-append programs (p ∷ ps) new last numbers more =
 
 -- ---- fork
 
-module _ (slots : List ProcessSlot) (programs : List Shared) (last : ℕ) (kept : IsKept slots programs last) where
+module _ (slots : List ProcessSlot) (programs : List Shared) (last : ℕ) (preserved : IsConsistent slots programs last) where
   pub users-few : (k : ℕ) → length slots < 32 → users_at programs k < 32
-  users-few k few = omega (arith, kept.users k, count_by-le-length (uses k) slots)
+  users-few k few = omega (arith, preserved.users k, count_by-le-length (uses k) slots)
 
   module _ (pid k : ℕ) (slot : ProcessSlot) (at : IsAt slots pid k slot) (other : List Shared) (long : length other ≡ length programs)
       (more : users_at other slot.program ≡ users_at programs slot.program + 1) (rest : (j : ℕ) → j ≢ slot.program → users_at other j ≡ users_at programs j) where
@@ -114,7 +114,7 @@ module _ (slots : List ProcessSlot) (programs : List Shared) (last : ℕ) (kept 
     users-new : (j : ℕ) → users_at other j ≡ count_by (uses j) (slots ++ new ∷ [])
     users-new j =
         let count = count-append (uses j) slots new in
-        let was = kept.users j in
+        let was = preserved.users j in
         ⊎_elim
         (λ (same : j ≡ slot.program).
         let here : bit (uses j new) ≡ 1 = ap bit (eq-eqb slot.program j (sym same)) in
@@ -126,15 +126,15 @@ module _ (slots : List ProcessSlot) (programs : List Shared) (last : ℕ) (kept 
         let e : users_at other j ≡ count_by (uses j) (slots ++ new ∷ []) = omega (arith, count, none, stays, was) in e)
         (cases_eq j slot.program)
 
-    pub kept-new : last < 99999 → IsKept (slots ++ new ∷ []) other (suc last)
-    kept-new few = record {
-      ascending = ascends-append slots new last kept.ascending kept.numbers (omega arith);
+    pub preserved-new : last < 99999 → IsConsistent (slots ++ new ∷ []) other (suc last)
+    preserved-new few = record {
+      ascending = ascends-append slots new last preserved.ascending preserved.numbers (omega arith);
       numbers = list_all-append (is_numbered (suc last)) slots (new ∷ [])
-          ∙ and_from _ _ (numbered-more slots last kept.numbers) (and_from _ _ (and_from _ _ (le-leb 1 (suc last) (omega arith)) (le-leb (suc last) (suc last) (omega arith))) refl);
+          ∙ and_from _ _ (numbered-more slots last preserved.numbers) (and_from _ _ (and_from _ _ (le-leb 1 (suc last) (omega arith)) (le-leb (suc last) (suc last) (omega arith))) refl);
       last = omega arith;
-      table = long ∙ kept.table;
+      table = long ∙ preserved.table;
       within = list_all-append (λ (p : ProcessSlot). nat_lt p.program 32) slots (new ∷ [])
-          ∙ and_from _ _ kept.within (and_from _ _ (list_all-at (λ (p : ProcessSlot). nat_lt p.program 32) slots k slot kept.within at.within at.is) refl);
+          ∙ and_from _ _ preserved.within (and_from _ _ (list_all-at (λ (p : ProcessSlot). nat_lt p.program 32) slots k slot preserved.within at.within at.is) refl);
       users = users-new;
     }
 
@@ -154,7 +154,7 @@ module _ (slots : List ProcessSlot) (programs : List Shared) (last : ℕ) (kept 
       forked-is : state_with t files (table_of (slots ++ new ∷ []) other (suc last)) ≡ forked
       forked-is =
           ap (λ es. record { tree = t; files = files; processes = es; last_process = suc last })
-          (put-append other slots new last kept.numbers (omega arith) ∙ ap₂ (λ r es. put nat_cmp (suc last) r es) child-is (same-entries programs other same slots))
+          (put-append other slots new last preserved.numbers (omega arith) ∙ ap₂ (λ r es. put nat_cmp (suc last) r es) child-is (same-entries programs other same slots))
 
       pub fork-is : length slots < 32 → last < 99999 → fork before pid me ≡ answers (state_with t files (table_of (slots ++ new ∷ []) other (suc last))) (suc last)
       fork-is few low =
@@ -162,7 +162,7 @@ module _ (slots : List ProcessSlot) (programs : List Shared) (last : ℕ) (kept 
           let number : nat_lt 99999 (suc last) ≡ false = le-ltb 99999 (suc last) (omega arith) in
           ap₂ (λ a b. refuse_if EAGAIN (a || b) >> answers forked (suc last)) count number ∙ ap (λ s. answers s (suc last)) (sym forked-is)
 
--- the two reasons to refuse
+-- the two reasons for failure
 pub fork-full : (s : State) (pid : ℕ) (me : Process) → length s.processes ≡ 32 → fork s pid me ≡ refuse EAGAIN
 fork-full s pid me full =
     ap (λ b. refuse_if EAGAIN b >> answers (record (with_process s (suc s.last_process) (child s pid me)) { last_process = suc s.last_process }) (suc s.last_process))

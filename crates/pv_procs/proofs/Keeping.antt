@@ -1,4 +1,4 @@
--- What holds of the places at any time holds after a change of one.
+-- The invariant of slots holds after a change of one.
 use Rattle.std.proofs.Common.{◌≡◌, ℕ, zero, suc, ◌+◌, ◌<◌, Bool, true, cond, ◌&&◌, ◌==◌, nat_lt, List, [], ◌∷◌, length, count_by, is_none, refl, sym, ap, ap₂, subst, ◌∙◌, arith}
 use Rattle.std.specs.List.{list_all}
 use Rattle.std.proofs.Math.ListN.{get_or, set, length-set}
@@ -6,7 +6,7 @@ use Rattle.std.proofs.lemmas.Bool.{and_parts, and_from, lt-ltb}
 use Rattle.std.proofs.lemmas.List.Sums.{sum_by-cons}
 use Rattle.pv_procs.specs.declared.slot.ProcessSlot.{ProcessSlot}
 use Rattle.pv_procs.specs.declared.shared.Shared.{Shared}
-use Rattle.pv_procs.specs.Slots.{IsKept, IsRoomy, is_above, ascends, is_numbered, uses}
+use Rattle.pv_procs.specs.Slots.{IsConsistent, IsRoomy, is_above, ascends, is_numbered, uses}
 use Rattle.pv_procs.proofs.Finding.{IsAt, above_at}
 
 abbrev pub bit : Bool → ℕ
@@ -50,21 +50,21 @@ ascends-set (p ∷ ps) pid (suc k) slot new asc at same =
     and_from _ _ (list_all-set (is_above p.number) ps k new parts.0 (lt-ltb p.number new.number (subst (λ n. p.number < n) (at.number ∙ sym same) more)))
     (ascends-set ps pid k slot new parts.1 (record { within = omega (arith, at.within); is = at.is; number = at.number }) same)
 
-module _ (slots : List ProcessSlot) (programs : List Shared) (last : ℕ) (kept : IsKept slots programs last) (pid k : ℕ) (slot : ProcessSlot) (at : IsAt slots pid k slot) where
-  -- another place there, of the same number, program and status
-  pub kept-set : (new : ProcessSlot) → new.number ≡ pid → new.program ≡ slot.program → new.status ≡ slot.status → IsKept (set slots k new) programs last
-  kept-set new number program status = record {
-    ascending = ascends-set slots pid k slot new kept.ascending at number;
-    numbers = list_all-set (is_numbered last) slots k new kept.numbers
-        (ap (λ n. Rattle.std.specs.Prelude.nat_le 1 n && Rattle.std.specs.Prelude.nat_le n last) (number ∙ sym at.number) ∙ list_all-at (is_numbered last) slots k slot kept.numbers at.within at.is);
-    last = kept.last;
-    table = kept.table;
-    within = list_all-set (λ (p : ProcessSlot). nat_lt p.program 32) slots k new kept.within
-        (ap (λ n. nat_lt n 32) program ∙ list_all-at (λ (p : ProcessSlot). nat_lt p.program 32) slots k slot kept.within at.within at.is);
+module _ (slots : List ProcessSlot) (programs : List Shared) (last : ℕ) (preserved : IsConsistent slots programs last) (pid k : ℕ) (slot : ProcessSlot) (at : IsAt slots pid k slot) where
+  -- another slot there with the same number, program and status
+  pub preserved-set : (new : ProcessSlot) → new.number ≡ pid → new.program ≡ slot.program → new.status ≡ slot.status → IsConsistent (set slots k new) programs last
+  preserved-set new number program status = record {
+    ascending = ascends-set slots pid k slot new preserved.ascending at number;
+    numbers = list_all-set (is_numbered last) slots k new preserved.numbers
+        (ap (λ n. Rattle.std.specs.Prelude.nat_le 1 n && Rattle.std.specs.Prelude.nat_le n last) (number ∙ sym at.number) ∙ list_all-at (is_numbered last) slots k slot preserved.numbers at.within at.is);
+    last = preserved.last;
+    table = preserved.table;
+    within = list_all-set (λ (p : ProcessSlot). nat_lt p.program 32) slots k new preserved.within
+        (ap (λ n. nat_lt n 32) program ∙ list_all-at (λ (p : ProcessSlot). nat_lt p.program 32) slots k slot preserved.within at.within at.is);
     users = λ j.
         let count = count-set (uses j) slots k slot new at.within at.is in
         let same : bit (uses j new) ≡ bit (uses j slot) = ap₂ (λ s n. bit (is_none s && (n == j))) status program in
-        kept.users j ∙ (let e : count_by (uses j) slots ≡ count_by (uses j) (set slots k new) = omega (arith, count, same) in e);
+        preserved.users j ∙ (let e : count_by (uses j) slots ≡ count_by (uses j) (set slots k new) = omega (arith, count, same) in e);
   }
 
 pub roomy-set : (slots spare : List ProcessSlot) (k : ℕ) (new : ProcessSlot) (capacity spare_capacity : ℕ) → IsRoomy (length slots) (length spare) capacity spare_capacity

@@ -1,5 +1,6 @@
--- Lemmas of processes on their places: Finding and Keeping (a place by its number, and a change of one), Steps (lists gone through place
--- by place); then by call: Forks, Ends, Reaps, Loads, and Turning (a context that goes on).
+-- Lemmas of processes on their slots: Finding and Keeping (finding and changing a slot), Steps (lists that are
+-- processed element by element); then by call: Forks, Ends, Reaps, Loads, and Turning (the context of a process
+-- advances).
 pub mod Ends
 pub mod Finding
 pub mod Keeping

@@ -1,4 +1,4 @@
--- Another program for a process, on the places.
+-- Another program for a process, on the slots.
 use Rattle.std.proofs.Common.{◌≡◌, ◌≢◌, ℕ, zero, suc, ◌+◌, ◌-◌, ◌<◌, ◌≤◌, Bool, true, false, cond, not, ◌&&◌, ◌||◌, ◌==◌, nat_lt, nat_le, List, [], ◌∷◌, map, length, count_by, position, Option, None, Some, is_none, is_some, slice_get, replicate, refl, sym, ap, ap₂, subst, ◌∙◌, ⊎_elim, add-one, arith}
 use Rattle.std.specs.FinMap.Entries.{by_order, put}
 use Rattle.std.specs.List.{list_all, position_or_len, prefix_len}
@@ -13,13 +13,13 @@ use Rattle.pv_model.specs.State.{Program, ProcessRecord, live, State}
 use Rattle.pv_procs.specs.declared.slot.ProcessSlot.{ProcessSlot}
 use Rattle.pv_procs.specs.declared.shared.Shared.{Shared}
 use Rattle.pv_procs.specs.Parts.{after_exec, first_record}
-use Rattle.pv_procs.specs.Slots.{IsKept, process_of, entry_by, entry_of, entries_of, is_above, ascends, is_numbered, uses, users_at, user_count, program_at, shared_program, table_of}
+use Rattle.pv_procs.specs.Slots.{IsConsistent, process_of, entry_by, entry_of, entries_of, is_above, ascends, is_numbered, uses, users_at, user_count, program_at, shared_program, table_of}
 use Rattle.pv_procs.specs.ProcessTable.{ProcessTable, process_in, update, update_live}
 use Rattle.pv_procs.proofs.Finding.{IsAt, past-more, following, first-number, greater, equal}
 use Rattle.pv_procs.proofs.Keeping.{bit, count_by-cons, count-set, list_all-set, list_all-at, ascends-set}
 use Rattle.pv_procs.proofs.Ends.{users-gone}
 
--- ---- what is found at a place of a list after a change
+-- ---- the result of a search in a list after a change
 
 pub slice_get-set_same : {X : Type 0} (xs : List X) (k : ℕ) (y : X) → k < length xs → slice_get (set xs k y) k ≡ Some y
 slice_get-set_same [] k y within = absurd (omega arith)
@@ -33,7 +33,7 @@ slice_get-set_other (x ∷ xs) zero (suc j) y other = refl
 slice_get-set_other (x ∷ xs) (suc k) zero y other = refl
 slice_get-set_other (x ∷ xs) (suc k) (suc j) y other = slice_get-set_other xs k j y (λ same. other (ap suc same))
 
--- ---- a free place among the programs
+-- ---- a free slot for a program
 
 abbrev pub has_user : Shared → Bool
 has_user s = s.users == 0
@@ -53,7 +53,7 @@ all-used (s ∷ ss) j is within =
     by zero less some rest = let other = eqb-false s.users 0 some in let e : 0 < s.users = Rattle.std.proofs.Common.⊎_elim (λ same. absurd (other same)) (λ (no : s.users ≢ 0). omega (arith, no)) (cases_eq s.users 0) in e
     by (suc h) less some rest = rest h (omega arith)
 
--- a place without users, where a search finds one
+-- a slot without users, if a search finds one
 pub free-users : (programs : List Shared) (free : ℕ) → position has_user programs ≡ Some free → (free < length programs) × (users_at programs free ≡ 0)
 free-users programs free found =
     let at = position-Some has_user programs free (record { program = []; users = 0 }) found in
@@ -64,7 +64,7 @@ free-users programs free found =
     read (s ∷ ss) zero within = refl
     read (s ∷ ss) (suc k) within = read ss k (omega arith)
 
--- whether a place has a live process whose program has a place below n
+-- whether a slot has a live process whose program is below n
 abbrev below : ℕ → ProcessSlot → Bool
 below n p = is_none p.status && nat_lt p.program n
 
@@ -88,7 +88,7 @@ count-more n (p ∷ ps) =
     let d = count_by-cons (uses n) p ps in
     let e : count_by (below (suc n)) (p ∷ ps) ≡ count_by (below n) (p ∷ ps) + count_by (uses n) (p ∷ ps) = omega (arith, rest, one, a, b, d) in e
 
--- as many places as programs that have a user
+-- there are at least as many live processes as programs with users
 each-used : (n : ℕ) (slots : List ProcessSlot) → ((j : ℕ) → j < n → 0 < count_by (uses j) slots) → n ≤ count_by (below n) slots
 each-used zero slots used = omega arith
 each-used (suc n) slots used =
@@ -96,7 +96,7 @@ each-used (suc n) slots used =
     let last = used n (omega arith) in
     omega (arith, rest, last, count-more n slots)
 
--- ---- the entries, where the program at one place is another, and nobody has it
+-- ---- the entries after a program without users is replaced
 
 module _ (programs other : List Shared) (free : ℕ) (same : (j : ℕ) → j ≢ free → program_at other j ≡ program_at programs j) where
   unused-entry : (p : ProcessSlot) → uses free p ≡ false → entry_of other p ≡ entry_of programs p
@@ -118,7 +118,7 @@ module _ (programs other : List Shared) (free : ℕ) (same : (j : ℕ) → j ≢
       let all = count_by-cons (uses free) p ps in
       ap₂ (λ r (es : List (ℕ × ProcessRecord)). (p.number, r) ∷ es) (unused-entry p (bit-none (uses free p) (omega (arith, all, none)))) (unused-entries ps (omega (arith, all, none)))
 
-  -- another place at k, whatever program the old one had
+  -- another slot at k, whatever the old program was
   pub put-loaded : (slots : List ProcessSlot) (pid k : ℕ) (slot gone new : ProcessSlot) → ascends slots ≡ true → IsAt slots pid k slot → new.number ≡ pid → count_by (uses free) (set slots k gone) ≡ 0
       → entries_of other (set slots k new) ≡ put nat_cmp pid (entry_of other new) (entries_of programs slots)
   put-loaded [] pid k slot gone new asc at number none = let within = at.within in absurd (omega arith)
@@ -138,29 +138,29 @@ module _ (programs other : List Shared) (free : ℕ) (same : (j : ℕ) → j ≢
 
 -- ---- load
 
-module _ (slots : List ProcessSlot) (programs : List Shared) (last : ℕ) (kept : IsKept slots programs last) (pid k : ℕ) (slot : ProcessSlot) (at : IsAt slots pid k slot) (lives : slot.status ≡ None)
-    (let_go : List Shared) (long : length let_go ≡ length programs) (fewer : users_at let_go slot.program + 1 ≡ users_at programs slot.program)
-    (rest : (j : ℕ) → j ≢ slot.program → users_at let_go j ≡ users_at programs j) where
+module _ (slots : List ProcessSlot) (programs : List Shared) (last : ℕ) (preserved : IsConsistent slots programs last) (pid k : ℕ) (slot : ProcessSlot) (at : IsAt slots pid k slot) (lives : slot.status ≡ None)
+    (unreference : List Shared) (long : length unreference ≡ length programs) (fewer : users_at unreference slot.program + 1 ≡ users_at programs slot.program)
+    (rest : (j : ℕ) → j ≢ slot.program → users_at unreference j ≡ users_at programs j) where
   abbrev gone : ProcessSlot
   gone = record slot { status = Some 0 }
 
-  without : (j : ℕ) → users_at let_go j ≡ count_by (uses j) (set slots k gone)
-  without = users-gone slots programs last kept pid k slot at lives let_go long fewer rest 0
+  without : (j : ℕ) → users_at unreference j ≡ count_by (uses j) (set slots k gone)
+  without = users-gone slots programs last preserved pid k slot at lives unreference long fewer rest 0
 
-  -- there is a place that nobody uses
-  pub some-free : length slots ≤ 32 → position has_user let_go ≡ None → ⊥
+  -- some program has no users
+  pub some-free : length slots ≤ 32 → position has_user unreference ≡ None → ⊥
   some-free few none =
-      let full = past (position_or_len has_user let_go) (length let_go) (prefix_len-le-length (λ s. not (has_user s)) let_go) none in
-      let table = kept.table in
-      let each = each-used 32 (set slots k gone) (λ j less. subst (λ n. 0 < n) (without j) (all-used let_go j full (omega (arith, long, table)))) in
+      let full = past (position_or_len has_user unreference) (length unreference) (prefix_len-le-length (λ s. not (has_user s)) unreference) none in
+      let table = preserved.table in
+      let each = each-used 32 (set slots k gone) (λ j less. subst (λ n. 0 < n) (without j) (all-used unreference j full (omega (arith, long, table)))) in
       let count = count-set (below 32) slots k slot gone at.within at.is in
-      let mine : bit (below 32 slot) ≡ 1 = ap bit (ap (λ s. is_none s && nat_lt slot.program 32) lives ∙ list_all-at (λ (p : ProcessSlot). nat_lt p.program 32) slots k slot kept.within at.within at.is) in
+      let mine : bit (below 32 slot) ≡ 1 = ap bit (ap (λ s. is_none s && nat_lt slot.program 32) lives ∙ list_all-at (λ (p : ProcessSlot). nat_lt p.program 32) slots k slot preserved.within at.within at.is) in
       let most = count_by-le-length (below 32) slots in
       absurd (omega (arith, each, count, mine, most, few))
 
-  module _ (free : ℕ) (within : free < length let_go) (unused : users_at let_go free ≡ 0) (program : Program) where
+  module _ (free : ℕ) (within : free < length unreference) (unused : users_at unreference free ≡ 0) (program : Program) where
     abbrev loaded : List Shared
-    loaded = set let_go free (record { program = program; users = 1 })
+    loaded = set unreference free (record { program = program; users = 1 })
 
     abbrev pub changed : ProcessSlot
     changed = record slot { program = free; «record» = after_exec slot.record }
@@ -174,39 +174,39 @@ module _ (slots : List ProcessSlot) (programs : List Shared) (last : ℕ) (kept 
         ⊎_elim
         (λ (same : j ≡ free).
         let here : bit (free == j) ≡ 1 = ap bit (eq-eqb free j (sym same)) in
-        let one : users_at loaded j ≡ 1 = ap (users_at loaded) same ∙ ap user_count (slice_get-set_same let_go free _ within) in
-        let none : users_at let_go j ≡ 0 = ap (users_at let_go) same ∙ unused in
+        let one : users_at loaded j ≡ 1 = ap (users_at loaded) same ∙ ap user_count (slice_get-set_same unreference free _ within) in
+        let none : users_at unreference j ≡ 0 = ap (users_at unreference) same ∙ unused in
         let e : users_at loaded j ≡ count_by (uses j) (set slots k changed) = omega (arith, with_gone, with_changed, was, same_test, here, one, none) in e)
         (λ (different : j ≢ free).
         let other : bit (free == j) ≡ 0 = ap bit (ne_eqb free j (λ same. different (sym same))) in
-        let stays : users_at loaded j ≡ users_at let_go j = ap user_count (slice_get-set_other let_go free j _ different) in
+        let stays : users_at loaded j ≡ users_at unreference j = ap user_count (slice_get-set_other unreference free j _ different) in
         let e : users_at loaded j ≡ count_by (uses j) (set slots k changed) = omega (arith, with_gone, with_changed, was, same_test, other, stays) in e)
         (cases_eq j free)
 
-    pub kept-loaded : IsKept (set slots k changed) loaded last
-    kept-loaded = record {
-      ascending = ascends-set slots pid k slot changed kept.ascending at at.number;
-      numbers = list_all-set (is_numbered last) slots k changed kept.numbers (list_all-at (is_numbered last) slots k slot kept.numbers at.within at.is);
-      last = kept.last;
-      table = length-set let_go free _ ∙ long ∙ kept.table;
-      within = list_all-set (λ (p : ProcessSlot). nat_lt p.program 32) slots k changed kept.within (lt-ltb free 32 (omega (arith, within, long, kept.table)));
+    pub preserved-loaded : IsConsistent (set slots k changed) loaded last
+    preserved-loaded = record {
+      ascending = ascends-set slots pid k slot changed preserved.ascending at at.number;
+      numbers = list_all-set (is_numbered last) slots k changed preserved.numbers (list_all-at (is_numbered last) slots k slot preserved.numbers at.within at.is);
+      last = preserved.last;
+      table = length-set unreference free _ ∙ long ∙ preserved.table;
+      within = list_all-set (λ (p : ProcessSlot). nat_lt p.program 32) slots k changed preserved.within (lt-ltb free 32 (omega (arith, within, long, preserved.table)));
       users = users-loaded;
     }
 
-    pub load-is : (same : (j : ℕ) → program_at let_go j ≡ program_at programs j) (s : State) (ps : ProcessTable) (seen : table_of slots programs last ≡ ps)
+    pub load-is : (same : (j : ℕ) → program_at unreference j ≡ program_at programs j) (s : State) (ps : ProcessTable) (seen : table_of slots programs last ≡ ps)
         (process : process_in ps pid ≡ Some (process_of (program_at programs slot.program) slot)) → table_of (set slots k changed) loaded last ≡ update ps pid (λ p. with_program s pid p program)
     load-is same s ps seen process =
-        let others : (j : ℕ) → j ≢ free → program_at loaded j ≡ program_at programs j = λ j different. ap shared_program (slice_get-set_other let_go free j _ different) ∙ same j in
-        let own : program_at loaded free ≡ program = ap shared_program (slice_get-set_same let_go free _ within) in
+        let others : (j : ℕ) → j ≢ free → program_at loaded j ≡ program_at programs j = λ j different. ap shared_program (slice_get-set_other unreference free j _ different) ∙ same j in
+        let own : program_at loaded free ≡ program = ap shared_program (slice_get-set_same unreference free _ within) in
         let new : entry_of loaded changed ≡ live (with_program s pid (process_of (program_at programs slot.program) slot) program) =
         ap (λ p. entry_by changed p slot.status) own ∙ ap (entry_by changed program) lives in
         ap (λ es. record { processes = es; last_process = last })
-        (put-loaded programs loaded free others slots pid k slot gone changed kept.ascending at at.number (sym (without free) ∙ unused)
+        (put-loaded programs loaded free others slots pid k slot gone changed preserved.ascending at at.number (sym (without free) ∙ unused)
         ∙ ap (λ r. put nat_cmp pid r (entries_of programs slots)) new)
         ∙ ap (λ (t : ProcessTable). record t { processes = put nat_cmp pid (live (with_program s pid (process_of (program_at programs slot.program) slot) program)) t.processes }) seen
         ∙ sym (ap (update_live ps pid (λ p. with_program s pid p program)) process)
 
--- ---- the places at first
+-- ---- the initial slots
 
 abbrev pub first_slot : ProcessSlot
 first_slot = record { number = 1; parent = 0; status = None; program = 0; «record» = first_record }
@@ -219,8 +219,8 @@ unused-at zero j = refl
 unused-at (suc n) zero = refl
 unused-at (suc n) (suc j) = unused-at n j
 
-pub first-kept : (program : Program) → IsKept (first_slot ∷ []) ((record { program = program; users = 1 }) ∷ replicate 31 unused_program) 1
-first-kept program = record { ascending = refl; numbers = refl; last = omega arith; table = refl; within = refl; users = users }
+pub first-preserved : (program : Program) → IsConsistent (first_slot ∷ []) ((record { program = program; users = 1 }) ∷ replicate 31 unused_program) 1
+first-preserved program = record { ascending = refl; numbers = refl; last = omega arith; table = refl; within = refl; users = users }
   where
     users : (j : ℕ) → users_at ((record { program = program; users = 1 }) ∷ replicate 31 unused_program) j ≡ count_by (uses j) (first_slot ∷ [])
     users zero = refl

@@ -1,4 +1,4 @@
--- A child that is waited for, on the places.
+-- A child that is waited for, on the slots.
 use Rattle.std.proofs.Common.{◌≡◌, ℕ, zero, suc, ◌+◌, ◌<◌, ◌≤◌, Bool, true, false, cond, not, ◌&&◌, ◌||◌, ◌==◌, nat_lt, List, [], ◌∷◌, filter, length, count_by, position, Option, None, Some, is_none, is_some, refl, sym, ap, ap₂, subst, ◌∙◌, arith}
 use Rattle.std.specs.FinMap.Entries.{where_key}
 use Rattle.std.specs.Prelude.{◌↔◌, IsTrue}
@@ -20,7 +20,7 @@ use Rattle.pv_model.specs.Tree.{Tree}
 use Rattle.pv_procs.specs.declared.slot.ProcessSlot.{ProcessSlot}
 use Rattle.pv_procs.specs.declared.shared.Shared.{Shared}
 use Rattle.pv_procs.specs.declared.processes.Reap.TheVariants.{Child, Blocked, NoChild}
-use Rattle.pv_procs.specs.Slots.{IsKept, entry_by, entry_of, entries_of, is_above, ascends, is_numbered, is_ended_child, uses, users_at, program_at, table_of}
+use Rattle.pv_procs.specs.Slots.{IsConsistent, entry_by, entry_of, entries_of, is_above, ascends, is_numbered, is_ended_child, uses, users_at, program_at, table_of}
 use Rattle.pv_procs.specs.ProcessTable.{ProcessTable, state_with}
 use Rattle.pv_procs.specs.Reaping.{waited}
 use Rattle.pv_procs.proofs.Finding.{parent-entry, above_at}
@@ -38,7 +38,7 @@ module _ (programs : List Shared) (pid : ℕ) where
   abbrev pub children_in : List ProcessSlot → List (ℕ × ProcessRecord)
   children_in slots = filter is_child (entries_of programs slots)
 
-  -- the first place, by its parent and its status
+  -- the first slot, by its parent and its status
   abbrev first_by : ProcessSlot → List (ℕ × ProcessRecord) → Bool → Option ℕ → List (ℕ × ℕ)
   first_by p rest b status = statuses (cond b ((p.number, entry_by p (program_at programs p.program) status) ∷ rest) rest)
 
@@ -51,7 +51,7 @@ module _ (programs : List Shared) (pid : ℕ) where
   test-is : (p : ProcessSlot) (b : Bool) → (p.parent == pid) ≡ b → (status : Option ℕ) → p.status ≡ status → is_ended_child pid p ≡ (b && is_some status)
   test-is p b is status has = ap₂ (λ a s. a && is_some s) is has
 
-  -- where no child has ended
+  -- if no child has ended
   none-ended : (slots : List ProcessSlot) → position_or_len (λ (p : ProcessSlot). is_ended_child pid p) slots ≡ length slots → statuses (children_in slots) ≡ []
   none-ended [] is = refl
   none-ended (p ∷ ps) is =
@@ -71,7 +71,7 @@ module _ (programs : List Shared) (pid : ℕ) where
       none-ended slots
       (past (position_or_len (λ (p : ProcessSlot). is_ended_child pid p) slots) (length slots) (prefix_len-le-length (λ (p : ProcessSlot). not (is_ended_child pid p)) slots) none)
 
-  -- the first that has
+  -- the first child that has ended
   first-ended : (slots : List ProcessSlot) (k : ℕ) (slot : ProcessSlot) (status : ℕ) → k < length slots → slot ≡ get_or slots k slot → is_ended_child pid slot ≡ true → slot.status ≡ Some status
       → ((j : ℕ) → j < k → is_ended_child pid (get_or slots j slot) ≡ false) → (rest : List (ℕ × ℕ)) × (statuses (children_in slots) ≡ (slot.number, status) ∷ rest)
   first-ended [] k slot status within is test has before = absurd (omega arith)
@@ -87,7 +87,7 @@ module _ (programs : List Shared) (pid : ℕ) where
       by more true same None ended = (more.0, first-is p ps true same None ended ∙ more.1)
       by more true same (Some n) ended = let no = sym (test-is p true same (Some n) ended) ∙ before 0 (omega arith) in cc
 
-  -- whether there is one
+  -- whether there is a child
   pub any-child : (slots : List ProcessSlot) → list_any (λ (p : ProcessSlot). p.parent == pid) slots ≡ not (is_empty (children_in slots))
   any-child [] = refl
   any-child (p ∷ ps) = by (any-child ps) (p.parent == pid) refl
@@ -101,7 +101,7 @@ module _ (programs : List Shared) (pid : ℕ) where
   abbrev pub ended_in : List ProcessSlot → Bool
   ended_in slots = list_any (λ (p : ProcessSlot). is_ended_child pid p) slots
 
-  -- whether one has ended
+  -- whether a child has ended
   pub any-ended : (slots : List ProcessSlot) → list_any (λ (p : ProcessSlot). is_ended_child pid p) slots ≡ not (is_empty (statuses (children_in slots)))
   any-ended [] = refl
   any-ended (p ∷ ps) = by (any-ended ps) (p.parent == pid) refl p.status refl
@@ -115,7 +115,7 @@ module _ (programs : List Shared) (pid : ℕ) where
       by rest true same (Some n) has =
           ap (λ t. t || ended_in ps) (test-is p true same (Some n) has) ∙ sym (ap (λ ss. not (is_empty ss)) (first-is p ps true same (Some n) has))
 
--- ---- a place is taken out
+-- ---- removing a slot
 
 module _ {X : Type 0} where
   pub list_all-remove : (test : X → Bool) (xs : List X) (k : ℕ) → list_all test xs ≡ true → list_all test (remove xs k) ≡ true
@@ -143,18 +143,18 @@ ascends-remove (p ∷ ps) zero asc = (and_parts (list_all (is_above p.number) ps
 ascends-remove (p ∷ ps) (suc k) asc =
     let parts = and_parts (list_all (is_above p.number) ps) (ascends ps) asc in and_from _ _ (list_all-remove (is_above p.number) ps k parts.0) (ascends-remove ps k parts.1)
 
-pub kept-remove : (slots : List ProcessSlot) (programs : List Shared) (last : ℕ) → IsKept slots programs last → (k : ℕ) (slot : ProcessSlot) (status : ℕ) → k < length slots → slot ≡ get_or slots k slot
-    → slot.status ≡ Some status → IsKept (remove slots k) programs last
-kept-remove slots programs last kept k slot status within is ended = record {
-  ascending = ascends-remove slots k kept.ascending;
-  numbers = list_all-remove (is_numbered last) slots k kept.numbers;
-  last = kept.last;
-  table = kept.table;
-  within = list_all-remove (λ (p : ProcessSlot). nat_lt p.program 32) slots k kept.within;
+pub preserved-remove : (slots : List ProcessSlot) (programs : List Shared) (last : ℕ) → IsConsistent slots programs last → (k : ℕ) (slot : ProcessSlot) (status : ℕ) → k < length slots → slot ≡ get_or slots k slot
+    → slot.status ≡ Some status → IsConsistent (remove slots k) programs last
+preserved-remove slots programs last preserved k slot status within is ended = record {
+  ascending = ascends-remove slots k preserved.ascending;
+  numbers = list_all-remove (is_numbered last) slots k preserved.numbers;
+  last = preserved.last;
+  table = preserved.table;
+  within = list_all-remove (λ (p : ProcessSlot). nat_lt p.program 32) slots k preserved.within;
   users = λ j.
       let count = count-remove (uses j) slots k slot within is in
       let none : bit (uses j slot) ≡ 0 = ap (λ s. bit (is_none s && (slot.program == j))) ended in
-      let was = kept.users j in
+      let was = preserved.users j in
       let e : users_at programs j ≡ count_by (uses j) (remove slots k) = omega (arith, count, none, was) in e;
 }
 
@@ -213,7 +213,7 @@ module _ (slots : List ProcessSlot) (programs : List Shared) (last pid : ℕ) (t
       by false is = is
       by true is = let no = sym some ∙ any-child programs pid slots ∙ ap not is in cc
 
-  -- what has ended is no empty list
+  -- a list with an ended child is not empty
   not-empty : (rs : List (ℕ × ProcessRecord)) (one : ℕ × ℕ) (rest : List (ℕ × ℕ)) → statuses rs ≡ one ∷ rest → is_empty rs ≡ false
   not-empty [] one rest is = cc
   not-empty (r ∷ rs) one rest is = refl
@@ -233,20 +233,20 @@ module _ (slots : List ProcessSlot) (programs : List Shared) (last pid : ℕ) (t
   waits-by (r ∷ rs) (one ∷ ss) = (λ no. cc, λ no. apart one ss no)
     where
       apart : (one : ℕ × ℕ) (ss : List (ℕ × ℕ)) → reap before pid me (one ∷ ss) ≡ give (before, waits) → false ≡ true
-      apart (number, status) ss is = told (ap reply_of is)
+      apart (number, status) ss is = reported (ap reply_of is)
         where
           reply_of : Attempt Effect → Reply
           reply_of (done walks effect) = effect.1
           reply_of (refused walks errno cause) = waits
 
-          told : returns_bytes number (little_endian 4 status) ≡ waits → false ≡ true
-          told is = cc
+          reported : returns_bytes number (little_endian 4 status) ≡ waits → false ≡ true
+          reported is = cc
 
   waits-where : (IsTrue (list_any (λ (p : ProcessSlot). p.parent == pid) slots && not (ended_in programs pid slots))) ↔ (wait before pid me ≡ give (before, waits))
   waits-where =
       rw (any-child programs pid slots, any-ended programs pid slots) (waits-by (children_in programs pid slots) (statuses (children_in programs pid slots)))
 
-  -- whether a wait waits, by two tests
+  -- whether wait blocks, by two tests
   pub waits-tested : (some ended result : Bool) → some ≡ list_any (λ (p : ProcessSlot). p.parent == pid) slots → ended ≡ list_any (λ (p : ProcessSlot). is_ended_child pid p) slots
       → result ≡ (some && not ended) → (table : ProcessTable) → table_of slots programs last ≡ table
       → IsTrue result ↔ (wait (state_with t files table) pid me ≡ give (state_with t files table, waits))
@@ -254,7 +254,7 @@ module _ (slots : List ProcessSlot) (programs : List Shared) (last pid : ℕ) (t
       subst (λ (v : ProcessTable). IsTrue result ↔ (wait (state_with t files v) pid me ≡ give (state_with t files v, waits))) same
       (subst (λ b. IsTrue b ↔ (wait before pid me ≡ give (before, waits))) (sym (both ∙ ap₂ (λ a b. a && not b) is has)) waits-where)
 
--- it is there, and has ended
+-- it is within the list, and has ended
 pub ended-within : (pid : ℕ) (slots : List ProcessSlot) (k : ℕ) (slot : ProcessSlot) → position (λ (p : ProcessSlot). is_ended_child pid p) slots ≡ Some k → k < length slots
 ended-within pid slots k slot found = (position-Some (λ (p : ProcessSlot). is_ended_child pid p) slots k slot found).0
 

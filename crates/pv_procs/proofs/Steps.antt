@@ -1,4 +1,4 @@
--- Lists that are gone through place by place.
+-- Lists that are processed element by element.
 use Rattle.std.proofs.Common.{◌≡◌, ℕ, zero, suc, ◌+◌, ◌<◌, List, [], ◌∷◌, ◌++◌, map, take, drop, length, add-one, sym, ap, ◌∙◌, arith}
 use Rattle.std.proofs.Math.ListN.{get_or, set}
 
@@ -8,7 +8,7 @@ canonical g [] k x within is = absurd (omega arith)
 canonical g (y ∷ ys) zero x within is = ap (λ z. g z ∷ ys) is
 canonical g (y ∷ ys) (suc k) x within is = ap (λ zs. g y ∷ zs) (canonical g ys k x (omega arith) is)
 
--- each is changed: one place further
+-- each element is changed: one element further
 pub mapped_further : {X : Type 0} (g : X → X) (all xs : List X) (k : ℕ) (x y : X) → k < length all → xs ≡ map g (take k all) ++ drop k all
     → x ≡ get_or xs k x → y ≡ g x → set xs k y ≡ map g (take (k + 1) all) ++ drop (k + 1) all
 mapped_further g all xs k x y within so_far is new =

@@ -1,4 +1,4 @@
--- The context of a live process goes on, on the places.
+-- The context of a live process advances, on the slots.
 use Rattle.std.proofs.Common.{◌≡◌, ℕ, zero, suc, ◌<◌, ◌==◌, cond, position, true, false, List, [], ◌∷◌, length, Option, None, Some, IsSome, is_some, option_map, refl, sym, subst, ap, ◌∙◌, arith}
 use Rattle.std.proofs.Math.ListN.{get_or, set}
 use Rattle.std.proofs.lemmas.Cmp.{nat_cmp_total}
@@ -16,7 +16,7 @@ use Rattle.pv_script.specs.Passing.{Passes}
 use Rattle.pv_procs.specs.declared.slot.ProcessSlot.{ProcessSlot}
 use Rattle.pv_procs.specs.declared.record.ProcessRecord.{ProcessRecord}
 use Rattle.pv_procs.specs.declared.shared.Shared.{Shared}
-use Rattle.pv_procs.specs.Slots.{IsKept, process_of, ascends, program_at, table_of}
+use Rattle.pv_procs.specs.Slots.{IsConsistent, process_of, ascends, program_at, table_of}
 use Rattle.pv_procs.specs.ProcessTable.{ProcessTable, process_in, with_process, update, update_live}
 use Rattle.pv_procs.specs.Parts.{record_of}
 use Rattle.pv_procs.specs.Turns.{AwaitsCall, CallsNext, Moves, PassesIn, RegisterNext, context_of}
@@ -44,23 +44,23 @@ module _ (slots : List ProcessSlot) (programs : List Shared) (last : ℕ) (ps : 
   context-put m =
       context-changed m (λ p. in_context own own.program m) refl ∙ ap (update_live ps pid (λ p. in_context own own.program m)) (process-at slots programs last ps seen pid asc k slot at there)
 
--- where a live process stands, and the program that it shares
-pub record Stands (slots : List ProcessSlot) (programs : List Shared) (pid k : ℕ) (slot : ProcessSlot) (shared : Shared) : Type 0 where
+-- the slot of a live process, and the program that it shares
+pub record Appears (slots : List ProcessSlot) (programs : List Shared) (pid k : ℕ) (slot : ProcessSlot) (shared : Shared) : Type 0 where
   pub at : IsAt slots pid k slot
   pub live : slot.status ≡ None
   pub program : program_at programs slot.program ≡ shared.program
 
-pub stands : (slots : List ProcessSlot) (programs : List Shared) (last : ℕ) → IsKept slots programs last → (pid k : ℕ) (slot : ProcessSlot) (shared : Shared)
+pub appears : (slots : List ProcessSlot) (programs : List Shared) (last : ℕ) → IsConsistent slots programs last → (pid k : ℕ) (slot : ProcessSlot) (shared : Shared)
     → position (λ (p : ProcessSlot). p.number == pid) slots ≡ Some k → HoldsAt (λ (p : ProcessSlot). p.status ≡ None) slots k → slot ≡ get_or slots k slot
-    → shared ≡ get_or programs slot.program shared → Stands slots programs pid k slot shared
-stands slots programs last kept pid k slot shared found lives is same =
+    → shared ≡ get_or programs slot.program shared → Appears slots programs pid k slot shared
+appears slots programs last preserved pid k slot shared found lives is same =
     let at = found-at slots pid k slot found is in
     let none = ap (λ (p : ProcessSlot). p.status) is ∙ lives slot in
-    let below = program-within slots programs last kept pid k slot at none in
-    let table = kept.table in
+    let below = program-within slots programs last preserved pid k slot at none in
+    let table = preserved.table in
     record { at = at; live = none; program = program-read programs slot.program shared (omega (arith, below, table)) same }
 
--- what a process became that changed alone
+-- the process after a change of only it
 put-there : (ps : ProcessTable) (pid : ℕ) (p : Process) → process_in (with_process ps pid p) pid ≡ Some p
 put-there ps pid p =
     ap live_process (find-put nat_cmp nat_cmp_total pid pid (live p) ps.processes ∙ ap (λ o. cond (is_eq o) (Some (live p)) (find nat_cmp pid ps.processes)) (tied_itself nat_cmp_total pid))
@@ -90,23 +90,23 @@ module _ (slots : List ProcessSlot) (programs : List Shared) (last : ℕ) (ps : 
       let same : in_context me me.program m ≡ found = cc in
       subst (λ (p : Process). is_inside p.program (context_of p) ≡ false) same call
 
-  -- it is as it was
+  -- it did not change
   unchanged : m ≡ slot.record.context → table_of (set slots k (record slot { «record» = record slot.record { context = m } })) programs last ≡ ps
   unchanged same =
       ap (λ n. table_of (set slots k (record slot { «record» = record slot.record { context = n } })) programs last) same
       ∙ ap (λ p. table_of (set slots k p) programs last) at.is ∙ ap (λ xs. table_of xs programs last) (set-get_or slots k slot) ∙ seen
 
-  -- a call comes next
+  -- the next step is a call
   pub at-call : (call : CallRef) → m ≡ slot.record.context → next me ≡ calls_for (call_of call)
       → CallsNext call (process_in ps pid) × (table_of (set slots k (record slot { «record» = record slot.record { context = m } })) programs last ≡ ps)
   at-call call same comes = ((me, lives, comes), unchanged same)
 
-  -- it made so many
+  -- it executed n instructions
   pub passed : (n : ℕ) → Passes n me (in_context me me.program m) → PassesIn n pid ps (table_of (set slots k (record slot { «record» = record slot.record { context = m } })) programs last)
   passed zero same = unchanged (ap context_of same)
   passed (suc n) steps = moved (Passes (suc n)) steps
 
--- ---- what comes next, by a process's record and its program
+-- ---- the next step, from the record of a process and its program
 
 some-is : {X : Type 0} {x y : X} → Some x ≡ Some y → x ≡ y
 some-is {X} {x} {y} is = cc is

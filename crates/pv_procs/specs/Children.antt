@@ -1,8 +1,8 @@
--- The place of a child.
+-- The slot of a child.
 use Rattle.std.specs.Prelude.{ℕ, pos, slice_set, None}
 use Rattle.pv_procs.specs.declared.slot.ProcessSlot.{ProcessSlot}
 
--- the parent's record under a new number, answered 0
+-- a copy of the parent's slot with a new number; fork returns 0 in it
 abbrev pub child_slot : ℕ → ProcessSlot → ProcessSlot
 child_slot number parent = record {
   number = number;

@@ -1,4 +1,4 @@
--- What becomes of the processes when a record was lent.
+-- The effect of lending a record for writing.
 use Rattle.std.specs.Prelude.{ℕ}
 use Rattle.std.specs.Borrow.{Lends, MutBor, Fml}
 use Rattle.pv_procs.specs.declared.record.ProcessRecord.{ProcessRecord}
@@ -8,10 +8,10 @@ use Rattle.pv_procs.specs.contracts.processes.Processes.{the_row}
 use Rattle.pv_procs.specs.Parts.{with_record}
 use Rattle.pv_procs.specs.ProcessTable.{ProcessTable, update}
 
--- the process with that number ends with the last value after the result as its record
+-- the final value of the table has the final value of the borrow r as the record of process pid
 abbrev pub LendsRecord : MutBor ProcessTable → ℕ → MutBor ProcessRecord → Fml
 LendsRecord ps pid r = Lends the_row record_row ps r (λ w. update ps.now pid (λ p. with_record p w))
 
--- what stores a record ends with the last value after the result
+-- the final value of a stored record is the final value of the borrow r
 abbrev pub LendsStored : MutBor ProcessRecord → MutBor ProcessRecord → Fml
 LendsStored stored r = Lends stored_row record_row stored r (λ w. w)

@@ -1,4 +1,4 @@
--- What a live process owns, as a part of the definitions' process.
+-- The record of a live process as a part of the specification's process.
 use Rattle.std.specs.Prelude.{is_some, ◌&&◌, if◌then◌else◌, [], map, None}
 use Rattle.pv_model.specs.Calls.Processes.{descriptor_after_exec}
 use Rattle.pv_model.specs.State.{Process, first_process, no_registers, no_bytes}
@@ -27,11 +27,11 @@ with_record p r = record p {
   buffer = r.context.buffer;
 }
 
--- that of a process before its first step
+-- the record of a process before its first step
 abbrev pub first_record : ProcessRecord
 first_record = record_of (first_process [])
 
--- what execve leaves of it
+-- the record after execve
 abbrev pub after_exec : ProcessRecord → ProcessRecord
 after_exec r = record {
   pledge = record { promises = r.pledge.execpromises; execpromises = r.pledge.execpromises };

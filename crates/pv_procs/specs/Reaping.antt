@@ -1,4 +1,4 @@
--- What wait(2) finds.
+-- The result of wait(2).
 use Rattle.pv_model.specs.declared.errno.Errno.TheVariants.{ECHILD}
 use Rattle.pv_model.specs.Attempt.{Attempt, give, refuse}
 use Rattle.pv_model.specs.Bytes.{little_endian}
@@ -7,7 +7,7 @@ use Rattle.pv_model.specs.State.{State}
 use Rattle.pv_procs.specs.declared.processes.Reap.{Reap}
 use Rattle.pv_procs.specs.declared.processes.Reap.TheVariants.{Child, Blocked, NoChild}
 
--- what a wait is that finds this, and leaves the state
+-- the specification's wait with this result and final state
 abbrev pub waited : Reap → State → Attempt Effect
 waited (Child number status) after = answers_bytes after number (little_endian 4 status)
 waited Blocked after = give (after, waits)

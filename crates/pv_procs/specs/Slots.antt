@@ -1,4 +1,4 @@
--- The places of processes and of programs, and what they hold, as the definitions have it.
+-- The slots of processes and of programs, as the specification's process table.
 use Rattle.std.specs.Prelude.{◌≡◌, ℕ, ◌≤◌, ◌+◌, ◌&&◌, ◌==◌, not, Bool, true, List, [], ◌∷◌, map, length, count_by, nat_le, nat_lt, if◌then◌else◌, slice_get, is_none, is_some, Option, None, Some}
 use Rattle.std.specs.List.{list_all}
 use Rattle.pv_model.specs.declared.limits.TheConstants.{PROCESSES, LAST_PROCESS}
@@ -18,11 +18,11 @@ abbrev pub user_count : Option Shared → ℕ
 user_count None = 0
 user_count (Some s) = s.users
 
--- how many use the program at a place
+-- the number of users of the program in slot k
 abbrev pub users_at : List Shared → ℕ → ℕ
 users_at programs k = user_count (slice_get programs k)
 
--- the process at a place, with this program
+-- the process in a slot, with this program
 abbrev pub process_of : Program → ProcessSlot → Process
 process_of program slot = record {
   promises = slot.record.pledge.promises;
@@ -42,7 +42,7 @@ abbrev pub entry_by : ProcessSlot → Program → Option ℕ → ProcessRecord
 entry_by slot program None = live (process_of program slot)
 entry_by slot program (Some status) = ended_record slot.parent status
 
--- what stands at a place
+-- the record of a slot
 abbrev pub entry_of : List Shared → ProcessSlot → ProcessRecord
 entry_of programs slot = entry_by slot (program_at programs slot.program) slot.status
 
@@ -52,14 +52,14 @@ entries_of programs slots = map (λ slot. (slot.number, entry_of programs slot))
 abbrev pub table_of : List ProcessSlot → List Shared → ℕ → ProcessTable
 table_of slots programs last = record { processes = entries_of programs slots; last_process = last }
 
--- whether a place has a live process with the program at place k
+-- whether a slot has a live process with program k
 abbrev pub uses : ℕ → ProcessSlot → Bool
 uses k slot = is_none slot.status && (slot.program == k)
 
 abbrev pub is_above : ℕ → ProcessSlot → Bool
 is_above n slot = nat_lt n slot.number
 
--- whether the numbers ascend
+-- whether the numbers of slots ascend
 abbrev pub ascends : List ProcessSlot → Bool
 ascends [] = true
 ascends (slot ∷ slots) = list_all (is_above slot.number) slots && ascends slots
@@ -67,9 +67,9 @@ ascends (slot ∷ slots) = list_all (is_above slot.number) slots && ascends slot
 abbrev pub is_numbered : ℕ → ProcessSlot → Bool
 is_numbered last slot = nat_le 1 slot.number && nat_le slot.number last
 
--- the numbers ascend, from 1 to the last that was given; each place has a program's place; and the users of a program
--- are the live processes that have it
-pub record IsKept (slots : List ProcessSlot) (programs : List Shared) (last_number : ℕ) : Type 0 where
+-- the numbers ascend, from 1 to the last that was assigned; each slot refers to a slot of a program; and the users of a
+-- program are the live processes that have it
+pub record IsConsistent (slots : List ProcessSlot) (programs : List Shared) (last_number : ℕ) : Type 0 where
   pub ascending : ascends slots ≡ true
   pub numbers : list_all (is_numbered last_number) slots ≡ true
   pub last : last_number ≤ LAST_PROCESS
@@ -77,22 +77,22 @@ pub record IsKept (slots : List ProcessSlot) (programs : List Shared) (last_numb
   pub within : list_all (λ (slot : ProcessSlot). nat_lt slot.program PROCESSES) slots ≡ true
   pub users : (k : ℕ) → users_at programs k ≡ count_by (uses k) slots
 
--- the places are 32, and there is room for all of them among those that are used, and among the others
+-- there are 32 slots, and the vectors of used and of spare ones have room for all of them
 pub record IsRoomy (used spare capacity spare_capacity : ℕ) : Type 0 where
   pub full : used + spare ≡ PROCESSES
   pub room : PROCESSES ≤ capacity
   pub spare_room : PROCESSES ≤ spare_capacity
 
--- ---- what changes
+-- ---- changes
 
--- a child of process `old` becomes one of process `new`
+-- a child of process `old` becomes a child of process `new`
 abbrev pub adopted : ℕ → ℕ → ProcessSlot → ProcessSlot
 adopted old new slot = if slot.parent == old then record slot { parent = new } else slot
 
--- whether somebody will wait for what is at a place
+-- whether the process in a slot is live or has a parent
 abbrev pub is_claimed : ProcessSlot → Bool
 is_claimed slot = not (is_some slot.status && (slot.parent == 0))
 
--- whether a place has an ended child of a process
+-- whether a slot has an ended child of a process
 abbrev pub is_ended_child : ℕ → ProcessSlot → Bool
 is_ended_child pid slot = (slot.parent == pid) && is_some slot.status

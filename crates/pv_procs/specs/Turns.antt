@@ -1,4 +1,4 @@
--- What comes next in a process.
+-- The next step of a process.
 use Rattle.std.specs.Prelude.{◌≡◌, ℕ, zero, suc, true, false, Option, None, Some}
 use Rattle.pv_model.specs.declared.call_ref.CallRef.{CallRef}
 use Rattle.pv_model.specs.CallRef.{call_of}
@@ -13,25 +13,25 @@ use Rattle.pv_procs.specs.ProcessTable.{ProcessTable, process_in, with_process}
 abbrev pub context_of : Process → Context
 context_of p = record { line = p.line; registers = p.registers; buffer = p.buffer }
 
--- a process is live, and this call comes next in it
+-- a process is live, and its next step is this call
 abbrev pub CallsNext : CallRef → Option Process → Type 0
 CallsNext call lives = (me : Process) × (lives ≡ Some me) × (next me ≡ calls_for (call_of call))
 
--- whether a process that is live has a call next
+-- the next step of a process is a call, if the process is live
 abbrev pub AwaitsCall : Option Process → Type 0
 AwaitsCall lives = (me : Process) → lives ≡ Some me → is_inside me.program (context_of me) ≡ false
 
--- a process is live, and an instruction on registers or a jump comes next in it
+-- a process is live, and its next step is an instruction on registers or a jump
 abbrev pub RegisterNext : Option Process → Type 0
 RegisterNext lives = (me : Process) × (lives ≡ Some me) × (is_inside me.program (context_of me) ≡ true)
 
--- what comes next in a process, or that it is not live
+-- the next step of a process, or Gone if it is not live
 abbrev pub IsFetched : Fetched → Option Process → Type 0
 IsFetched Gone lives = lives ≡ None
 IsFetched Register lives = RegisterNext lives
 IsFetched (Call call) lives = CallsNext call lives
 
--- a live process alone changed, to one that stands to it in this relation
+-- only one live process changes, by this relation
 pub record Moves (by : Process → Process → Type 0) (pid : ℕ) (old new : ProcessTable) : Type 0 where
   pub me : Process
   pub lives : process_in old pid ≡ Some me
@@ -39,16 +39,16 @@ pub record Moves (by : Process → Process → Type 0) (pid : ℕ) (old new : Pr
   pub step : by me after
   pub only : new ≡ with_process old pid after
 
--- the instruction inside a live process that comes next was made
+-- the next instruction on registers or jump of a live process was executed
 abbrev pub Performs : ℕ → ProcessTable → ProcessTable → Type 0
 Performs pid old new = Moves (λ me after. next me ≡ inside after) pid old new
 
--- so many instructions inside a live process were made, one after another, and nothing changed where they are none
+-- the next n instructions on registers and jumps of a live process were executed; nothing changes if n is 0
 abbrev pub PassesIn : ℕ → ℕ → ProcessTable → ProcessTable → Type 0
 PassesIn zero pid old new = new ≡ old
 PassesIn (suc n) pid old new = Moves (Passes (suc n)) pid old new
 
--- what came next in a process was made, if it is an instruction inside it, and else nothing changed
+-- the next step of a process was executed if it is an instruction on registers or a jump; otherwise nothing changed
 abbrev pub Registered : Fetched → ℕ → ProcessTable → ProcessTable → Type 0
 Registered Gone pid old new = (process_in old pid ≡ None) × (new ≡ old)
 Registered Register pid old new = Performs pid old new

@@ -1,10 +1,10 @@
-//! What becomes of the places when a process ends.
+//! The end of a process.
 ghost use Rattle.std.specs.Prelude.{◌≡◌, ◌+◌, ◌≤◌, length, map, filter, vec_len, vec_capacity};
 ghost use Rattle.pv_procs.specs.Slots.{adopted, is_claimed};
 
 use crate::slot::ProcessSlot;
 
-// A child of process `old` becomes one of process `new`.
+// Makes a child of process `old` a child of process `new`.
 fn adopt(slot: &mut ProcessSlot, old: u32, new: u32)
     ensures { slot.new ≡ adopted old new slot.old }
 {
@@ -13,7 +13,7 @@ fn adopt(slot: &mut ProcessSlot, old: u32, new: u32)
     }
 }
 
-// The children of process `old` become those of process `new`.
+// Makes the children of process `old` children of process `new`.
 fn adopt_orphans(slots: &mut [ProcessSlot], old: u32, new: u32)
     ensures { slots.new ≡ map (adopted old new) slots.old }
 {
@@ -22,14 +22,14 @@ fn adopt_orphans(slots: &mut [ProcessSlot], old: u32, new: u32)
     }
 }
 
-// Whether somebody will wait for what is at a place.
+// Returns whether the process in a slot is live or has a parent that can wait for it.
 fn is_claimed(slot: &ProcessSlot) -> bool
     ensures { result ≡ is_claimed slot.now }
 {
     slot.status.is_none() || slot.parent != 0
 }
 
-// The places that nobody will wait for are spare.
+// Moves the slots that no process can wait for to the spare ones.
 fn spare_unclaimed(slots: &mut Vec<ProcessSlot>, spare: &mut Vec<ProcessSlot>)
     requires { vec_len slots.old + vec_len spare.old ≤ vec_capacity spare.old }
     ensures slots { slots.new.items ≡ filter is_claimed slots.old.items }
@@ -44,8 +44,8 @@ fn spare_unclaimed(slots: &mut Vec<ProcessSlot>, spare: &mut Vec<ProcessSlot>)
     }
 }
 
-/// The children of process `old` become those of process `new`, and the places that nobody will wait for are
-/// spare.
+/// Makes the children of process `old` children of process `new`, and moves the slots that no process can wait for to
+/// the spare ones.
 pub(crate) fn settle(slots: &mut Vec<ProcessSlot>, spare: &mut Vec<ProcessSlot>, old: u32, new: u32)
     requires { vec_len slots.old + vec_len spare.old ≤ vec_capacity spare.old }
     ensures slots { slots.new.items ≡ filter is_claimed (map (adopted old new) slots.old.items) }

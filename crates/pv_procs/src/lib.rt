@@ -1,11 +1,10 @@
-//! Processes: fork(2), exit(3), wait(2), and the part of execve(2) that is a process's own.
+//! The process table: fork(2), exit(3), wait(2), and the effect of execve(2) on a process.
 //!
-//! There are 32 places for processes that are live, or have ended and are not waited for, and a table of 32
-//! programs, which live processes share, each with the count of its users. Memory is asked for once, by
-//! `Processes::new`. Clauses see the processes as the definitions' list of records by number, beside the last
-//! number given (`ProcessTable`), and what a live process owns as a `ProcessRecord`. `processes` has what callers use,
-//! `record` what a live process owns, `slot` a place for a process, `shared` one for a program, and `ending` what becomes of
-//! the places when a process ends.
+//! The table has 32 slots for processes that are live or zombies (ended but not yet waited for), and 32 programs with
+//! user counts, which live processes share. Only `Processes::new` allocates memory. Contracts see a `ProcessTable`, the
+//! specification's list of processes by number with the last number that was assigned, and a `ProcessRecord`, the
+//! resources of a live process. `processes` has the public interface, `record` the resources of a live process, `slot`
+//! a slot of a process, `shared` a slot of a program, and `ending` ends a process.
 #![tactic(auto)]
 
 mod ending;

@@ -16,7 +16,7 @@ ghost use Rattle.pv_model.specs.Tree.{Tree};
 
 use crate::ProcessRecord;
 use crate::ending::settle;
-use crate::shared::{Shared, first_programs, free_program, let_go, take_up};
+use crate::shared::{Shared, first_programs, free_program, take_up, unreference};
 use crate::slot::{
     ProcessSlot, adopter, blank, ended_child_of, has_child, has_ended_child, index_of,
     index_of_live, left_of, live_index, make_child, number_after, spare_slots,
@@ -27,10 +27,10 @@ use pv_script::{CallTexts, Program};
 use std::alloc::{AllocError, Global};
 use std::marker::Model;
 
-/// What comes next in a process.
+/// The next step of a process.
 #[derive(Clone, Copy)]
 pub enum Fetched<'a> {
-    /// Nothing: it is not live.
+    /// None: the process is not live.
     Gone,
     /// An instruction on registers, or a jump.
     Register,
@@ -38,21 +38,21 @@ pub enum Fetched<'a> {
     Call(CallRef<'a>),
 }
 
-/// What wait(2) finds.
+/// The result of wait(2).
 #[derive(Clone, Copy, Debug, PartialEq, Eq)]
 pub enum Reap {
-    /// The number of the ended child that was waited for, and the status that it ended with.
+    /// The number of the ended child that was waited for, and its exit status.
     Child(u32, u32),
     /// There are children, and all are live.
     Blocked,
-    /// There is no child.
+    /// There are no children.
     NoChild,
 }
 
-/// The processes by their numbers: 32 places, the programs that they share, and the last number given.
+/// The processes by number: 32 slots, the programs that they share, and the last number that was assigned.
 #[derive(Drop)]
 pub struct Processes {
-    // Those that are used, in the order of their numbers.
+    // The slots in use, in ascending order of their numbers.
     slots: Vec<ProcessSlot>,
     spare: Vec<ProcessSlot>,
     programs: Vec<Shared>,
@@ -65,11 +65,11 @@ impl Model for Processes {
     ghost Value = { ProcessTable };
 
     ghost use Rattle.std.specs.Prelude.{length, vec_capacity};
-    ghost use Rattle.pv_procs.specs.Slots.{table_of, IsKept, IsRoomy};
+    ghost use Rattle.pv_procs.specs.Slots.{table_of, IsConsistent, IsRoomy};
 
     ghost view = { λ t. table_of t.slots.items t.programs.items t.last };
 
-    ghost invariant = { λ t. IsKept t.slots.items t.programs.items t.last
+    ghost invariant = { λ t. IsConsistent t.slots.items t.programs.items t.last
         × IsRoomy (length t.slots.items) (length t.spare.items) (vec_capacity t.slots) (vec_capacity t.spare) };
 }
 
@@ -80,11 +80,12 @@ impl Processes {
     ghost use Rattle.pv_procs.specs.Reaping.{waited};
     ghost use Rattle.pv_procs.specs.Turns.{AwaitsCall, IsFetched, PassesIn, Registered};
 
-    /// Process 1 alone, with its program, before its first step.
+    /// Creates process 1 with its program, before its first step.
     ///
     /// # Errors
     ///
-    /// Where there is no memory for the places. No other call of `Processes` asks for any.
+    /// Returns `AllocError` if memory for the slots cannot be allocated. No other method of `Processes` allocates
+    /// memory.
     pub fn new(alloc: Global, program: Program) -> Result<Processes, AllocError>
         ensures { IfOk result (λ processes. processes ≡ first_processes program) }
     {
@@ -100,14 +101,14 @@ impl Processes {
         })
     }
 
-    /// Does nothing: its contract says what holds of the processes at any time.
+    /// Does nothing. Its contract states the invariant of the processes.
     pub fn invariant(&self)
         ensures { IsProcessTable self.now }
     {
         let _ = &self.slots;
     }
 
-    /// Whether a process is live.
+    /// Returns whether a process is live.
     pub fn live(&self, pid: u32) -> bool
         ensures { result ≡ is_some (process_in self.now pid) }
     {
@@ -117,7 +118,7 @@ impl Processes {
         }
     }
 
-    /// The parent of a process that is live, or has ended and is not waited for: 0 is none.
+    /// Returns the parent of a process that is live or a zombie. The number 0 means that it has no parent.
     pub fn parent_of(&self, pid: u32) -> Option<u32>
         ensures { result ≡ option_map parent_of (find nat_cmp pid self.now.processes) }
     {
@@ -127,16 +128,14 @@ impl Processes {
         }
     }
 
-    /// The least number greater than this one of a process that is live, or has ended and is not waited for. None where
-    /// there is none.
+    /// Returns the least number greater than `last` of a process that is live or a zombie, or `None` if there is none.
     pub fn next_number(&self, last: u32) -> Option<u32>
         ensures { result ≡ number_after last self.now.processes }
     {
         number_after(&self.slots, last)
     }
 
-    /// What is left of a process that has ended and is not waited for: its parent, which is 0 where it has none, and the
-    /// status that it ended with.
+    /// Returns the parent of a zombie, or 0 if it has no parent, and its exit status.
     pub fn ended(&self, pid: u32) -> Option<(u32, u32)>
         ensures { result ≡ ended_process (find nat_cmp pid self.now.processes) }
     {
@@ -146,7 +145,7 @@ impl Processes {
         }
     }
 
-    /// What a live process owns.
+    /// Returns the record of a live process.
     pub fn record(&self, pid: u32) -> &ProcessRecord
         requires { IsSome (process_in self.now pid) }
         ensures { option_map record_of (process_in self.now pid) ≡ Some result.now }
@@ -155,7 +154,7 @@ impl Processes {
         self.slots[k].record.get()
     }
 
-    /// What a process owns, where it is live.
+    /// Returns the record of a process, or `None` if it is not live.
     pub fn live_record(&self, pid: u32) -> Option<&ProcessRecord>
         ensures { option_map record_of (process_in self.now pid) ≡ option_copied result }
     {
@@ -165,7 +164,7 @@ impl Processes {
         }
     }
 
-    /// What a live process owns, to be changed.
+    /// Returns the record of a live process for modification.
     pub fn record_mut(&mut self, pid: u32) -> &mut ProcessRecord
         requires { IsSome (process_in self.old pid) }
         ensures* writes_back { sem 𝓛 (LendsRecord self.entry pid result) }
@@ -175,14 +174,14 @@ impl Processes {
         self.slots[k].record.get_mut()
     }
 
-    /// The child that fork(2) makes of a live process: its number is the answer. It has a copy of what its parent
-    /// owns, shares its program, and is answered 0. Of each open file that the parent's descriptors name, the
-    /// caller counts another user, and of each node that it holds another holder.
+    /// Creates a child of a live process, as fork(2) does, and returns its number. The child has a copy of the parent's
+    /// record, shares the program, and receives 0 as the result of the call. The caller must add a user to each open
+    /// file of the parent's descriptors, and a reference to each node that the parent references.
     ///
     /// # Errors
     ///
-    /// `EAGAIN` where 32 processes are live or have ended and are not waited for, or where the last number given
-    /// was 99,999, and only there; nothing has then changed.
+    /// Returns `EAGAIN` if and only if there are 32 live processes and zombies, or the last number that was assigned is
+    /// 99,999. Nothing changes then.
     pub fn fork(&mut self, pid: u32) -> Result<u32, Errno>
         requires { IsSome (process_in self.old pid) }
         ensures forked { IfOk result (λ n. (t : Tree) (files : Numbered OpenFile) (me : Process) → process_in self.old pid ≡ Some me
@@ -206,7 +205,7 @@ impl Processes {
         Ok(number)
     }
 
-    /// Waits for a child that has ended, wait(2): the one with the least number is told, and is gone.
+    /// Waits for a child that has ended, wait(2): reports the one with the least number and removes it.
     pub fn reap(&mut self, pid: u32) -> Reap
         ensures waited { (t : Tree) (files : Numbered OpenFile) (me : Process)
             → wait (state_with t files self.old) pid me ≡ waited result (state_with t files self.new) }
@@ -224,7 +223,7 @@ impl Processes {
         child
     }
 
-    /// Whether a wait(2) of a process would wait: it has children, and all are live.
+    /// Returns whether wait(2) blocks in a process: it has children, and all are live.
     pub fn waits(&self, pid: u32) -> bool
         ensures { (t : Tree) (files : Numbered OpenFile) (me : Process)
             → IsTrue result ↔ (wait (state_with t files self.now) pid me ≡ give (state_with t files self.now, waits)) }
@@ -232,16 +231,17 @@ impl Processes {
         has_child(&self.slots, pid) && !has_ended_child(&self.slots, pid)
     }
 
-    /// Gives a live process another program, execve(2): its promises become its execpromises, without these its
-    /// table and lock go, the descriptors that execve closes go, and it is before its first step. What it lets go
-    /// its caller reads before, by `record`.
+    /// Replaces the program of a live process, execve(2). The promises become the execpromises. If there are no
+    /// execpromises, the unveil table and its lock are removed. The descriptors that execve closes are removed. The
+    /// process is then before its first step. The caller must release the resources that are removed, which it can read
+    /// with `record` before this call.
     pub fn load(&mut self, pid: u32, program: Program)
         requires { IsSome (process_in self.old pid) }
         ensures { (s : State) → self.new ≡ update self.old pid (λ me. with_program s pid me program) }
     {
         let k = live_index(&self.slots, pid);
         let slot = &mut self.slots[k];
-        let_go(&mut self.programs, slot.program);
+        unreference(&mut self.programs, slot.program);
         let Some(free) = free_program(&self.programs) else {
             unreachable!()
         };
@@ -250,11 +250,11 @@ impl Processes {
         slot.record.get_mut().after_exec();
     }
 
-    /// Ends a live process, with the status that a parent's wait(2) tells.
+    /// Ends a live process with an exit status, which wait(2) reports to the parent.
     ///
-    /// What is left is its parent and its status. Its children become those of process 1, or nobody's once
-    /// process 1 has ended; what has ended and is nobody's child is gone. What the process held, its caller
-    /// reads before, by `record`.
+    /// Only the parent and the status remain. The children become children of process 1. If process 1 has ended, they
+    /// have no parent. Zombies without a parent are removed. The caller must release the resources of the process,
+    /// which it can read with `record` before this call.
     pub fn end(&mut self, pid: u32, status: u32)
         requires { IsSome (process_in self.old pid) }
         ensures { (t : Tree) (files : Numbered OpenFile) (me : Process) → process_in self.old pid ≡ Some me
@@ -264,12 +264,12 @@ impl Processes {
         let slot = &mut self.slots[k];
         slot.status = Some(status);
         let program = slot.program;
-        let_go(&mut self.programs, program);
+        unreference(&mut self.programs, program);
         let heir = adopter(&self.slots);
         settle(&mut self.slots, &mut self.spare, pid, heir);
     }
 
-    /// The program of a live process.
+    /// Returns the program of a live process.
     pub fn program(&self, pid: u32) -> &Program
         requires { IsSome (process_in self.now pid) }
         ensures { option_map (λ me. me.program) (process_in self.now pid) ≡ Some result.now }
@@ -279,8 +279,8 @@ impl Processes {
         &self.programs[slot.program].program
     }
 
-    /// What comes next in a process: nothing where it is not live, an instruction on registers or a jump, or a call, with its
-    /// texts kept: past the last line, an exit. Nothing is made.
+    /// Returns the next step of a process without executing it: none if the process is not live, an instruction on
+    /// registers or a jump, or a call whose texts are copied to `texts`. After the last line, the next step is exit.
     pub fn fetch<'a>(&self, pid: u32, texts: &'a mut CallTexts) -> Fetched<'a>
         ensures { IsFetched result (process_in self.now pid) }
     {
@@ -293,8 +293,8 @@ impl Processes {
         }
     }
 
-    /// What comes next in a process: an instruction on registers or a jump, which is made, or a call, with its texts
-    /// kept: past the last line, an exit.
+    /// Executes the next step of a process if it is an instruction on registers or a jump. If it is a call, returns it
+    /// without executing it, with its texts copied to `texts`. After the last line, the next step is exit.
     pub fn step_or_fetch<'a>(&mut self, pid: u32, texts: &'a mut CallTexts) -> Fetched<'a>
         ensures { Registered result pid self.old self.new }
     {
@@ -314,8 +314,8 @@ impl Processes {
         }
     }
 
-    /// Makes the instructions on registers and the jumps that come next in a process, at most so many, one after
-    /// another: answers how many. Where the process is not live, they are none.
+    /// Executes the next instructions on registers and jumps of a process, at most `most`, and returns their number. It
+    /// is 0 if the process is not live.
     pub fn pass(&mut self, pid: u32, most: u32) -> u32
         ensures few { result ≤ most }
         ensures made { PassesIn result pid self.old self.new }
@@ -329,7 +329,7 @@ impl Processes {
         slot.record.get_mut().context.pass(&shared.program, most)
     }
 
-    /// A live process goes on to its next line, at most to the one after the last.
+    /// Advances a live process to its next line, at most to the one after the last.
     pub fn advance(&mut self, pid: u32)
         requires { IsSome (process_in self.old pid) }
         ensures { self.new ≡ update self.old pid at_next_line }
@@ -340,17 +340,18 @@ impl Processes {
         slot.record.get_mut().context.advance(&shared.program);
     }
 
-    /// Tells a live process what a call came to: r0 has the value, and r1 the error, 0 where there is none.
-    pub fn tell(&mut self, pid: u32, value: i32, error: u16)
+    /// Stores the result of a call in the registers of a live process: the value in r0 and the error in r1, or 0 if
+    /// there is no error.
+    pub fn report(&mut self, pid: u32, value: i32, error: u16)
         requires { IsSome (process_in self.old pid) }
         ensures { self.new ≡ update self.old pid (λ p. with_result p value error) }
     {
         let k = live_index(&self.slots, pid);
         let slot = &mut self.slots[k];
-        slot.record.get_mut().context.tell(value, error);
+        slot.record.get_mut().context.report(value, error);
     }
 
-    /// Puts bytes, at most 4,096, to the front of a live process's buffer.
+    /// Copies at most 4,096 bytes to the front of a live process's buffer.
     pub fn put_front(&mut self, pid: u32, bytes: &[u8])
         requires live { IsSome (process_in self.old pid) }
         requires size { length bytes.now ≤ BUFFER }

@@ -1,4 +1,4 @@
-//! What a live process owns.
+//! The resources of a live process.
 ghost use Rattle.std.specs.Prelude.{◌≡◌, IfOk};
 ghost use Rattle.std.specs.Borrow.{sem};
 
@@ -10,25 +10,25 @@ use pv_unveil::Table;
 use std::alloc::{AllocError, Global};
 use std::marker::Model;
 
-/// What a live process owns. Its program, which it may share, and its parent stand beside it.
+/// The resources of a live process. Its program, which it may share, and its parent are stored elsewhere.
 #[derive(Drop)]
 pub struct ProcessRecord {
-    /// What it has promised, pledge(2).
+    /// Its promises, pledge(2).
     pub pledge: Pledge,
-    /// What it has unveiled, unveil(2).
+    /// Its unveil table, unveil(2).
     pub unveiled: Table,
-    /// The number of its working directory's node.
+    /// The number of the node of its working directory.
     pub directory: u16,
     /// Its descriptors.
     pub descriptors: Descriptors,
-    /// The line that comes next, the registers and the buffer.
+    /// Its next line, registers and buffer.
     pub context: Context,
 }
 
 impl ProcessRecord {
     ghost use Rattle.pv_procs.specs.Parts.{first_record, after_exec};
 
-    // That of a process before its first step.
+    // Creates the record of a process before its first step.
     #[tactic(auto, unfolding(pv_script::specs::Context::first_context))]
     pub(crate) fn new(alloc: Global) -> Result<ProcessRecord, AllocError>
         ensures { IfOk result (λ r. r ≡ first_record) }
@@ -42,7 +42,7 @@ impl ProcessRecord {
         })
     }
 
-    // Becomes as another, as fork(2) makes a child's.
+    // Copies another record, as fork(2) does for a child.
     pub(crate) fn copy_from(&mut self, other: &ProcessRecord)
         ensures { self.new ≡ other.now }
     {
@@ -53,7 +53,7 @@ impl ProcessRecord {
         self.context.copy_from(&other.context);
     }
 
-    // Becomes what execve(2) leaves.
+    // Applies the effect of execve(2) to the record.
     #[tactic(auto, unfolding(pv_script::specs::Context::first_context))]
     pub(crate) fn after_exec(&mut self)
         ensures { self.new ≡ after_exec self.old }
@@ -66,7 +66,7 @@ impl ProcessRecord {
     }
 }
 
-/// A record that stands apart, so that what has it is small to move: a contract sees the record.
+/// A boxed record, so that moving its owner is cheap. Contracts see the record.
 #[derive(Drop)]
 pub(crate) struct Stored {
     owned: Box<ProcessRecord>,
@@ -84,7 +84,7 @@ impl Stored {
     ghost use Rattle.pv_procs.specs.Lent.{LendsStored};
     ghost use Rattle.pv_procs.specs.Parts.{first_record};
 
-    // That of a process before its first step.
+    // Creates the record of a process before its first step.
     pub(crate) fn new(alloc: Global) -> Result<Stored, AllocError>
         ensures { IfOk result (λ r. r ≡ first_record) }
     {
@@ -93,14 +93,14 @@ impl Stored {
         })
     }
 
-    // The record.
+    // Returns the record.
     pub(crate) fn get(&self) -> &ProcessRecord
         ensures { result.now ≡ self.now }
     {
         &*self.owned
     }
 
-    // The record, to be changed.
+    // Returns the record for modification.
     pub(crate) fn get_mut(&mut self) -> &mut ProcessRecord
         ensures* writes_back { sem 𝓛 (LendsStored self.entry result) }
         ensures value { result.now ≡ self.old }

@@ -6,15 +6,15 @@ use pv_model::limits::PROCESSES;
 use pv_script::Program;
 use std::alloc::{AllocError, Global};
 
-/// A place for a program that live processes share, with the count of them. A program that has no user stays
-/// until another one takes its place.
+/// A slot for a program that live processes share, with their number. A program without users stays until another one
+/// replaces it.
 #[derive(Drop)]
 pub(crate) struct Shared {
     pub(crate) program: Program,
     pub(crate) users: u32,
 }
 
-/// All places, the first with a program that has one user.
+/// Creates all slots. The first has a program with one user.
 pub(crate) fn first_programs(alloc: Global, program: Program) -> Result<Vec<Shared>, AllocError>
     ensures { IfOk result (λ programs. programs.items
         ≡ (record { program = program; users = 1 }) ∷ replicate 31 (record { program = []; users = 0 })) }
@@ -28,8 +28,8 @@ pub(crate) fn first_programs(alloc: Global, program: Program) -> Result<Vec<Shar
     Ok(programs)
 }
 
-/// A user of the program at a place lets it go.
-pub(crate) fn let_go(programs: &mut [Shared], k: usize)
+/// Removes a user of the program in slot `k`.
+pub(crate) fn unreference(programs: &mut [Shared], k: usize)
     requires within { k < length programs.old }
     requires used { 0 < users_at programs.old k }
     ensures users { users_at programs.new k + 1 ≡ users_at programs.old k }
@@ -39,7 +39,7 @@ pub(crate) fn let_go(programs: &mut [Shared], k: usize)
     programs[k].users -= 1;
 }
 
-/// The program at a place has another user.
+/// Adds a user to the program in slot `k`.
 pub(crate) fn take_up(programs: &mut [Shared], k: usize)
     requires within { k < length programs.old }
     requires few { users_at programs.old k < PROCESSES }
@@ -50,7 +50,7 @@ pub(crate) fn take_up(programs: &mut [Shared], k: usize)
     programs[k].users += 1;
 }
 
-/// A place whose program nobody uses.
+/// Returns a slot whose program has no user.
 pub(crate) fn free_program(programs: &[Shared]) -> Option<usize>
     ensures { result ≡ position (λ shared. shared.users == 0) programs.now }
 {

@@ -1,4 +1,4 @@
-//! A place for a process.
+//! A slot for a process.
 ghost use Rattle.std.specs.Prelude.{◌≡◌, ◌-◌, ◌==◌, nat_lt, true, find as first_where, List, option_map, position, is_some, IsSome, IfSome, Some, None, IfOk, vec_len, vec_capacity, if◌then◌else◌};
 ghost use Rattle.std.specs.FinMap.Entries.{find};
 ghost use Rattle.std.specs.Ordering.{nat_cmp};
@@ -13,22 +13,22 @@ use crate::record::Stored;
 use pv_model::limits::PROCESSES;
 use std::alloc::{AllocError, Global};
 
-/// A process that is live, or what is left of one that has ended until it is waited for.
+/// A process that is live, or a zombie.
 #[derive(Drop)]
 pub(crate) struct ProcessSlot {
     /// Its number.
     pub(crate) number: u32,
-    /// The number of its parent, 0 where nobody will wait for it.
+    /// The number of its parent, or 0 if it has none.
     pub(crate) parent: u32,
-    /// The status that it ended with, once it has.
+    /// Its exit status, if it has ended.
     pub(crate) status: Option<u32>,
-    /// The place of its program.
+    /// The slot of its program.
     pub(crate) program: usize,
-    /// What it owns while it is live.
+    /// Its record, which is in use while it is live.
     pub(crate) record: Stored,
 }
 
-/// A place with the record of a process before its first step.
+/// Creates a slot with the record of a process before its first step.
 pub(crate) fn blank(alloc: Global, number: u32) -> Result<ProcessSlot, AllocError>
     ensures { IfOk result (λ slot. slot ≡ record { number = number; parent = 0; status = None; program = 0; «record» = first_record }) }
 {
@@ -41,7 +41,7 @@ pub(crate) fn blank(alloc: Global, number: u32) -> Result<ProcessSlot, AllocErro
     })
 }
 
-/// The places of all processes but one, with room for that one too.
+/// Creates the slots of all processes but one, in a vector with room for that one.
 pub(crate) fn spare_slots(alloc: Global) -> Result<Vec<ProcessSlot>, AllocError>
     ensures count { IfOk result (λ spare. vec_len spare ≡ PROCESSES - 1) }
     ensures room { IfOk result (λ spare. vec_capacity spare ≡ PROCESSES) }
@@ -53,7 +53,7 @@ pub(crate) fn spare_slots(alloc: Global) -> Result<Vec<ProcessSlot>, AllocError>
     Ok(spare)
 }
 
-/// Makes a spare place that of a child, under its number: fork(2) answers it 0.
+/// Makes a spare slot that of a child with this number. The child receives 0 as the result of fork(2).
 pub(crate) fn make_child(slot: &mut ProcessSlot, number: u32, parent: &ProcessSlot)
     ensures { slot.new ≡ child_slot number parent.now }
 {
@@ -63,11 +63,11 @@ pub(crate) fn make_child(slot: &mut ProcessSlot, number: u32, parent: &ProcessSl
     slot.program = parent.program;
     let owned = slot.record.get_mut();
     owned.copy_from(parent.record.get());
-    owned.context.tell(0, 0);
+    owned.context.report(0, 0);
 }
 
-// Whether a process's place is this one.
-fn stands_at(slots: &[ProcessSlot], k: usize, pid: u32) -> bool
+// Returns whether slot `k` is that of a process.
+fn appears_at(slots: &[ProcessSlot], k: usize, pid: u32) -> bool
     requires { ascends slots.now ≡ true }
     ensures { result ≡ true → Some k ≡ position (λ slot. slot.number == pid) slots.now }
 {
@@ -78,7 +78,7 @@ fn stands_at(slots: &[ProcessSlot], k: usize, pid: u32) -> bool
     slot.number == pid
 }
 
-// Where the place of a process stands while no process after it has gone.
+// Returns the index of a process's slot, if no process with a greater number has been removed.
 fn from_the_end(slots: &[ProcessSlot], pid: u32) -> usize {
     let last = match slots.last() {
         Some(last) => last.number,
@@ -88,18 +88,19 @@ fn from_the_end(slots: &[ProcessSlot], pid: u32) -> usize {
     slots.len().saturating_sub(following).saturating_sub(1)
 }
 
-// The index of a process's place: the places stand in the order of their numbers. It is looked for first where it
-// stands while no process before it has gone, and then where it stands while none after it has.
+// Returns the index of a process's slot. Slots are in ascending order of their numbers. The search first tries the
+// index that the slot has if no process with a smaller number has been removed, then the one that it has if no process
+// with a greater number has been removed.
 pub(crate) fn index_of(slots: &[ProcessSlot], pid: u32) -> Option<usize>
     requires { ascends slots.now ≡ true }
     ensures { result ≡ position (λ slot. slot.number == pid) slots.now }
 {
     let guess = (pid as usize).saturating_sub(1);
-    if stands_at(slots, guess, pid) {
+    if appears_at(slots, guess, pid) {
         return Some(guess);
     }
     let guess = from_the_end(slots, pid);
-    if stands_at(slots, guess, pid) {
+    if appears_at(slots, guess, pid) {
         return Some(guess);
     }
     match slots.binary_search_by_key(&pid, |slot| slot.number) {
@@ -108,7 +109,7 @@ pub(crate) fn index_of(slots: &[ProcessSlot], pid: u32) -> Option<usize>
     }
 }
 
-/// The first number of a place that is greater than this one.
+/// Returns the first number of a slot that is greater than `last`.
 pub(crate) fn number_after(slots: &[ProcessSlot], last: u32) -> Option<u32>
     ensures { result ≡ option_map (λ slot. slot.number) (first_where (λ slot. nat_lt last slot.number) slots.now) }
 {
@@ -116,7 +117,7 @@ pub(crate) fn number_after(slots: &[ProcessSlot], last: u32) -> Option<u32>
     Some(slot.number)
 }
 
-/// The parent and the status of a process that has ended.
+/// Returns the parent and the exit status of a zombie.
 pub(crate) fn left_of(slot: &ProcessSlot) -> Option<(u32, u32)>
     ensures { result ≡ option_map (λ status. (slot.now.parent, status)) slot.now.status }
 {
@@ -126,7 +127,7 @@ pub(crate) fn left_of(slot: &ProcessSlot) -> Option<(u32, u32)>
     }
 }
 
-// The index of the place of a process that has one.
+// Returns the index of the slot of a process that has one.
 pub(crate) fn live_index(slots: &[ProcessSlot], pid: u32) -> usize
     requires ascends { ascends slots.now ≡ true }
     requires there { IsSome (position (λ slot. slot.number == pid) slots.now) }
@@ -138,7 +139,7 @@ pub(crate) fn live_index(slots: &[ProcessSlot], pid: u32) -> usize
     }
 }
 
-// The index of the first place that has an ended child of a process.
+// Returns the index of the first slot of an ended child of a process.
 pub(crate) fn ended_child_of(slots: &[ProcessSlot], pid: u32) -> Option<usize>
     ensures { result ≡ position (λ slot. is_ended_child pid slot) slots.now }
 {
@@ -147,7 +148,7 @@ pub(crate) fn ended_child_of(slots: &[ProcessSlot], pid: u32) -> Option<usize>
         .position(|slot| slot.parent == pid && slot.status.is_some())
 }
 
-// Whether a process is live: its place is used.
+// Returns whether a process is live.
 pub(crate) fn is_live(slots: &[ProcessSlot], pid: u32) -> bool
     requires { ascends slots.now ≡ true }
     ensures { (programs : List Shared) → result ≡ is_some (live_process (find nat_cmp pid (entries_of programs slots.now))) }
@@ -158,7 +159,7 @@ pub(crate) fn is_live(slots: &[ProcessSlot], pid: u32) -> bool
     }
 }
 
-// The index of the place of a live process.
+// Returns the index of the slot of a live process.
 pub(crate) fn index_of_live(slots: &[ProcessSlot], pid: u32) -> Option<usize>
     requires { ascends slots.now ≡ true }
     ensures slot { IfSome result (λ k. position (λ slot. slot.number == pid) slots.now ≡ Some k) }
@@ -173,7 +174,7 @@ pub(crate) fn index_of_live(slots: &[ProcessSlot], pid: u32) -> Option<usize>
     }
 }
 
-// Who adopts orphans: process 1 while it is live, and else nobody.
+// Returns the process that adopts orphans: process 1 while it is live, otherwise 0 for none.
 pub(crate) fn adopter(slots: &[ProcessSlot]) -> u32
     requires { ascends slots.now ≡ true }
     ensures { (programs : List Shared) → result
@@ -182,14 +183,14 @@ pub(crate) fn adopter(slots: &[ProcessSlot]) -> u32
     if is_live(slots, 1) { 1 } else { 0 }
 }
 
-// Whether a process has a child.
+// Returns whether a process has a child.
 pub(crate) fn has_child(slots: &[ProcessSlot], pid: u32) -> bool
     ensures { result ≡ list_any (λ slot. slot.parent == pid) slots.now }
 {
     slots.iter().any(|slot| slot.parent == pid)
 }
 
-// Whether a process has a child that has ended.
+// Returns whether a process has a child that has ended.
 pub(crate) fn has_ended_child(slots: &[ProcessSlot], pid: u32) -> bool
     ensures { result ≡ list_any (λ slot. is_ended_child pid slot) slots.now }
 {

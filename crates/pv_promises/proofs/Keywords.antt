@@ -1,4 +1,4 @@
--- Keywords of a text, and the set of some of them and then the others.
+-- The keywords of a text, and the set of some of them followed by the others.
 use Rattle.std.proofs.Common.{◌≡◌, ℕ, ◌+◌, ◌<◌, ◌==◌, Bool, not, List, [], ◌∷◌, filter, length, get_or, drop, Option, None, Some, bit_or, refl, sym, ap, ◌∙◌, arith, ◌≤◌, ◌≢◌, suc}
 use Rattle.std.specs.List.{slice_split}
 use Rattle.std.specs.List as list
@@ -31,11 +31,11 @@ keywords_are_words ((b ∷ bs) ∷ components) =
     let longer : suc (length bs) ≢ 0 = omega arith in
     rw (ne_eqb (suc (length bs)) 0 longer) (ap (λ words. (b ∷ bs) ∷ words) (keywords_are_words components))
 
--- what a text that is split at its spaces gives are its keywords
+-- splitting a text at its spaces yields its keywords
 pub keywords-slice_split : (text : Bytes) → keywords text ≡ filter is_word (slice_split is_space text)
 keywords-slice_split text = keywords_are_words (split_spaces text) ∙ ap (filter is_word) (split_spaces-slice_split text)
 
--- the promises of one set and of another that may be absent
+-- the union of a set and another that may be absent
 abbrev pub join_sets : Promises → Option Promises → Option Promises
 join_sets set None = None
 join_sets set (Some more) = Some (bit_or set more)
@@ -51,7 +51,7 @@ join_sets-add_promise : (set : Promises) (p : Promise) (more : Option Promises) 
 join_sets-add_promise set p None = refl
 join_sets-add_promise set p (Some more) = ap Some (sym (or_assoc set (mask p) more))
 
--- at the first word, no promise is there yet
+-- before the first word, the set is empty
 pub join_sets-zero : (more : Option Promises) → join_sets 0 more ≡ more
 join_sets-zero None = refl
 join_sets-zero (Some more) = ap Some (or_zero_l more)
@@ -67,7 +67,7 @@ pub join_sets-known : (text word : Bytes) (n : ℕ) (p : Promise) (set : Promise
 join_sets-known text word n p set here known =
     ap (join_sets set) (set_from-more text word n here ∙ ap (λ q. add_promise q (set_from (n + 1) text)) known) ∙ join_sets-add_promise set p (set_from (n + 1) text)
 
--- at a word that is no keyword
+-- at a word that is not a keyword
 pub join_sets-unknown : (text word : Bytes) (n : ℕ) (set : Promises) → (n < length (keywords text)) × (word ≡ get_or (keywords text) n word)
     → promise_of word ≡ None → join_sets set (set_from n text) ≡ None
 join_sets-unknown text word n set here unknown =
@@ -78,11 +78,11 @@ pub join_sets-all : (text : Bytes) (n : ℕ) (set : Promises) → length (keywor
 join_sets-all text n set all =
     ap (join_sets set) (at_drop_all set_of_keywords (keywords text) n all) ∙ ap Some (or_zero_r set)
 
--- a word that the text is split into is a keyword of it
+-- a word of the split text is a keyword of it
 pub here-keywords : (text word : Bytes) (n : ℕ) → (n < length (filter is_word (slice_split is_space text))) × (word ≡ get_or (filter is_word (slice_split is_space text)) n word)
     → (n < length (keywords text)) × (word ≡ get_or (keywords text) n word)
 here-keywords text word n here = rw (keywords-slice_split text) here
 
--- and there are as many
+-- and their number is equal
 pub all-keywords : (text : Bytes) (n : ℕ) → n ≡ length (filter is_word (slice_split is_space text)) → length (keywords text) ≤ n
 all-keywords text n all = rw (keywords-slice_split text) (omega arith)

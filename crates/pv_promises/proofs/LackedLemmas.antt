@@ -1,9 +1,9 @@
--- The promise that is missing of two lists of needs.
+-- The promise that two lists of needs lack.
 use Rattle.std.proofs.Common.{◌≡◌, cond, true, false, Option, Some, List, [], ◌∷◌, ◌++◌, refl}
 use Rattle.std.specs.Option.{option_or}
 use Rattle.pv_model.specs.Promises.{Promises, Need, is_met, missing_promise}
 
--- of two lists, what is missing of the first comes first
+-- the promise that the first list lacks comes first
 pub missing_promise-append : (held : Option Promises) (a b : List Need) → missing_promise held (a ++ b) ≡ option_or (missing_promise held a) (missing_promise held b)
 missing_promise-append held [] b = refl
 missing_promise-append held ([] ∷ a) b = missing_promise-append held a b

@@ -1,4 +1,4 @@
--- What a call meets: pledge(2).
+-- The decision about a call: pledge(2).
 use Rattle.std.specs.Prelude.{Bool, true, false, Option, Some, None, List}
 use Rattle.pv_model.specs.declared.promise.Promise.{Promise}
 use Rattle.pv_model.specs.Promises.{Promises, Need, is_lenient, missing_promise}
@@ -10,6 +10,6 @@ unless_missing lenient None = Allowed
 unless_missing true (Some p) = Refuse p
 unless_missing false (Some p) = Kill p
 
--- what a call with these needs meets
+-- the decision about a call with these needs
 abbrev pub decision : Option Promises → List Need → Decision
 decision held needs = unless_missing (is_lenient held) (missing_promise held needs)

@@ -1,10 +1,10 @@
--- What a process has promised, as clauses see it.
+-- The pledge of a process, as contracts see it.
 use Rattle.std.specs.Prelude.{◌≡◌, refl, Option, Some, None, Result, Ok, Err}
 use Rattle.pv_model.specs.declared.promise.Promise.{Promise}
 use Rattle.pv_model.specs.declared.promises.Promises.{Promises as Set}
 use Rattle.pv_model.specs.Promises.{Promises, narrow_promises, is_lenient}
 
--- a process's promises, and those that it gets by execve(2): absent until they are first asked for
+-- the promises of a process, and those that it gets with execve(2), each absent until it is set
 pub record Pledged : Type 0 where
   pub promises : Option Promises
   pub execpromises : Option Promises
@@ -14,7 +14,7 @@ abbrev pub bits_of : Option Set → Option Promises
 bits_of None = None
 bits_of (Some set) = Some set.0
 
--- the set of bits that may be absent
+-- the inverse
 abbrev pub set_of : Option Promises → Option Set
 set_of None = None
 set_of (Some bits) = Some (record { 0 = bits })
@@ -23,18 +23,18 @@ pub set_of-bits_of : (set : Option Set) → set_of (bits_of set) ≡ set
 set_of-bits_of None = refl
 set_of-bits_of (Some set) = refl
 
--- the bits of what a value becomes, or the promise that is refused
+-- the bits of a new set, or the promise that is an increase
 abbrev pub bits_of_result : Result (Option Set) Promise → Result (Option Promises) Promise
 bits_of_result (Ok set) = Ok (bits_of set)
 bits_of_result (Err p) = Err p
 
-abbrev pub both_kept : Result (Option Promises) Promise → Result (Option Promises) Promise → Result Pledged Promise
-both_kept (Ok kept) (Ok exec_kept) = Ok (record { promises = kept; execpromises = exec_kept })
-both_kept (Err p) _ = Err p
-both_kept (Ok kept) (Err p) = Err p
+abbrev pub both_preserved : Result (Option Promises) Promise → Result (Option Promises) Promise → Result Pledged Promise
+both_preserved (Ok preserved) (Ok exec_preserved) = Ok (record { promises = preserved; execpromises = exec_preserved })
+both_preserved (Err p) _ = Err p
+both_preserved (Ok preserved) (Err p) = Err p
 
--- both values narrowed, where neither is refused: else the refusal of the promises comes first
+-- both sets narrowed; if both would fail, the error is that of the promises
 abbrev pub narrow_both : Pledged → Option Promises → Option Promises → Result Pledged Promise
 narrow_both held promises execpromises =
     let lenient = is_lenient held.promises in
-    both_kept (narrow_promises lenient held.promises promises) (narrow_promises lenient held.execpromises execpromises)
+    both_preserved (narrow_promises lenient held.promises promises) (narrow_promises lenient held.execpromises execpromises)

@@ -1,8 +1,8 @@
-//! Promises of pledge(2): reading them from a text, narrowing them, and what a call that lacks one meets.
+//! The promises of pledge(2): parsing and narrowing sets of promises, and deciding whether a call is allowed.
 //!
-//! `read` reads a set from a text of keywords, `missing` finds the promise that a call lacks, `order` has the
-//! promises in their order and the first that is asked for and not held, and `pledge` holds a process's two sets. Nothing here allocates. Clauses see a `Pledge` as the two sets
-//! of bits of `specs/Pledge.antt`.
+//! `read` parses a set from a text of keywords, `missing` finds the promise that a call lacks, `order` lists the
+//! promises in the order of their bits and finds the first one that would be an increase, and `pledge` has the two sets
+//! of a process. Nothing here allocates memory. Contracts see a `Pledge` as the two bit sets of `specs/Pledge.antt`.
 #![tactic(auto)]
 
 mod missing;

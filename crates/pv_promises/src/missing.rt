@@ -1,4 +1,4 @@
-//! Which promise a call lacks.
+//! The promise that a call lacks.
 ghost use Rattle.std.specs.Prelude.{◌≡◌, [], ◌∷◌};
 ghost use Rattle.pv_model.specs.CallRef.{call_of};
 ghost use Rattle.pv_model.specs.Needs.{needs, needs_of_mode, needs_of_open};
@@ -8,7 +8,7 @@ ghost use Rattle.pv_promises.specs.Pledge.{bits_of};
 use crate::order::has;
 use pv_model::{CallRef, Mode, OpenFlags, Promise, Promises};
 
-/// Whether `error` is promised.
+/// Returns whether the set contains `error`.
 pub(crate) fn is_lenient(held: Option<Promises>) -> bool
     ensures { result ≡ is_lenient (bits_of held) }
 {
@@ -18,7 +18,7 @@ pub(crate) fn is_lenient(held: Option<Promises>) -> bool
     }
 }
 
-/// Whether a promise is held, which a process that is not pledged holds all of.
+/// Returns whether a process has a promise. A process that is not pledged has all promises.
 fn holds(held: Option<Promises>, promise: Promise) -> bool
     ensures { result ≡ holds (bits_of held) promise }
 {
@@ -28,7 +28,7 @@ fn holds(held: Option<Promises>, promise: Promise) -> bool
     }
 }
 
-// The promise itself, where it is not held.
+// Returns the promise if the process does not have it.
 fn missing(held: Option<Promises>, promise: Promise) -> Option<Promise>
     ensures { result ≡ missing_promise (bits_of held) ((promise ∷ []) ∷ []) }
 {
@@ -39,7 +39,7 @@ fn missing(held: Option<Promises>, promise: Promise) -> Option<Promise>
     }
 }
 
-// The first of two promises, where neither is held.
+// Returns the first of two promises if the process has neither.
 fn missing_both(held: Option<Promises>, first: Promise, second: Promise) -> Option<Promise>
     ensures { result ≡ missing_promise (bits_of held) ((first ∷ second ∷ []) ∷ []) }
 {
@@ -71,7 +71,7 @@ fn missing_of_open(held: Option<Promises>, flags: OpenFlags) -> Option<Promise>
     }
 }
 
-/// The first promise that a call needs and that is not held.
+/// Returns the first promise that a call needs and the process does not have.
 #[tactic(auto, unfolding(pv_model::specs::Needs::needs))]
 pub(crate) fn missing_for(held: Option<Promises>, call: CallRef<'_>) -> Option<Promise>
     ensures { result ≡ missing_promise (bits_of held) (needs (call_of call.entry)) }

@@ -6,7 +6,7 @@ ghost use Rattle.pv_model.specs.Promises.{mask, contains, first_increase, promis
 use bitflags::Flags;
 use pv_model::{Promise, Promises};
 
-/// Each promise, in the order of its bit.
+/// All promises, in the order of their bits.
 pub const ALL: [Promise; 32] = [
     Promise::Stdio,
     Promise::Rpath,
@@ -42,21 +42,21 @@ pub const ALL: [Promise; 32] = [
     Promise::Bpf,
 ];
 
-/// The set of one promise.
+/// Returns the set that contains one promise.
 pub(crate) fn single(promise: Promise) -> Promises
     ensures { result.0 ≡ mask promise }
 {
     Promises::from_bits_retain(1 << promise.bit())
 }
 
-/// Whether a promise is in a set.
+/// Returns whether a set contains a promise.
 pub fn has(set: Promises, promise: Promise) -> bool
     ensures { result ≡ contains set.0 promise }
 {
     set.contains(single(promise))
 }
 
-// The first of some promises with this keyword.
+// Returns the first of some promises whose keyword is `word`.
 fn find_by_name(promises: &[Promise], word: &[u8]) -> Option<Promise>
     ensures { result ≡ find (λ p. bytes_eq (promise_name p) word.now) promises.now }
 {
@@ -66,7 +66,7 @@ fn find_by_name(promises: &[Promise], word: &[u8]) -> Option<Promise>
         .find(|promise| promise.name().as_bytes() == word)
 }
 
-// The first of some promises that is asked for and not held.
+// Returns the first of some promises that is in `asked` but not in `held`.
 fn find_increase(promises: &[Promise], held: Promises, asked: Promises) -> Option<Promise>
     ensures { result ≡ find (λ p. contains asked.0 p && not (contains held.0 p)) promises.now }
 {
@@ -76,14 +76,14 @@ fn find_increase(promises: &[Promise], held: Promises, asked: Promises) -> Optio
         .find(|promise| has(asked, *promise) && !has(held, *promise))
 }
 
-/// The promise with this keyword.
+/// Returns the promise whose keyword is `word`.
 pub(crate) fn promise_of(word: &[u8]) -> Option<Promise>
     ensures { result ≡ promise_of word.now }
 {
     find_by_name(&ALL, word)
 }
 
-/// The first promise that is asked for and not held.
+/// Returns the first promise that is in `asked` but not in `held`.
 pub(crate) fn first_increase(held: Promises, asked: Promises) -> Option<Promise>
     ensures { result ≡ first_increase held.0 asked.0 }
 {

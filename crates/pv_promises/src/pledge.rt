@@ -1,4 +1,4 @@
-//! What a process has promised.
+//! The pledge of a process.
 ghost use Rattle.std.specs.Prelude.{◌≡◌, OnOk, OnErr, IfErr, None};
 ghost use Rattle.pv_model.specs.Promises.{is_lenient, narrow_promises};
 ghost use Rattle.pv_promises.specs.Pledge.{bits_of, bits_of_result};
@@ -9,20 +9,20 @@ use bitflags::Flags;
 use pv_model::{CallRef, Promise, Promises};
 use std::marker::Model;
 
-/// What a call meets, pledge(2).
+/// The outcome of a call, pledge(2).
 #[derive(Clone, Copy, Debug, PartialEq, Eq)]
 pub enum Decision {
     /// No promise is missing.
     Allowed,
     /// This promise is missing: the process is killed.
     Kill(Promise),
-    /// This promise is missing, and `error` is promised: the call is answered by ENOSYS.
+    /// This promise is missing, and the process has promised `error`: the call fails with ENOSYS.
     Refuse(Promise),
 }
 
-/// What a process has promised, and what it will have promised after execve(2): pledge(2).
+/// The promises of a process, and those that it will have after execve(2): pledge(2).
 ///
-/// A value that is absent has never been asked for.
+/// A set is absent until it is set for the first time.
 #[derive(Clone, Copy, Debug)]
 pub struct Pledge {
     promises: Option<Promises>,
@@ -42,7 +42,7 @@ impl Model for Pledge {
     ghost inverse_ok = { λ p _ i. record { promises = set_of-bits_of p.promises i; execpromises = set_of-bits_of p.execpromises i } };
 }
 
-// What becomes of a value held when a value is asked for.
+// Returns the new value of a set after a request, or the promise that is an increase.
 fn narrowed(
     lenient: bool,
     held: Option<Promises>,
@@ -71,7 +71,7 @@ impl Pledge {
     ghost use Rattle.pv_model.specs.Needs.{needs};
     ghost use Rattle.pv_promises.specs.Decision.{decision};
 
-    /// A process that is not pledged.
+    /// Creates the pledge of a process that is not pledged.
     pub fn new() -> Pledge
         ensures promises { result.promises ≡ None }
         ensures execpromises { result.execpromises ≡ None }
@@ -82,26 +82,29 @@ impl Pledge {
         }
     }
 
-    /// The promises, where the process is pledged.
+    /// Returns the promises, or `None` if the process is not pledged.
     pub fn promises(&self) -> Option<Promises>
         ensures { bits_of result ≡ self.now.promises }
     {
         self.promises
     }
 
-    /// The promises that the process will have after execve(2), where they were asked for.
+    /// Returns the promises that the process will have after execve(2), or `None` if they are not set.
     pub fn execpromises(&self) -> Option<Promises>
         ensures { bits_of result ≡ self.now.execpromises }
     {
         self.execpromises
     }
 
-    /// Narrows both values, pledge(2): `None` leaves a value as it is.
+    /// Narrows both sets, pledge(2). `None` leaves a set unchanged.
     ///
-    /// A first value is taken as asked. A promise that is asked for and not held is refused, and the answer
-    /// is the first such promise: the promises before the execpromises, each in the order of the keywords.
-    /// A refusal changes neither value. While `error` is promised nothing is refused: a value becomes what is
-    /// asked for and held.
+    /// A set that is absent becomes the requested one. While the process has promised `error`, no request fails: a set
+    /// becomes its intersection with the requested one.
+    ///
+    /// # Errors
+    ///
+    /// Returns the first promise that is requested but not in the set. The promises come before the execpromises, each
+    /// in the order of the keywords. If the call fails, neither set changes.
     pub fn narrow(
         &mut self,
         promises: Option<Promises>,
@@ -114,22 +117,22 @@ impl Pledge {
         ensures unchanged { OnErr result (self.new ≡ self.old) }
     {
         let lenient = is_lenient(self.promises);
-        let kept = narrowed(lenient, self.promises, promises)?;
-        let exec_kept = narrowed(lenient, self.execpromises, execpromises)?;
-        self.promises = kept;
-        self.execpromises = exec_kept;
+        let preserved = narrowed(lenient, self.promises, promises)?;
+        let exec_preserved = narrowed(lenient, self.execpromises, execpromises)?;
+        self.promises = preserved;
+        self.execpromises = exec_preserved;
         Ok(())
     }
 
-    /// What execve(2) leaves: the promises become the execpromises, and are absent where these are. The
-    /// execpromises stay.
+    /// Applies the effect of execve(2): the promises become the execpromises, or absent if these are. The execpromises
+    /// do not change.
     pub fn after_exec(&mut self)
         ensures { self.new ≡ record self.old { promises = self.old.execpromises } }
     {
         self.promises = self.execpromises;
     }
 
-    /// What a call meets, by the first promise that it needs and that is not held, pledge(2).
+    /// Returns the outcome of a call, by the first promise that it needs and the process does not have, pledge(2).
     pub fn decide(&self, call: CallRef<'_>) -> Decision
         ensures { result ≡ decision self.now.promises (needs (call_of call.entry)) }
     {

@@ -1,4 +1,4 @@
-//! Sets of promises read from texts.
+//! Parsing sets of promises.
 ghost use Rattle.std.specs.Prelude.{◌≡◌, IfOk, IfErr, OnErr, None, Some};
 ghost use Rattle.pv_model.specs.Promises.{read_promises};
 
@@ -6,11 +6,14 @@ use crate::order::{promise_of, single};
 use bitflags::Flags;
 use pv_model::{Errno, Promises};
 
-/// The set that a text asks for, pledge(2).
+/// Parses a set of promises, pledge(2).
 ///
-/// The text is keywords with spaces between them. Spaces at the ends and repeated spaces are skipped, and
-/// a keyword may be repeated; any other byte, a tab too, is part of a word. The answer is `EINVAL` where a
-/// word is no keyword, and only there.
+/// The text consists of keywords separated by spaces. Spaces at both ends and repeated spaces are skipped, and a
+/// keyword may be repeated. Every other byte, including a tab, is part of a word.
+///
+/// # Errors
+///
+/// Returns `EINVAL` if and only if a word is not a keyword.
 pub fn read_promises(text: &[u8]) -> Result<Promises, Errno>
     ensures set { IfOk result (λ set. read_promises text.now ≡ Some set.0) }
     ensures unknown { OnErr result (read_promises text.now ≡ None) }

@@ -1,45 +1,45 @@
--- A manifest that stands alone, the bundle that begins with it, and the image that is made of it.
+-- A manifest alone, a bundle with this manifest, and the image that is made of it.
 use Rattle.std.proofs.Common.{◌≡◌, ◌∙◌, ap, sym, subst, refl, inl, inr, ℕ, ◌+◌, true, false, List, [], ◌∷◌, ◌++◌, length, append_assoc, append-nil, codes, Result, Ok, Err}
 use Rattle.std.proofs.lemmas.List.Concat.{flat_map-append}
 use Rattle.std.specs.List.{AllByRecursion}
 use Rattle.pv_model.specs.declared.fault.ManifestFault.{ManifestFault}
 use Rattle.pv_model.specs.declared.fault.ManifestFault.TheVariants.{Form}
 use Rattle.pv_model.specs.Bytes.{Bytes}
-use Rattle.pv_model.specs.Grammar.Entries.{HasNoForm, IsFirstWithoutForm, Lists, SpellsManifest, at_end, at_schedule, entry, further, no_schedule}
+use Rattle.pv_model.specs.Grammar.Entries.{HasNoForm, IsFirstWithoutForm, Lists, EncodesManifest, at_end, at_schedule, entry, further, no_schedule}
 use Rattle.pv_model.specs.Grammar.Lines.{lines_of}
 use Rattle.pv_model.specs.Grammar.Manifests.{Listed, Manifest, read_bundle, read_manifest, tree_of, with_line_end}
 use Rattle.pv_model.specs.Grammar.Texts.{HasLines, IsLine, ended}
 use Rattle.pv_model.specs.Image.{IsImageOf}
 use Rattle.pv_model.specs.Start.{and_then, bundle_started, image_started}
 use Rattle.pv_model.specs.Tree.{Tree}
-use Rattle.pv_laws_images.proofs.Back.{image-mounted}
+use Rattle.pv_laws_trees.proofs.Back.{image-mounted}
 use Rattle.pv_laws_grammar.proofs.TextLines.{HasLines-lines_of, lines_from_relation}
-use Rattle.pv_laws_grammar.proofs.WholeManifests.{SpellsManifest-whole, whole-IsFirstWithoutForm, whole-SpellsManifest}
+use Rattle.pv_laws_grammar.proofs.WholeManifests.{EncodesManifest-whole, whole-IsFirstWithoutForm, whole-EncodesManifest}
 use Rattle.pv_run.specs.Making.{tree_made}
 use Rattle.pv_questions.specs.Laws.{bundle_of}
 use Rattle.pv_questions.specs.Trees.{image_tree, manifest_tree, read_manifest_of}
 
--- ---- a manifest that stands alone is no bundle
+-- ---- a manifest alone is not a bundle
 
 no_line : (n : ℕ) (lines : List Bytes) (l : Listed) → Lists false n lines l → (k : ℕ) × HasNoForm true n lines k
 no_line _ _ _ (at_end n is) = (n, no_schedule n refl)
 no_line _ _ _ (at_schedule n rest is) = cc is
-no_line _ _ _ (entry n line body rest e others spells more) =
-    let later = no_line (n + 1 + length body) rest others more in (later.0, further n later.0 line body rest e spells later.1)
+no_line _ _ _ (entry n line body rest e others encodes more) =
+    let later = no_line (n + 1 + length body) rest others more in (later.0, further n later.0 line body rest e encodes later.1)
 
-spelled : (bytes : Bytes) (m : Manifest) → read_manifest bytes ≡ Ok m → SpellsManifest false bytes m
+encoded : (bytes : Bytes) (m : Manifest) → read_manifest bytes ≡ Ok m → EncodesManifest false bytes m
 unfolding read_manifest
-spelled bytes m is = SpellsManifest-whole false bytes m is
+encoded bytes m is = EncodesManifest-whole false bytes m is
 
-no_bundle : (bytes : Bytes) (m : Manifest) → SpellsManifest false bytes m → (k : ℕ) × (read_bundle bytes ≡ Err (Form k))
+no_bundle : (bytes : Bytes) (m : Manifest) → EncodesManifest false bytes m → (k : ℕ) × (read_bundle bytes ≡ Err (Form k))
 unfolding read_bundle
 no_bundle bytes m s =
     let form = s.0 in let later = no_line 2 form.1 m.listed form.4 in
     (later.0, whole-IsFirstWithoutForm true bytes later.0 (inr (form.0, form.1, m.blocks, m.inodes, form.2, form.3, later.1)))
 
-pub stands_alone : (bytes : Bytes) (m : Manifest) → read_manifest bytes ≡ Ok m → read_manifest_of bytes ≡ Ok m
+pub appears_alone : (bytes : Bytes) (m : Manifest) → read_manifest bytes ≡ Ok m → read_manifest_of bytes ≡ Ok m
 unfolding read_manifest_of
-stands_alone bytes m is = let none = no_bundle bytes m (spelled bytes m is) in rw none.1 is
+appears_alone bytes m is = let none = no_bundle bytes m (encoded bytes m is) in rw none.1 is
 
 -- ---- the manifest of a tree
 
@@ -96,19 +96,19 @@ listed_before : (n : ℕ) (lines : List Bytes) (l : Listed) → Lists false n li
     → Lists true n (lines ++ schedule ∷ following) (record { entries = l.entries; following = following })
 listed_before _ _ _ (at_end n is) following = at_schedule n following refl
 listed_before _ _ _ (at_schedule n rest is) following = cc is
-listed_before _ _ _ (entry n line body rest e others spells more) following =
+listed_before _ _ _ (entry n line body rest e others encodes more) following =
     subst (λ ls. Lists true n (line ∷ ls) (record { entries = (n, e) ∷ others.entries; following = following })) (sym (append_assoc body rest (schedule ∷ following)))
-    (entry n line body (rest ++ schedule ∷ following) e (record { entries = others.entries; following = following }) spells
+    (entry n line body (rest ++ schedule ∷ following) e (record { entries = others.entries; following = following }) encodes
     (listed_before (n + 1 + length body) rest others more following))
 
 bundle_read : (lines : List Bytes) (turns : Bytes) (m : Manifest) → AllByRecursion IsLine lines → read_manifest (ended lines) ≡ Ok m
     → read_bundle (bundle_of lines turns) ≡ Ok (before_lines m (lines_of turns))
 unfolding read_bundle
 bundle_read lines turns m are is =
-    let s = spelled (ended lines) m is in
+    let s = encoded (ended lines) m is in
     let form = s.0 in
     let same : lines ≡ form.0 ∷ form.1 = sym (lines_from_relation (ended lines) lines (are, inl refl)) ∙ lines_from_relation (ended lines) (form.0 ∷ form.1) form.2 in
-    whole-SpellsManifest true (bundle_of lines turns) (before_lines m (lines_of turns)) (
+    whole-EncodesManifest true (bundle_of lines turns) (before_lines m (lines_of turns)) (
       (
         form.0,
         form.1 ++ schedule ∷ lines_of turns,
@@ -133,7 +133,7 @@ module _ (image : Bytes) (t : Tree) (holds : IsImageOf image t) where
 
 pub manifest_tree-made : (bytes : Bytes) (t : Tree) → tree_made bytes ≡ Ok t → manifest_tree bytes ≡ Ok t
 unfolding manifest_tree
-manifest_tree-made bytes t made = let m = manifest_made bytes t made in rw (stands_alone bytes m.manifest m.is_read, m.makes) refl
+manifest_tree-made bytes t made = let m = manifest_made bytes t made in rw (appears_alone bytes m.manifest m.is_read, m.makes) refl
 
 pub manifest_tree-bundle : (lines : List Bytes) (turns : Bytes) (t : Tree) → AllByRecursion IsLine lines → tree_made (ended lines) ≡ Ok t
     → manifest_tree (bundle_of lines turns) ≡ Ok t

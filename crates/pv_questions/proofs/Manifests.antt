@@ -1,4 +1,4 @@
--- The manifest of a bundle, or one that stands alone, and the tree that it makes.
+-- The manifest of a bundle or a manifest alone, and the tree that it makes.
 use Rattle.std.proofs.Common.{◌≡◌, refl, ℕ, List, [], Result, Ok, Err}
 use Rattle.pv_image_manifest.specs.Reading.{GivesManifest, RefusesManifest, manifest_before}
 use Rattle.pv_image_manifest.specs.declared.manifest.Manifest.{Manifest as ParsedManifest}
@@ -17,14 +17,14 @@ module _ (bytes : Bytes) where
   unfolding read_manifest_of
   of_bundle m following is = rw is refl
 
-  -- where no line `schedule` ends a manifest, the bytes are one alone
+  -- without a line `schedule`, the bytes are a manifest alone
   pub given_alone : (n : ℕ) (result : Result ParsedManifest ManifestFault) → RefusesManifest (Form n) (read_bundle bytes) → GivesManifest result (read_manifest bytes)
       → GivesManifestOf result (read_manifest_of bytes)
   unfolding read_manifest_of
   given_alone n (Ok m) none is = ([], rw none is)
   given_alone n (Err f) none is = rw none is
 
-  -- each other fault of a bundle's manifest
+  -- any other error of a bundle's manifest
   pub refused_bundle : (f : ManifestFault) → ((n : ℕ) → f ≡ Form n → ⊥) → RefusesManifest f (read_bundle bytes) → RefusesManifest f (read_manifest_of bytes)
   unfolding read_manifest_of
   refused_bundle (Form n) other is = absurd (other n refl)

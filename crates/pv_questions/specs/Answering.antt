@@ -1,4 +1,4 @@
--- What is answered to a question: a text, or a refusal.
+-- The answer to a question: a text or a refusal.
 use Rattle.std.specs.Prelude.{◌≡◌, List, Option, None, Some, option_map, Result, Ok, Err}
 use Rattle.pv_model.specs.declared.run_fault.RunFault.{RunFault}
 use Rattle.pv_model.specs.declared.verdict.AuditFault.{AuditFault}
@@ -19,7 +19,7 @@ use Rattle.pv_questions.specs.declared.question.Question.TheVariants as asked
 use Rattle.pv_questions.specs.declared.stop.AskStop.{AskStop}
 use Rattle.pv_questions.specs.declared.stop.AskStop.TheVariants.{Machine, NoProcess, Audited}
 
--- a text, or a refusal
+-- a text or a refusal
 abbrev pub Answer : Type 0
 Answer = Result Bytes AskStop
 
@@ -35,11 +35,11 @@ abbrev pub of_audit : Result Bytes AuditFault → Answer
 of_audit (Ok text) = Ok text
 of_audit (Err fault) = Err (Audited fault)
 
--- the state that a run leaves
+-- the state after a run
 abbrev pub last_state : Started → State
 last_state it = (run_of it.state it.schedule).final
 
--- what is answered of a run
+-- the answer about a run
 abbrev pub run_answer : Question → Started → Answer
 run_answer asked.State it = of_lines (state_lines (last_state it))
 run_answer (asked.Reach None) it = of_lines (reach_lines (last_state it))
@@ -48,10 +48,10 @@ run_answer asked.Explain it = of_lines (explain_lines program_of (steps_of it.sc
 run_answer asked.Needs it = of_lines (needs_lines program_of (steps_of it.schedule) it.state)
 run_answer (asked.Audit path) it = of_audit (audit_text (last_state it) (option_map (λ p. p.now) path))
 
--- of the run of a schedule on an image: its checks first
+-- the answer about the run of a schedule on an image, after its checks
 abbrev pub image_answer : Question → (image turns : Bytes) → Answer
 image_answer question image turns = and_then Machine (image_started image turns) (run_answer question)
 
--- of the run of a bundle
+-- the answer about the run of a bundle
 abbrev pub bundle_answer : Question → Bytes → Answer
 bundle_answer question bytes = and_then Machine (bundle_started bytes) (run_answer question)

@@ -1,4 +1,4 @@
--- The bytes of the file that a path names.
+-- The bytes of the file at a path.
 use Rattle.std.specs.Prelude.{◌≡◌, ℕ, Bool, Option, None, Some, Result, Ok, Err}
 use Rattle.pv_model.specs.declared.errno.Errno.{Errno}
 use Rattle.pv_model.specs.declared.errno.Errno.TheVariants.{ENOENT}
@@ -23,7 +23,7 @@ abbrev pub bytes_of_place : Tree → Result Place Errno → Result Bytes AuditFa
 bytes_of_place t (Err e) = Err (Walk e)
 bytes_of_place t (Ok place) = bytes_of_node t (node_of place)
 
--- walked from the root, following links, and judged by no table
+-- the path is walked from the root; links are followed, and no unveil table applies
 abbrev pub cat_of : Tree → Bytes → Result Bytes AuditFault
 cat_of t path = bytes_of_place t (resolve t Last root path)
 

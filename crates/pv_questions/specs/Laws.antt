@@ -1,4 +1,4 @@
--- What a bundle or a manifest answers is what the image answers that is made of it.
+-- A bundle or a manifest gives the same answers as the image that is made of it.
 use Rattle.std.specs.Prelude.{◌≡◌, List, [], ◌∷◌, ◌++◌, codes, Ok}
 use Rattle.std.specs.List.{AllByRecursion}
 use Rattle.pv_model.specs.Bytes.{Bytes}
@@ -15,7 +15,7 @@ use Rattle.pv_questions.specs.declared.question.TreeQuestion.{TreeQuestion}
 abbrev pub ManifestsStandAlone : Type 0
 ManifestsStandAlone = (bytes : Bytes) (m : Manifest) → read_manifest bytes ≡ Ok m → read_manifest_of bytes ≡ Ok m
 
--- the lines of a manifest, each with its LF, then the line `schedule`, and then a schedule
+-- the lines of a manifest, each with its newline, then the line `schedule`, and then a schedule
 abbrev pub bundle_of : List Bytes → Bytes → Bytes
 bundle_of lines turns = ended (lines ++ codes "schedule" ∷ []) ++ turns
 
@@ -29,7 +29,7 @@ ImagesAnswerAsBundles =
     (question : Question) (lines : List Bytes) (turns image : Bytes) (t : Tree) → AllByRecursion IsLine lines → tree_made (ended lines) ≡ Ok t → IsImageOf image t
     → image_answer question image turns ≡ bundle_answer question (bundle_of lines turns)
 
--- what stands after the line `schedule` is not read for a question of the tree
+-- the lines after `schedule` do not change the answer to a question of the tree
 abbrev pub BundlesAnswerAsManifests : Type 0
 BundlesAnswerAsManifests =
     (question : TreeQuestion) (lines : List Bytes) (turns : Bytes) (t : Tree) → AllByRecursion IsLine lines → tree_made (ended lines) ≡ Ok t

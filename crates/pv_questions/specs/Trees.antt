@@ -1,4 +1,4 @@
--- What is answered to a question of a tree alone.
+-- The answer to a question of a tree.
 use Rattle.std.specs.Prelude.{◌≡◌, max, List, Result, Ok, Err}
 use Rattle.pv_image_manifest.specs.Reading.{RefusesManifest, manifest_before}
 use Rattle.pv_image_manifest.specs.declared.manifest.Manifest.{Manifest as ParsedManifest}
@@ -25,16 +25,16 @@ use Rattle.pv_questions.specs.declared.question.TreeQuestion.TheVariants.{Listin
 use Rattle.pv_questions.specs.declared.stop.AskStop.{AskStop}
 use Rattle.pv_questions.specs.declared.stop.AskStop.TheVariants.{Machine, File as NoFile}
 
--- a manifest that stands alone, where no line `schedule` ends one
+-- a manifest alone, if there is no line `schedule`
 abbrev pub or_alone : Result Manifest ManifestFault → Result Manifest ManifestFault → Result Manifest ManifestFault
 or_alone (Err (Form n)) alone = alone
 or_alone read alone = read
 
--- the manifest of a bundle, or one that stands alone
+-- the manifest of a bundle, or a manifest alone
 unfoldable pub read_manifest_of : Bytes → Result Manifest ManifestFault
 read_manifest_of bytes = or_alone (read_bundle bytes) (read_manifest bytes)
 
--- a manifest that was read is the one that was to be read, or its fault is
+-- the manifest that the code parsed is the one of the definitions, or its error is the same
 abbrev pub GivesManifestOf : Result ParsedManifest ManifestFault → Result Manifest ManifestFault → Type 0
 GivesManifestOf (Ok m) read = (following : List Bytes) × (read ≡ Ok (manifest_before m following))
 GivesManifestOf (Err fault) read = RefusesManifest fault read
@@ -43,7 +43,7 @@ GivesManifestOf (Err fault) read = RefusesManifest fault read
 abbrev pub image_tree : Bytes → Result Tree RunFault
 image_tree bytes = and_then of_image (mounted bytes) (λ t. Ok t)
 
--- the tree that the manifest of a bundle makes, or one that stands alone: its form and sizes, and then its entries
+-- the tree that a manifest makes, alone or in a bundle: its form and sizes are checked first, then its entries
 unfoldable pub manifest_tree : Bytes → Result Tree RunFault
 manifest_tree bytes = and_then of_manifest (read_manifest_of bytes) (λ m. and_then of_manifest (tree_of m) (λ t. Ok t))
 
@@ -54,8 +54,7 @@ of_file (Err fault) = Err (NoFile fault)
 abbrev pub of_boot_fault : BootFault → AskStop
 of_boot_fault fault = Machine (of_boot fault)
 
--- what is answered of a tree; a schedule is that of the machine which starts on it, with one step a turn at least, and a search is of one
--- state at least
+-- the answer about a tree; a schedule has at least one step in a turn, and a search visits at least one state
 abbrev pub tree_answer : TreeQuestion → Tree → Answer
 tree_answer Listing t = Ok (listing t)
 tree_answer (File path) t = of_file (cat_of t path.now)
@@ -63,10 +62,10 @@ tree_answer (Explore states) t = and_then of_boot_fault (booted t) (λ s. of_lin
 tree_answer (Graph states tree) t = and_then of_boot_fault (booted t) (λ s. of_lines (graph_lines program_of (max 1 states) tree s))
 tree_answer (Turns slice steps) t = and_then of_boot_fault (booted t) (λ s. Ok (schedule_text (turns program_of (max 1 slice) steps s)))
 
--- of the tree of an image
+-- the answer about the tree of an image
 abbrev pub image_tree_answer : TreeQuestion → Bytes → Answer
 image_tree_answer question bytes = and_then Machine (image_tree bytes) (tree_answer question)
 
--- of the tree of a manifest
+-- the answer about the tree of a manifest
 abbrev pub manifest_tree_answer : TreeQuestion → Bytes → Answer
 manifest_tree_answer question bytes = and_then Machine (manifest_tree bytes) (tree_answer question)

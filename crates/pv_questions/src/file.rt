@@ -1,11 +1,10 @@
-//! The file that a path names, and its bytes.
-ghost use Rattle.std.specs.Prelude.{◌≡◌, false, Ok, Err, IsTrue, IfOk, IfErr, OnOk, OnErr};
+//! The file at a path, and its bytes.
+ghost use Rattle.std.specs.Prelude.{◌≡◌, false, Ok, Err, IsTrue, IfOk, IfErr};
 ghost use Rattle.pv_dirs.specs.Trees.{bytes_at};
 ghost use Rattle.pv_model.specs.Effect.{node_of};
-ghost use Rattle.pv_model.specs.Stream.{Rose};
 ghost use Rattle.pv_model.specs.Tree.{node_at};
 ghost use Rattle.pv_questions.specs.Files.{IsFileAt, bytes_of_file, bytes_of_node, cat_of};
-ghost use Rattle.pv_streams.specs.Sinks.{and_all, TellsBeginning};
+ghost use Rattle.pv_streams.specs.Sinks.{Writes};
 
 use pv_model::limits::ROOT;
 use pv_model::{AuditFault, Errno, Follow, Kind, Place};
@@ -13,7 +12,7 @@ use pv_namei::{PlainLookup, resolve};
 use pv_streams::{Failed, Sink, write_whole};
 use pv_tree::{PlaceRef, Tree};
 
-// Whether a number is that of a file.
+// Returns whether a number is the node of a file.
 fn is_file(tree: &Tree, node: u16) -> bool
     ensures file { IsTrue result → IsFileAt tree.now.tree node }
     ensures other { result ≡ false → bytes_of_file (node_at tree.now.tree node) ≡ Err AuditFault.NotFile }
@@ -21,7 +20,7 @@ fn is_file(tree: &Tree, node: u16) -> bool
     tree.is_used(node) && matches!(tree.kind(node), Kind::File | Kind::Executable)
 }
 
-// The file at a place.
+// Returns the file at a place.
 fn file_of(tree: &Tree, place: &Place) -> Result<u16, AuditFault>
     ensures found { IfOk result (λ node. IsFileAt tree.now.tree node × (bytes_of_node tree.now.tree (node_of place.now) ≡ Ok (bytes_at tree.now.tree node))) }
     ensures refused { IfErr result (λ fault. bytes_of_node tree.now.tree (node_of place.now) ≡ Err fault) }
@@ -35,12 +34,12 @@ fn file_of(tree: &Tree, place: &Place) -> Result<u16, AuditFault>
     Ok(node)
 }
 
-/// The file that a path names, walked from the root, following links, judged by no table.
+/// Returns the file at a path. The path is walked from the root; links are followed, and no unveil table applies.
 ///
 /// # Errors
 ///
-/// `Walk` with the error that the walk answers, or `ENOENT` where it ends with no node; `NotFile` where the path names no
-/// file.
+/// - `Walk` with the error of the walk, or with `ENOENT` if nothing exists at the path.
+/// - `NotFile`, if the path does not name a file.
 pub(crate) fn file_at(tree: &Tree, path: &[u8]) -> Result<u16, AuditFault>
     ensures found { IfOk result (λ node. IsFileAt tree.now.tree node × (cat_of tree.now.tree path.now ≡ Ok (bytes_at tree.now.tree node))) }
     ensures refused { IfErr result (λ fault. cat_of tree.now.tree path.now ≡ Err fault) }
@@ -56,13 +55,10 @@ pub(crate) fn file_at(tree: &Tree, path: &[u8]) -> Result<u16, AuditFault>
 ///
 /// # Errors
 ///
-/// `Failed` where a write failed: the sink was given a beginning of the bytes.
+/// `Failed`, if a write failed. The sink received a prefix of the bytes.
 pub(crate) fn write_file<W: Sink>(out: &mut W, tree: &Tree, node: u16) -> Result<(), Failed>
     requires { IsFileAt tree.now.tree node }
-    ensures whole { OnOk result (W.written out.new ≡ and_all (W.written out.old) (bytes_at tree.now.tree node)) }
-    ensures beginning { OnErr result (TellsBeginning (bytes_at tree.now.tree node) (W.written out.old) (W.written out.new)) }
-    ensures failed { OnErr result (Rose (W.failures out.old) (W.failures out.new)) }
-    ensures quiet { OnOk result (W.failures out.new ≡ W.failures out.old) }
+    ensures { Writes W.Sink (bytes_at tree.now.tree node) out.old out.new result }
 {
     let size = tree.size(node);
     let mut at = 0;

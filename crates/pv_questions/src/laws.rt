@@ -1,25 +1,26 @@
-//! Laws of answers: what a bundle or a manifest answers is what the image answers that is made of it.
+//! Laws of answers: a bundle or a manifest gives the same answers as the image that is made of it.
 //!
-//! Each function has an empty body: its contract is the law, which the check proves.
+//! Each function has an empty body. Its contract is the law, which the check proves.
 ghost use Rattle.pv_questions.specs.Laws.{BundlesAnswerAsManifests, ImagesAnswerAsBundles, ImagesAnswerAsManifests, ManifestsStandAlone};
 
-/// A manifest that stands alone is read as it is, though a bundle may stand in its place.
+/// States that a manifest alone parses the same where a bundle is allowed.
 pub fn manifests_stand_alone()
     ensures { ManifestsStandAlone }
 {}
 
-/// An image answers each question of its tree as the manifest does of which it is made.
+/// States that an image gives the same answer to each question of a tree as the manifest that it is made from.
 pub fn images_answer_as_manifests()
     ensures { ImagesAnswerAsManifests }
 {}
 
-/// An image answers each question of its run under a schedule as the bundle does of the manifest of which it is made and of
-/// that schedule.
+/// States that an image gives the same answer to each question of a run under a schedule as the bundle of its manifest
+/// and that schedule.
 pub fn images_answer_as_bundles()
     ensures { ImagesAnswerAsBundles }
 {}
 
-/// A bundle answers each question of its tree as its manifest does alone, whatever stands after the line `schedule`.
+/// States that a bundle gives the same answer to each question of a tree as its manifest alone, whatever follows the
+/// line `schedule`.
 pub fn bundles_answer_as_manifests()
     ensures { BundlesAnswerAsManifests }
 {}

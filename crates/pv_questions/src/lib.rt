@@ -1,14 +1,11 @@
-//! Answers to questions, from bytes to bytes.
+//! Answers to questions about runs and trees, from bytes to bytes.
 //!
-//! `question` has what may be asked of a run, and of a tree, and `stop` why an answer does not come. `runs` asks a run: `ask`
-//! that of a schedule on an image, and `ask_bundle` that of a bundle. `trees` asks a tree alone: `ask_tree` that of an image,
-//! and `ask_manifest` that of a manifest, which may stand in a bundle. `telling` writes each answer and flushes it, and `file` has the
-//! bytes of the file that a path names.
-//!
-//! `laws` says that a bundle, a manifest and the image that is made of it answer alike.
-//!
-//! A clause sees what is answered by bytes, which is a text or a refusal (`image_answer`, `bundle_answer`,
-//! `image_tree_answer`, `manifest_tree_answer`), what sources give, and what sinks are given.
+//! `question` has the questions, and `stop` the reasons why an answer fails. `runs` answers questions of a run: `ask`
+//! for a schedule on an image, and `ask_bundle` for a bundle. `trees` answers questions of a tree: `ask_tree` for an
+//! image, and `ask_manifest` for a manifest or a bundle. `writers` writes and flushes each answer, and `file` finds the
+//! file at a path. `laws` states that a bundle, a manifest and their image give the same answers. Contracts cite the
+//! answer that the bytes determine, which is a text or a refusal (`image_answer`, `bundle_answer`, `image_tree_answer`,
+//! `manifest_tree_answer`).
 #![tactic(auto)]
 
 mod file;
@@ -16,8 +13,8 @@ pub mod laws;
 pub mod question;
 pub mod runs;
 pub mod stop;
-mod telling;
 pub mod trees;
+mod writers;
 
 pub use laws::{
     bundles_answer_as_manifests, images_answer_as_bundles, images_answer_as_manifests,

@@ -1,44 +1,45 @@
-//! What may be asked.
+//! Questions.
 
-/// What is asked of a run.
+/// A question about a run.
 #[derive(Clone, Copy, Debug, PartialEq, Eq)]
 pub enum Question<'a> {
-    /// What each process is and has in the state that the run leaves.
+    /// The state of each process after the run.
     State,
-    /// What the next call of each live process may do in that state, or that of the live process with this number.
+    /// The permissions of the next call of each live process after the run, or of the live process with this number.
     Reach(Option<u32>),
-    /// The trace of the run, with what a reader asks beside it.
+    /// The explained trace of the run.
     Explain,
-    /// What each program asked of its sandbox in the run.
+    /// The demands of each program on its sandbox in the run.
     Needs,
-    /// What is found of the file that a path names in the state that the run leaves, or of all its files.
+    /// The verdict on the file at a path after the run, or on all files.
     Audit(Option<&'a [u8]>),
 }
 
-/// What is asked of a tree alone.
+/// A question about a tree.
 #[derive(Clone, Copy, Debug, PartialEq, Eq)]
 pub enum TreeQuestion<'a> {
     /// A line for each name of the tree.
     Listing,
-    /// The bytes of the file that a path names, walked from the root, following links, judged by no table.
+    /// The bytes of the file at a path. The path is walked from the root; links are followed, and no unveil table
+    /// applies.
     File(&'a [u8]),
-    /// A fair schedule of the machine that starts on the tree.
+    /// A fair schedule of the machine that boots on the tree.
     Turns {
-        /// How many steps a turn has at most: 0 counts as 1.
+        /// The maximum number of steps in a turn: 0 counts as 1.
         slice: u32,
-        /// How many steps all turns have together at most.
+        /// The maximum number of steps in all turns together.
         steps: u32,
     },
-    /// What can happen under any schedule on the machine that starts on the tree.
+    /// What can happen under any schedule on the machine that boots on the tree.
     Explore {
-        /// How many states are found at most: 0 counts as 1.
+        /// The maximum number of visited states: 0 counts as 1.
         states: u32,
     },
-    /// The states that any schedule reaches on that machine, and how they hang together.
+    /// The state graph of that machine.
     Graph {
-        /// How many states are found at most: 0 counts as 1.
+        /// The maximum number of visited states: 0 counts as 1.
         states: u32,
-        /// Whether each comes with its tree and with what its processes may do.
+        /// Whether each state is written with its tree and the permissions of its processes.
         tree: bool,
     },
 }

@@ -1,4 +1,4 @@
-//! Why an answer does not come.
+//! The reasons why an answer fails.
 ghost use Rattle.std.specs.Prelude.{◌≡◌};
 ghost use Rattle.pv_model.specs.declared.run_fault.RunFault.TheVariants.{Memory};
 ghost use Rattle.pv_questions.specs.declared.stop.AskStop.TheVariants.{Machine, Audited, Write as Unwritten};
@@ -8,16 +8,16 @@ use pv_streams::Failed;
 use std::alloc::AllocError;
 use std::fmt;
 
-/// Why a question is not answered, or not whole.
+/// The reason why a question is not answered, or not completely.
 #[derive(Clone, Copy, Debug, PartialEq, Eq)]
 pub enum AskStop {
-    /// There is nothing to ask, or memory was refused.
+    /// The input is invalid, or there is no memory.
     Machine(RunFault),
-    /// The process that was named is not live.
+    /// The process with the given number is not live.
     NoProcess,
-    /// The path of an audit names no file.
+    /// The path of an audit does not name a file.
     Audited(AuditFault),
-    /// The path whose bytes were asked for names no file.
+    /// The path of `File` does not name a file.
     File(AuditFault),
     /// The sink failed.
     Write,
@@ -63,7 +63,7 @@ impl From<Failed> for AskStop {
     }
 }
 
-/// The text for a person, without an LF.
+/// The message for a person, without a newline.
 impl fmt::Display for AskStop {
     fn fmt<W: fmt::Write>(&self, f: &mut fmt::Formatter<W>) -> fmt::Result {
         match self {

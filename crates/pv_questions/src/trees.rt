@@ -1,7 +1,7 @@
-//! Questions of a tree alone.
+//! Questions about a tree.
 ghost use Rattle.std.specs.Prelude.{◌≡◌, ◌⊎◌, ◌≤◌, length, Ok, Err, IfOk, IfErr, IfSome, OnOk};
 ghost use Rattle.pv_model.specs.Stream.{Rose};
-ghost use Rattle.pv_questions.specs.Asking.{BufferedOnlyIfUnwritten, IsBundleStop, IsImageStop, IsTreeStop, StandsInAnswer, TellsAnswer, TellsNothingUnlessStopped};
+ghost use Rattle.pv_questions.specs.Asking.{BufferedOnlyIfUnwritten, IsBundleStop, IsImageStop, IsTreeStop, AppearsInAnswer, WritesAnswer, WritesNothingUnlessStopped};
 ghost use Rattle.pv_questions.specs.Trees.{image_tree, image_tree_answer, manifest_tree, manifest_tree_answer, read_manifest_of, tree_answer, GivesManifestOf};
 ghost use Rattle.pv_run.specs.Machines.{IsBundleMachineFault, IsMachineFault, RefusesMachine};
 ghost use Rattle.pv_run.specs.Run.{IsStartFault, RefusesStart};
@@ -10,8 +10,8 @@ ghost use Rattle.pv_streams.specs.Sources.{FailsToGive};
 use crate::file::file_at;
 use crate::question::TreeQuestion;
 use crate::stop::AskStop;
-use crate::telling::{tell_explore, tell_file, tell_graph, tell_listing, tell_turns};
-use pv_explore::{Beginning, Progress};
+use crate::writers::{report_explore, report_file, report_graph, report_listing, report_turns};
+use pv_explore::{FirstMachine, Progress};
 use pv_image_manifest::{Bundle, Manifest, build};
 use pv_image_mount::mount;
 use pv_model::{ManifestFault, RunFault};
@@ -20,7 +20,7 @@ use pv_streams::{SOURCE_BYTES, Sink, Source, read_whole};
 use pv_tree::{Store, Tree};
 use std::alloc::Global;
 
-// The store of the tree that an image holds. All its directories will be listed.
+// Returns the store of the tree in an image, prepared for listing all its directories.
 fn store_of_image<S: Source>(alloc: Global, image: &mut S) -> Result<Store, RunFault>
     ensures held { IfOk result (λ store. IfSome (S.remaining image.old) (λ bytes. image_tree bytes ≡ Ok store)) }
     ensures refused { IfErr result (λ fault. IfSome (S.remaining image.old) (λ bytes. RefusesMachine fault (image_tree bytes))) }
@@ -33,7 +33,7 @@ fn store_of_image<S: Source>(alloc: Global, image: &mut S) -> Result<Store, RunF
     Ok(store)
 }
 
-// The manifest of a bundle, or one that stands alone.
+// Parses the manifest of a bundle, or a manifest alone.
 fn parse(alloc: Global, bytes: &[u8]) -> Result<Manifest, ManifestFault>
     requires { length bytes.now ≤ SOURCE_BYTES }
     ensures { GivesManifestOf result (read_manifest_of bytes.now) }
@@ -48,7 +48,7 @@ fn parse(alloc: Global, bytes: &[u8]) -> Result<Manifest, ManifestFault>
     }
 }
 
-// The store of the tree that the manifest in bytes makes.
+// Returns the store of the tree that the manifest in `bytes` makes.
 fn store_of_bytes(alloc: Global, bytes: &[u8]) -> Result<Store, RunFault>
     requires { length bytes.now ≤ SOURCE_BYTES }
     ensures made { IfOk result (λ store. manifest_tree bytes.now ≡ Ok store) }
@@ -59,7 +59,7 @@ fn store_of_bytes(alloc: Global, bytes: &[u8]) -> Result<Store, RunFault>
     Ok(build(alloc, &manifest)?)
 }
 
-// The store of the tree that the manifest of a bundle makes, or one that stands alone.
+// Returns the store of the tree that a manifest makes. The manifest may be part of a bundle.
 fn store_of_manifest<S: Source>(alloc: Global, manifest: &mut S) -> Result<Store, RunFault>
     ensures held { IfOk result (λ store. IfSome (S.remaining manifest.old) (λ bytes. manifest_tree bytes ≡ Ok store)) }
     ensures refused { IfErr result (λ fault. IfSome (S.remaining manifest.old) (λ bytes. RefusesMachine fault (manifest_tree bytes))) }
@@ -70,7 +70,7 @@ fn store_of_manifest<S: Source>(alloc: Global, manifest: &mut S) -> Result<Store
     store_of_bytes(alloc, &bytes)
 }
 
-// A fair schedule of the machine that starts on a tree.
+// Writes a fair schedule of the machine that boots on a tree.
 fn answer_turns<W: Sink>(
     alloc: Global,
     store: Store,
@@ -78,9 +78,9 @@ fn answer_turns<W: Sink>(
     steps: u32,
     out: &mut W,
 ) -> Result<(), AskStop>
-    ensures answered { OnOk result (TellsAnswer (tree_answer (TreeQuestion.Turns slice steps) store) (W.written out.old) (W.written out.new)) }
+    ensures answered { OnOk result (WritesAnswer (tree_answer (TreeQuestion.Turns slice steps) store) (W.written out.old) (W.written out.new)) }
     ensures empty { OnOk result (W.buffered out.new ≡ 0) }
-    ensures refused { IfErr result (StandsInAnswer (tree_answer (TreeQuestion.Turns slice steps) store) (W.written out.old) (W.written out.new)) }
+    ensures refused { IfErr result (AppearsInAnswer (tree_answer (TreeQuestion.Turns slice steps) store) (W.written out.old) (W.written out.new)) }
     ensures kind { IfErr result IsTreeStop }
     ensures stopped { IfErr result (λ stop. W.buffered out.old ≡ 0 → BufferedOnlyIfUnwritten stop (W.buffered out.new)) }
     ensures failed { result ≡ Err AskStop.Write → Rose (W.failures out.old) (W.failures out.new) }
@@ -90,10 +90,10 @@ fn answer_turns<W: Sink>(
         Ok(session) => session,
         Err(fault) => return Err(AskStop::Machine(RunFault::from(fault))),
     };
-    tell_turns(alloc, &mut session, slice.max(1), steps, out)
+    report_turns(alloc, &mut session, slice.max(1), steps, out)
 }
 
-// What can happen under any schedule of the machine that starts on a tree.
+// Writes what can happen under any schedule of the machine that boots on a tree.
 fn answer_explore<W: Sink, P: Progress>(
     alloc: Global,
     store: Store,
@@ -101,22 +101,22 @@ fn answer_explore<W: Sink, P: Progress>(
     progress: &mut P,
     out: &mut W,
 ) -> Result<(), AskStop>
-    ensures answered { OnOk result (TellsAnswer (tree_answer (TreeQuestion.Explore states) store) (W.written out.old) (W.written out.new)) }
+    ensures answered { OnOk result (WritesAnswer (tree_answer (TreeQuestion.Explore states) store) (W.written out.old) (W.written out.new)) }
     ensures empty { OnOk result (W.buffered out.new ≡ 0) }
-    ensures refused { IfErr result (StandsInAnswer (tree_answer (TreeQuestion.Explore states) store) (W.written out.old) (W.written out.new)) }
+    ensures refused { IfErr result (AppearsInAnswer (tree_answer (TreeQuestion.Explore states) store) (W.written out.old) (W.written out.new)) }
     ensures kind { IfErr result IsTreeStop }
     ensures stopped { IfErr result (λ stop. W.buffered out.old ≡ 0 → BufferedOnlyIfUnwritten stop (W.buffered out.new)) }
     ensures failed { result ≡ Err AskStop.Write → Rose (W.failures out.old) (W.failures out.new) }
 {
     store.invariant();
-    let beginning = match Beginning::new(alloc, store) {
-        Ok(beginning) => beginning,
+    let first_machine = match FirstMachine::new(alloc, store) {
+        Ok(first_machine) => first_machine,
         Err(fault) => return Err(AskStop::Machine(RunFault::from(fault))),
     };
-    tell_explore(alloc, &beginning, states.max(1), progress, out)
+    report_explore(alloc, &first_machine, states.max(1), progress, out)
 }
 
-// The states that any schedule of that machine reaches.
+// Writes the state graph of that machine.
 fn answer_graph<W: Sink, P: Progress>(
     alloc: Global,
     store: Store,
@@ -125,37 +125,37 @@ fn answer_graph<W: Sink, P: Progress>(
     progress: &mut P,
     out: &mut W,
 ) -> Result<(), AskStop>
-    ensures answered { OnOk result (TellsAnswer (tree_answer (TreeQuestion.Graph states tree) store) (W.written out.old) (W.written out.new)) }
+    ensures answered { OnOk result (WritesAnswer (tree_answer (TreeQuestion.Graph states tree) store) (W.written out.old) (W.written out.new)) }
     ensures empty { OnOk result (W.buffered out.new ≡ 0) }
-    ensures refused { IfErr result (StandsInAnswer (tree_answer (TreeQuestion.Graph states tree) store) (W.written out.old) (W.written out.new)) }
+    ensures refused { IfErr result (AppearsInAnswer (tree_answer (TreeQuestion.Graph states tree) store) (W.written out.old) (W.written out.new)) }
     ensures kind { IfErr result IsTreeStop }
     ensures stopped { IfErr result (λ stop. W.buffered out.old ≡ 0 → BufferedOnlyIfUnwritten stop (W.buffered out.new)) }
     ensures failed { result ≡ Err AskStop.Write → Rose (W.failures out.old) (W.failures out.new) }
 {
     store.invariant();
-    let beginning = match Beginning::new(alloc, store) {
-        Ok(beginning) => beginning,
+    let first_machine = match FirstMachine::new(alloc, store) {
+        Ok(first_machine) => first_machine,
         Err(fault) => return Err(AskStop::Machine(RunFault::from(fault))),
     };
-    tell_graph(alloc, &beginning, states.max(1), tree, progress, out)
+    report_graph(alloc, &first_machine, states.max(1), tree, progress, out)
 }
 
-// The bytes of the file that a path names.
+// Writes the bytes of the file at a path.
 fn answer_file<W: Sink>(tree: &Tree, path: &[u8], out: &mut W) -> Result<(), AskStop>
-    ensures answered { OnOk result (TellsAnswer (tree_answer (TreeQuestion.File path.entry) tree.now.tree) (W.written out.old) (W.written out.new)) }
+    ensures answered { OnOk result (WritesAnswer (tree_answer (TreeQuestion.File path.entry) tree.now.tree) (W.written out.old) (W.written out.new)) }
     ensures empty { OnOk result (W.buffered out.new ≡ 0) }
-    ensures refused { IfErr result (StandsInAnswer (tree_answer (TreeQuestion.File path.entry) tree.now.tree) (W.written out.old) (W.written out.new)) }
+    ensures refused { IfErr result (AppearsInAnswer (tree_answer (TreeQuestion.File path.entry) tree.now.tree) (W.written out.old) (W.written out.new)) }
     ensures kind { IfErr result IsTreeStop }
     ensures stopped { IfErr result (λ stop. W.buffered out.old ≡ 0 → BufferedOnlyIfUnwritten stop (W.buffered out.new)) }
     ensures failed { result ≡ Err AskStop.Write → Rose (W.failures out.old) (W.failures out.new) }
 {
     match file_at(tree, path) {
-        Ok(node) => tell_file(tree, node, out),
+        Ok(node) => report_file(tree, node, out),
         Err(fault) => Err(AskStop::File(fault)),
     }
 }
 
-// Answers a question of a tree.
+// Answers a question about a tree.
 fn answer<W: Sink, P: Progress>(
     alloc: Global,
     question: TreeQuestion<'_>,
@@ -163,15 +163,15 @@ fn answer<W: Sink, P: Progress>(
     progress: &mut P,
     out: &mut W,
 ) -> Result<(), AskStop>
-    ensures answered { OnOk result (TellsAnswer (tree_answer question.entry store) (W.written out.old) (W.written out.new)) }
+    ensures answered { OnOk result (WritesAnswer (tree_answer question.entry store) (W.written out.old) (W.written out.new)) }
     ensures empty { OnOk result (W.buffered out.new ≡ 0) }
-    ensures refused { IfErr result (StandsInAnswer (tree_answer question.entry store) (W.written out.old) (W.written out.new)) }
+    ensures refused { IfErr result (AppearsInAnswer (tree_answer question.entry store) (W.written out.old) (W.written out.new)) }
     ensures kind { IfErr result IsTreeStop }
     ensures stopped { IfErr result (λ stop. W.buffered out.old ≡ 0 → BufferedOnlyIfUnwritten stop (W.buffered out.new)) }
     ensures failed { result ≡ Err AskStop.Write → Rose (W.failures out.old) (W.failures out.new) }
 {
     match question {
-        TreeQuestion::Listing => tell_listing(alloc, store.tree(), out),
+        TreeQuestion::Listing => report_listing(alloc, store.tree(), out),
         TreeQuestion::File(path) => answer_file(store.tree(), path, out),
         TreeQuestion::Turns { slice, steps } => answer_turns(alloc, store, slice, steps, out),
         TreeQuestion::Explore { states } => answer_explore(alloc, store, states, progress, out),
@@ -181,21 +181,21 @@ fn answer<W: Sink, P: Progress>(
     }
 }
 
-/// Answers a question of the tree of an image.
+/// Answers a question about the tree of an image.
 ///
-/// The image is read whole, and it is judged before anything is written; for `Turns`, `Explore` and `Graph` the program of `init` is judged next.
-/// Where the answer is `Ok`, `out` has grown by just its text, all of which was flushed. The searches of `Explore` and `Graph` show on
-/// `progress` how far they are.
+/// The image is read to its end, and it is checked before anything is written. For `Turns`, `Explore` and `Graph` the
+/// program of `init` is checked next. On success, `out` received exactly the text of the answer, all of it flushed. The
+/// searches of `Explore` and `Graph` report their progress to `progress`.
 ///
 /// # Errors
 ///
-/// - `Machine`: a read failed, or the source gave more than 67,108,864 bytes (`Read`); or the first fault of the image, and
-///   for `Turns`, `Explore` and `Graph` of the program of `init`: then nothing was written. Where memory was refused (`Memory`), a beginning of the
-///   text was written, or nothing.
-/// - `File`: the path of `File` names no file; nothing was written.
-/// - `Write`: a write failed; `out` has grown by a beginning of the text.
+/// - `Machine`: a read failed, or the source gave more than 67,108,864 bytes (`Read`); or the first error of the image
+///   or, for `Turns`, `Explore` and `Graph`, of the program of `init`. Nothing was written. If there is no memory
+///   (`Memory`), a prefix of the text may have been written.
+/// - `File`: the path of `File` does not name a file. Nothing was written.
+/// - `Write`: a write failed. `out` received a prefix of the text.
 ///
-/// What was written was flushed, but where a write failed.
+/// Except after `Write`, everything that was written is flushed.
 pub fn ask_tree<S: Source, W: Sink, P: Progress>(
     alloc: Global,
     question: TreeQuestion<'_>,
@@ -203,12 +203,12 @@ pub fn ask_tree<S: Source, W: Sink, P: Progress>(
     progress: &mut P,
     out: &mut W,
 ) -> Result<(), AskStop>
-    ensures answered { OnOk result (IfSome (S.remaining image.old) (λ bytes. TellsAnswer (image_tree_answer question.entry bytes) (W.written out.old) (W.written out.new))) }
-    ensures refused { IfErr result (λ stop. IfSome (S.remaining image.old) (λ bytes. StandsInAnswer (image_tree_answer question.entry bytes) (W.written out.old) (W.written out.new) stop)) }
+    ensures answered { OnOk result (IfSome (S.remaining image.old) (λ bytes. WritesAnswer (image_tree_answer question.entry bytes) (W.written out.old) (W.written out.new))) }
+    ensures refused { IfErr result (λ stop. IfSome (S.remaining image.old) (λ bytes. AppearsInAnswer (image_tree_answer question.entry bytes) (W.written out.old) (W.written out.new) stop)) }
     ensures kind { IfErr result IsImageStop }
 
-    // Nothing is written but the answer, it is flushed, and a fault of reading or writing was counted.
-    ensures unwritten { IfErr result (TellsNothingUnlessStopped (W.written out.old) (W.written out.new)) }
+    // `out` receives nothing but the answer, flushed, and each failed read or write is counted.
+    ensures unwritten { IfErr result (WritesNothingUnlessStopped (W.written out.old) (W.written out.new)) }
     ensures empty { OnOk result (W.buffered out.new ≡ 0) }
     ensures stopped { IfErr result (λ stop. W.buffered out.old ≡ 0 → BufferedOnlyIfUnwritten stop (W.buffered out.new)) }
     ensures read { result ≡ Err (AskStop.Machine RunFault.Read) → FailsToGive S.Source image.old image.new }
@@ -218,12 +218,12 @@ pub fn ask_tree<S: Source, W: Sink, P: Progress>(
     answer(alloc, question, store, progress, out)
 }
 
-/// Answers a question of the tree that a manifest makes, as `ask_tree` does of an image's. The manifest may be a bundle's: what
-/// stands after its line `schedule` is not read.
+/// Answers a question about the tree that a manifest makes, as `ask_tree` does for the tree of an image. If the source
+/// is a bundle, the lines from `schedule` on are ignored.
 ///
 /// # Errors
 ///
-/// As of `ask_tree`; `Machine` has the first fault of the manifest, and then of its entries.
+/// As for `ask_tree`. `Machine` has the first error of the manifest, then of its entries.
 pub fn ask_manifest<S: Source, W: Sink, P: Progress>(
     alloc: Global,
     question: TreeQuestion<'_>,
@@ -231,12 +231,12 @@ pub fn ask_manifest<S: Source, W: Sink, P: Progress>(
     progress: &mut P,
     out: &mut W,
 ) -> Result<(), AskStop>
-    ensures answered { OnOk result (IfSome (S.remaining manifest.old) (λ bytes. TellsAnswer (manifest_tree_answer question.entry bytes) (W.written out.old) (W.written out.new))) }
-    ensures refused { IfErr result (λ stop. IfSome (S.remaining manifest.old) (λ bytes. StandsInAnswer (manifest_tree_answer question.entry bytes) (W.written out.old) (W.written out.new) stop)) }
+    ensures answered { OnOk result (IfSome (S.remaining manifest.old) (λ bytes. WritesAnswer (manifest_tree_answer question.entry bytes) (W.written out.old) (W.written out.new))) }
+    ensures refused { IfErr result (λ stop. IfSome (S.remaining manifest.old) (λ bytes. AppearsInAnswer (manifest_tree_answer question.entry bytes) (W.written out.old) (W.written out.new) stop)) }
     ensures kind { IfErr result IsBundleStop }
 
-    // Nothing is written but the answer, it is flushed, and a fault of reading or writing was counted.
-    ensures unwritten { IfErr result (TellsNothingUnlessStopped (W.written out.old) (W.written out.new)) }
+    // `out` receives nothing but the answer, flushed, and each failed read or write is counted.
+    ensures unwritten { IfErr result (WritesNothingUnlessStopped (W.written out.old) (W.written out.new)) }
     ensures empty { OnOk result (W.buffered out.new ≡ 0) }
     ensures stopped { IfErr result (λ stop. W.buffered out.old ≡ 0 → BufferedOnlyIfUnwritten stop (W.buffered out.new)) }
     ensures read { result ≡ Err (AskStop.Machine RunFault.Read) → FailsToGive S.Source manifest.old manifest.new }

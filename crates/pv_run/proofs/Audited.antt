@@ -1,4 +1,4 @@
--- What an audit of an image tells, from the machine that is left.
+-- The output of an image's audit, from the machine after the run.
 use Rattle.std.proofs.Common.{◌≡◌, refl, Option, None, Some, Result, Ok, Err, IfErr, OnOk, inl, inr}
 use Rattle.std.specs.Prelude.{IfSome}
 use Rattle.pv_model.specs.declared.run_fault.RunFault.{RunFault}
@@ -9,9 +9,9 @@ use Rattle.pv_model.specs.State.{State}
 use Rattle.pv_run.specs.Machines.{IsLeftBy, RefusesMachine}
 use Rattle.pv_run.specs.declared.auditing.AuditStop.{AuditStop}
 use Rattle.pv_run.specs.declared.auditing.AuditStop.TheVariants.{Machine, Path, Write}
-use Rattle.pv_run.specs.Auditing.{IsAuditStop, OnLeft, StandsInAudit, StandsInState, TellsAudit, TellsNothingUnlessStopped}
+use Rattle.pv_run.specs.Auditing.{IsAuditStop, OnLeft, AppearsInAudit, AppearsInState, WritesAudit, WritesNothingUnlessStopped}
 
--- what holds of known bytes
+-- a fact about known bytes
 module _ {P Q : Bytes → Bytes → Type 0} (so : (b t : Bytes) → P b t → Q b t) where
   pub of_both : (i s : Option Bytes) → IfSome i (λ b. IfSome s (λ t. P b t)) → IfSome i (λ b. IfSome s (λ t. Q b t))
   of_both None s p = tt
@@ -21,21 +21,21 @@ module _ {P Q : Bytes → Bytes → Type 0} (so : (b t : Bytes) → P b t → Q 
 -- ---- there is no machine
 
 module _ (path before : Option Bytes) where
-  stands_refused : (b t : Bytes) (f : RunFault) → RefusesMachine f (image_started b t) → StandsInAudit b t path before before (Machine f)
-  stands_refused b t Memory refused = inl refl
-  stands_refused b t Read refused = (refused, refl)
-  stands_refused b t (Image f) refused = (refused, refl)
-  stands_refused b t (Manifest f) refused = (refused, refl)
-  stands_refused b t (Schedule n) refused = (refused, refl)
-  stands_refused b t (Init n) refused = (refused, refl)
-  stands_refused b t WriteTrace refused = (refused, refl)
-  stands_refused b t WriteImage refused = (refused, refl)
+  appears_refused : (b t : Bytes) (f : RunFault) → RefusesMachine f (image_started b t) → AppearsInAudit b t path before before (Machine f)
+  appears_refused b t Memory refused = inl refl
+  appears_refused b t Read refused = (refused, refl)
+  appears_refused b t (Image f) refused = (refused, refl)
+  appears_refused b t (Manifest f) refused = (refused, refl)
+  appears_refused b t (Schedule n) refused = (refused, refl)
+  appears_refused b t (Init n) refused = (refused, refl)
+  appears_refused b t WriteTrace refused = (refused, refl)
+  appears_refused b t WriteImage refused = (refused, refl)
 
   pub no_machine : (f : RunFault) (i s : Option Bytes) → IfSome i (λ b. IfSome s (λ t. RefusesMachine f (image_started b t)))
-      → IfSome i (λ b. IfSome s (λ t. StandsInAudit b t path before before (Machine f)))
-  no_machine f i s = of_both (λ b t refused. stands_refused b t f refused) i s
+      → IfSome i (λ b. IfSome s (λ t. AppearsInAudit b t path before before (Machine f)))
+  no_machine f i s = of_both (λ b t refused. appears_refused b t f refused) i s
 
-pub nothing_written : (before : Option Bytes) (f : RunFault) → TellsNothingUnlessStopped before before (Machine f)
+pub nothing_written : (before : Option Bytes) (f : RunFault) → WritesNothingUnlessStopped before before (Machine f)
 nothing_written before Memory = tt
 nothing_written before Read = refl
 nothing_written before (Image f) = refl
@@ -45,33 +45,33 @@ nothing_written before (Init n) = refl
 nothing_written before WriteTrace = refl
 nothing_written before WriteImage = refl
 
--- ---- a machine is left
+-- ---- there is a machine
 
 module _ (st : State) (path before after : Option Bytes) where
-  stands_left : (b t : Bytes) → IsLeftBy b t st → (stop : AuditStop) → StandsInState st path before after stop → StandsInAudit b t path before after stop
-  stands_left b t left (Machine Memory) begun = inr (st, left, begun)
-  stands_left b t left (Machine Read) it = elim it [ ]
-  stands_left b t left (Machine (Image f)) it = elim it [ ]
-  stands_left b t left (Machine (Manifest f)) it = elim it [ ]
-  stands_left b t left (Machine (Schedule n)) it = elim it [ ]
-  stands_left b t left (Machine (Init n)) it = elim it [ ]
-  stands_left b t left (Machine WriteTrace) it = elim it [ ]
-  stands_left b t left (Machine WriteImage) it = elim it [ ]
-  stands_left b t left (Path f) it = ((st, left, it.0), it.1)
-  stands_left b t left Write begun = (st, left, begun)
+  appears_left : (b t : Bytes) → IsLeftBy b t st → (stop : AuditStop) → AppearsInState st path before after stop → AppearsInAudit b t path before after stop
+  appears_left b t left (Machine Memory) begun = inr (st, left, begun)
+  appears_left b t left (Machine Read) it = elim it [ ]
+  appears_left b t left (Machine (Image f)) it = elim it [ ]
+  appears_left b t left (Machine (Manifest f)) it = elim it [ ]
+  appears_left b t left (Machine (Schedule n)) it = elim it [ ]
+  appears_left b t left (Machine (Init n)) it = elim it [ ]
+  appears_left b t left (Machine WriteTrace) it = elim it [ ]
+  appears_left b t left (Machine WriteImage) it = elim it [ ]
+  appears_left b t left (Path f) it = ((st, left, it.0), it.1)
+  appears_left b t left Write begun = (st, left, begun)
 
   module _ (i s : Option Bytes) (left : IfSome i (λ b. IfSome s (λ t. IsLeftBy b t st))) where
-    pub written_all : (result : Result (Unit {0}) AuditStop) → OnOk result (TellsAudit st path before after)
-        → OnOk result (IfSome i (λ b. IfSome s (λ t. OnLeft b t (λ u. TellsAudit u path before after))))
+    pub written_all : (result : Result (Unit {0}) AuditStop) → OnOk result (WritesAudit st path before after)
+        → OnOk result (IfSome i (λ b. IfSome s (λ t. OnLeft b t (λ u. WritesAudit u path before after))))
     written_all (Ok done) written = of_both (λ b t is. (st, is, written)) i s left
     written_all (Err stop) written = tt
 
-    pub stopped_all : (result : Result (Unit {0}) AuditStop) → IfErr result (StandsInState st path before after)
-        → IfErr result (λ stop. IfSome i (λ b. IfSome s (λ t. StandsInAudit b t path before after stop)))
+    pub stopped_all : (result : Result (Unit {0}) AuditStop) → IfErr result (AppearsInState st path before after)
+        → IfErr result (λ stop. IfSome i (λ b. IfSome s (λ t. AppearsInAudit b t path before after stop)))
     stopped_all (Ok done) it = tt
-    stopped_all (Err stop) it = of_both (λ b t is. stands_left b t is stop it) i s left
+    stopped_all (Err stop) it = of_both (λ b t is. appears_left b t is stop it) i s left
 
-  stop_kind : (stop : AuditStop) → StandsInState st path before after stop → IsAuditStop stop
+  stop_kind : (stop : AuditStop) → AppearsInState st path before after stop → IsAuditStop stop
   stop_kind (Machine Memory) it = tt
   stop_kind (Machine Read) it = elim it [ ]
   stop_kind (Machine (Image f)) it = elim it [ ]
@@ -83,28 +83,28 @@ module _ (st : State) (path before after : Option Bytes) where
   stop_kind (Path f) it = tt
   stop_kind Write it = tt
 
-  stop_tells : (stop : AuditStop) → StandsInState st path before after stop → TellsNothingUnlessStopped before after stop
-  stop_tells (Machine Memory) it = tt
-  stop_tells (Machine Read) it = elim it [ ]
-  stop_tells (Machine (Image f)) it = elim it [ ]
-  stop_tells (Machine (Manifest f)) it = elim it [ ]
-  stop_tells (Machine (Schedule n)) it = elim it [ ]
-  stop_tells (Machine (Init n)) it = elim it [ ]
-  stop_tells (Machine WriteTrace) it = elim it [ ]
-  stop_tells (Machine WriteImage) it = elim it [ ]
-  stop_tells (Path f) it = it.1
-  stop_tells Write it = tt
+  stop_reports : (stop : AuditStop) → AppearsInState st path before after stop → WritesNothingUnlessStopped before after stop
+  stop_reports (Machine Memory) it = tt
+  stop_reports (Machine Read) it = elim it [ ]
+  stop_reports (Machine (Image f)) it = elim it [ ]
+  stop_reports (Machine (Manifest f)) it = elim it [ ]
+  stop_reports (Machine (Schedule n)) it = elim it [ ]
+  stop_reports (Machine (Init n)) it = elim it [ ]
+  stop_reports (Machine WriteTrace) it = elim it [ ]
+  stop_reports (Machine WriteImage) it = elim it [ ]
+  stop_reports (Path f) it = it.1
+  stop_reports Write it = tt
 
-  pub kinds : (result : Result (Unit {0}) AuditStop) → IfErr result (StandsInState st path before after) → IfErr result IsAuditStop
+  pub kinds : (result : Result (Unit {0}) AuditStop) → IfErr result (AppearsInState st path before after) → IfErr result IsAuditStop
   kinds (Ok done) it = tt
   kinds (Err stop) it = stop_kind stop it
 
-  pub tells : (result : Result (Unit {0}) AuditStop) → IfErr result (StandsInState st path before after) → IfErr result (TellsNothingUnlessStopped before after)
-  tells (Ok done) it = tt
-  tells (Err stop) it = stop_tells stop it
+  pub reports : (result : Result (Unit {0}) AuditStop) → IfErr result (AppearsInState st path before after) → IfErr result (WritesNothingUnlessStopped before after)
+  reports (Ok done) it = tt
+  reports (Err stop) it = stop_reports stop it
 
   -- no read fails after the last step
-  pub reads_no_more : (result : Result (Unit {0}) AuditStop) → IfErr result (StandsInState st path before after) → result ≡ Err (Machine Read) → ⊥
+  pub reads_no_more : (result : Result (Unit {0}) AuditStop) → IfErr result (AppearsInState st path before after) → result ≡ Err (Machine Read) → ⊥
   reads_no_more (Ok done) it is = cc is
   reads_no_more (Err Write) it is = cc is
   reads_no_more (Err (Path f)) it is = cc is

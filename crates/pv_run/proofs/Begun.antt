@@ -1,4 +1,4 @@
--- A run that was made, whole or up to somewhere.
+-- A run that was made, completely or up to a point.
 use Rattle.std.proofs.Common.{◌≡◌, length, refl, ℕ, Option, Some, Result, Ok, Err, IfOk, IfErr, OnOk, OnErr, inr}
 use Rattle.pv_model.specs.declared.run_fault.RunFault.{RunFault}
 use Rattle.pv_model.specs.declared.run_fault.RunFault.TheVariants.{Read, Image, Manifest, Schedule as ScheduleLine, Init, Memory, WriteTrace, WriteImage}
@@ -8,7 +8,7 @@ use Rattle.pv_model.specs.State.{State}
 use Rattle.pv_model.specs.Step.{Schedule, boot, steps_of}
 use Rattle.pv_model.specs.Start.{Started, bundle_started}
 use Rattle.pv_laws_runs.proofs.Asked.{bundle-asks}
-use Rattle.pv_run.specs.Run.{HasBegun, HasRun, HasStopped, IsSummaryOf, StandsIn, StopsBy, WantsAtExecve, started_from, text_of}
+use Rattle.pv_run.specs.Run.{HasBegun, HasRun, HasStopped, IsSummaryOf, AppearsIn, StopsBy, IsOutOfMemoryAtExecve, started_from, text_of}
 use Rattle.pv_run.specs.declared.turns.Summary.{Summary}
 use Rattle.pv_session.specs.Stopping.{StopsAtExecve}
 use Rattle.pv_session.specs.Running.{BeginsLines, WrittenLines, run_of}
@@ -29,7 +29,7 @@ module _ (asked : Result Started RunFault) (s : State) (schedule : Schedule) (is
 
     -- a run that stopped before its end
     stops : (fault : RunFault) (failures now : ℕ) → StopsBy fault failures now → BeginsLines (run_of s schedule).lines before after
-        → WantsAtExecve fault schedule s left before after → StandsIn asked before after fault
+        → IsOutOfMemoryAtExecve fault schedule s left before after → AppearsIn asked before after fault
     stops Memory failures now why begun stop = inr (has_stopped stop)
     stops WriteTrace failures now why begun stop = has_begun begun
     stops Read failures now why begun stop = elim why [ ]
@@ -39,12 +39,12 @@ module _ (asked : Result Started RunFault) (s : State) (schedule : Schedule) (is
     stops (Init n) failures now why begun stop = elim why [ ]
     stops WriteImage failures now why begun stop = elim why [ ]
 
-    pub stands : (result : Result Summary RunFault) (failures now : ℕ) → OnErr result (BeginsLines (run_of s schedule).lines before after) → IfErr result (λ (fault : RunFault). StopsBy fault failures now)
-        → IfErr result (λ (fault : RunFault). WantsAtExecve fault schedule s left before after) → IfErr result (λ (fault : RunFault). StandsIn asked before after fault)
-    stands (Ok summary) failures now begun why stop = tt
-    stands (Err fault) failures now begun why stop = stops fault failures now why begun stop
+    pub appears : (result : Result Summary RunFault) (failures now : ℕ) → OnErr result (BeginsLines (run_of s schedule).lines before after) → IfErr result (λ (fault : RunFault). StopsBy fault failures now)
+        → IfErr result (λ (fault : RunFault). IsOutOfMemoryAtExecve fault schedule s left before after) → IfErr result (λ (fault : RunFault). AppearsIn asked before after fault)
+    appears (Ok summary) failures now begun why stop = tt
+    appears (Err fault) failures now begun why stop = stops fault failures now why begun stop
 
--- ---- a run of a bundle that was made
+-- ---- a run of a bundle
 
 module _ (bytes : Bytes) (s : State) (schedule : Schedule) (is : bundle_started bytes ≡ Ok (started_from s schedule)) (before after : Option Bytes) where
   pub has_run : (result : Result Summary RunFault) → IfOk result (IsSummaryOf (started_from s schedule)) → OnOk result (WrittenLines (run_of s schedule).lines before after)

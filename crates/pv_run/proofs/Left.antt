@@ -1,4 +1,4 @@
--- The machine that a run leaves.
+-- The machine after a run.
 use Rattle.std.proofs.Common.{◌≡◌, Ok}
 use Rattle.pv_model.specs.Bytes.{Bytes}
 use Rattle.pv_model.specs.Start.{image_started}

@@ -1,5 +1,6 @@
--- Lemmas of runs from bytes to bytes: Starting (what is asked, check by check), Begun (a run, whole or up to somewhere), Left (what it
--- leaves), Written (an image after it), Made (manifests), Audited (audits), Unwritten (what stays unwritten where a run stops).
+-- Lemmas about runs from bytes to bytes: Starting (the checks of the input), Begun (a run, complete or up to a point),
+-- Left (the machine after it), Written (the image after it), Made (manifests), Audited (audits), Unwritten (the output
+-- that is not written when a run stops).
 pub mod Audited
 pub mod Begun
 pub mod Left

@@ -1,4 +1,4 @@
--- What a manifest makes, check by check, and the image of its tree.
+-- The tree that a manifest makes, check by check, and the image of the tree.
 use Rattle.std.proofs.Common.{◌≡◌, ◌∙◌, ap, subst, refl, Option, Result, Ok, Err, IfErr, OnOk}
 use Rattle.pv_model.specs.declared.fault.ManifestFault.{ManifestFault}
 use Rattle.pv_model.specs.declared.fault.ManifestFault.TheVariants.{Form, Size, Parent, Exists, Source, Room, Memory as ManifestMemory}
@@ -11,20 +11,20 @@ use Rattle.pv_model.specs.Image.{IsWrittenImageOf}
 use Rattle.pv_model.specs.RunFault.{of_manifest}
 use Rattle.pv_model.specs.Tree.{Tree}
 use Rattle.pv_image_manifest.specs.Reading.{RefusesManifest}
-use Rattle.pv_laws_trees.specs.Kept.{EachIsNamed}
+use Rattle.pv_laws_trees.specs.Preserved.{EachIsNamed}
 use Rattle.pv_image.proofs.Named.{named_tree-all}
 use Rattle.pv_run.specs.Images.{BeginsImage, IsWriteFault, WrittenImage}
-use Rattle.pv_run.specs.Making.{HasBegunMaking, HasMade, StandsInManifest, tree_made}
+use Rattle.pv_run.specs.Making.{HasBegunMaking, HasMade, AppearsInManifest, tree_made}
 
 -- ---- the checks of a manifest: its form and sizes, and then its entries
 
 module _ (bytes : Bytes) (written : Option Bytes) where
   made-no_manifest : (f : ManifestFault) → read_manifest bytes ≡ Err f → tree_made bytes ≡ Err f
   unfolding tree_made
-  made-no_manifest f wrong = rw wrong refl
+  made-no_manifest f invalid = rw invalid refl
 
   -- a manifest that is refused
-  pub refuses_manifest : (f : ManifestFault) (e : RunFault) → e ≡ of_manifest f → RefusesManifest f (read_manifest bytes) → StandsInManifest (tree_made bytes) written written e
+  pub refuses_manifest : (f : ManifestFault) (e : RunFault) → e ≡ of_manifest f → RefusesManifest f (read_manifest bytes) → AppearsInManifest (tree_made bytes) written written e
   refuses_manifest (Form n) e is refused = rw is (made-no_manifest (Form n) refused, refl)
   refuses_manifest Size e is refused = rw is (made-no_manifest Size refused, refl)
   refuses_manifest (Parent n) e is refused = rw is (made-no_manifest (Parent n) refused, refl)
@@ -40,10 +40,10 @@ module _ (bytes : Bytes) (written : Option Bytes) where
 
     made-no_tree : (f : ManifestFault) → tree_of m ≡ Err f → tree_made bytes ≡ Err f
     unfolding tree_made
-    made-no_tree f wrong = rw (asked, wrong) refl
+    made-no_tree f invalid = rw (asked, invalid) refl
 
     -- an entry that is refused
-    pub refuses_tree : (f : ManifestFault) (e : RunFault) → e ≡ of_manifest f → RefusesManifest f (tree_of m) → StandsInManifest (tree_made bytes) written written e
+    pub refuses_tree : (f : ManifestFault) (e : RunFault) → e ≡ of_manifest f → RefusesManifest f (tree_of m) → AppearsInManifest (tree_made bytes) written written e
     refuses_tree (Form n) e is refused = rw is (made-no_tree (Form n) refused, refl)
     refuses_tree Size e is refused = rw is (made-no_tree Size refused, refl)
     refuses_tree (Parent n) e is refused = rw is (made-no_tree (Parent n) refused, refl)
@@ -76,9 +76,9 @@ module _ (made : Result Tree ManifestFault) (t u : Tree) (is : made ≡ Ok t) (n
     written = begun.written;
   }
 
-  -- an image that was not written whole
+  -- an image that was not written completely
   pub unmade : (result : Result (Unit {0}) RunFault) → IfErr result IsWriteFault → (result ≡ Err WriteImage → BeginsImage u before after) → (result ≡ Err Memory → after ≡ before)
-      → IfErr result (StandsInManifest made before after)
+      → IfErr result (AppearsInManifest made before after)
   unmade (Ok done) kind cut memory = tt
   unmade (Err WriteImage) kind cut memory = has_begun_making (cut refl)
   unmade (Err Memory) kind cut memory = memory refl
@@ -89,7 +89,7 @@ module _ (made : Result Tree ManifestFault) (t u : Tree) (is : made ≡ Ok t) (n
   unmade (Err (Init n)) kind cut memory = elim kind [ ]
   unmade (Err WriteTrace) kind cut memory = elim kind [ ]
 
--- what was made, whatever the answer
+-- the image that was made, for any result
 pub made_whole : (made : Result Tree ManifestFault) (t u : Tree) → made ≡ Ok t → EachIsNamed t → u ≡ t → (before after : Option Bytes) → (result : Result (Unit {0}) RunFault)
     → OnOk result (WrittenImage u before after) → OnOk result (HasMade made before after)
 made_whole made t u is named same before after (Ok done) written = has_made made t u is named same before after written

@@ -1,4 +1,4 @@
--- What a run is asked, check by check.
+-- The input of a run, check by check.
 use Rattle.std.proofs.Common.{◌≡◌, ◌∙◌, ap, sym, refl, ℕ, ◌-◌, take, drop, length, arith, Some, Result, Ok, Err, IfErr, List, ◌⊎◌, inl, inr}
 use Rattle.pv_model.specs.declared.fault.ManifestFault.{ManifestFault}
 use Rattle.pv_model.specs.declared.fault.ManifestFault.TheVariants.{Form, Size, Parent, Exists, Source, Room, Memory as ManifestMemory}
@@ -25,7 +25,7 @@ use Rattle.pv_image_manifest.specs.Reading.{RefusesManifest, manifest_before}
 use Rattle.pv_image_manifest.specs.declared.manifest.Manifest.{Manifest as ParsedManifest}
 use Rattle.pv_laws_states.specs.States.{IsFirstTree}
 use Rattle.pv_script.specs.Reading.{RefusesSchedule}
-use Rattle.pv_tree.specs.Standing.{IsAtRest}
+use Rattle.pv_tree.specs.Present.{IsAtRest}
 use Rattle.pv_run.specs.Images.{IsImageFault}
 use Rattle.pv_run.specs.Run.{RefusesStart, IsFaultOnTree, IsStartFault, started_from}
 use Rattle.std.proofs.lemmas.List.{take_all, length-drop}
@@ -40,13 +40,13 @@ module _ (t : Tree) (lines : List Bytes) where
 
     -- a first program that is refused
     pub refuses_boot : (f : BootFault) (e : RunFault) → e ≡ of_boot f → (f ≡ BootMemory) ⊎ (booted t ≡ Err f) → RefusesStart e (started_on t lines)
-    refuses_boot (BootInit n) e is (inl wrong) = cc wrong
+    refuses_boot (BootInit n) e is (inl invalid) = cc invalid
     refuses_boot (BootInit n) e is (inr refused) = rw is (started-no_boot (BootInit n) refused)
     refuses_boot BootMemory e is why = rw is tt
 
   started-no_schedule : (f : ScheduleFault) → schedule_of_lines lines ≡ Err f → started_on t lines ≡ Err (of_schedule f)
   unfolding started_on
-  started-no_schedule f wrong = rw wrong refl
+  started-no_schedule f invalid = rw invalid refl
 
   -- a schedule that is refused
   pub refuses_schedule : (f : ScheduleFault) (e : RunFault) → e ≡ of_schedule f → RefusesSchedule f (schedule_of_lines lines) → RefusesStart e (started_on t lines)
@@ -62,7 +62,7 @@ module _ (bytes : Bytes) (m : Manifest) (asked : read_bundle bytes ≡ Ok m) whe
 
   started-no_tree : (f : ManifestFault) → tree_of m ≡ Err f → bundle_started bytes ≡ Err (of_manifest f)
   unfolding bundle_started
-  started-no_tree f wrong = rw (asked, wrong) refl
+  started-no_tree f invalid = rw (asked, invalid) refl
 
   -- an entry that is refused
   pub refuses_tree : (f : ManifestFault) (e : RunFault) → e ≡ of_manifest f → RefusesManifest f (tree_of m) → RefusesStart e (bundle_started bytes)
@@ -76,7 +76,7 @@ module _ (bytes : Bytes) (m : Manifest) (asked : read_bundle bytes ≡ Ok m) whe
 
 started-no_manifest : (bytes : Bytes) (f : ManifestFault) → read_bundle bytes ≡ Err f → bundle_started bytes ≡ Err (of_manifest f)
 unfolding bundle_started
-started-no_manifest bytes f wrong = rw wrong refl
+started-no_manifest bytes f invalid = rw invalid refl
 
 -- a manifest that is refused
 pub refuses_manifest : (bytes : Bytes) (f : ManifestFault) (e : RunFault) → e ≡ of_manifest f → RefusesManifest f (read_bundle bytes) → RefusesStart e (bundle_started bytes)
@@ -88,7 +88,7 @@ refuses_manifest bytes (Source n) e is refused = rw is (started-no_manifest byte
 refuses_manifest bytes (Room n) e is refused = rw is (started-no_manifest bytes (Room n) refused)
 refuses_manifest bytes ManifestMemory e is refused = rw is tt
 
--- what comes of a manifest's or a schedule's fault is a fault of the start
+-- an error of a manifest or a schedule is an error of the start
 pub manifest_fault : (f : ManifestFault) (e : RunFault) → e ≡ of_manifest f → IsStartFault e
 manifest_fault (Form n) e is = rw is tt
 manifest_fault Size e is = rw is tt
@@ -112,7 +112,7 @@ refuses_text f text refused = refused
 
 -- ---- the trees and the texts
 
--- what a store has is a tree to start from
+-- the tree of a store is one on which a machine can boot
 pub first-tree : (t : Tree) → IsAtRest t → IsFirstTree t
 first-tree t rest = record {
   tree = record { well_formed = rest.well_formed; bytes = rest.bytes };
@@ -126,17 +126,17 @@ pub schedule_of_text : (text : Bytes) → read_schedule text ≡ schedule_of_lin
 unfolding read_schedule
 schedule_of_text text = refl
 
--- what stands after a place is all that stands there
+-- the text after an index is the rest of the text
 pub rest-all : (text : Bytes) (n : ℕ) → take (length text - n) (drop n text) ≡ drop n text
 rest-all text n = take_all (length text - n) (drop n text) (omega (arith, length-drop n text))
 
--- a bundle's run is that on its manifest's tree, by the text that begins where its schedule does
+-- the run of a bundle is the run on its manifest's tree under the schedule text in the bundle
 pub bundle_on : (bytes : Bytes) (m : ParsedManifest) (at : ℕ) (t : Tree) → read_bundle bytes ≡ Ok (manifest_before m (lines_of (drop at bytes)))
     → tree_of (manifest_before m (lines_of (drop at bytes))) ≡ Ok t → started_on t (lines_of (take (length bytes - at) (drop at bytes))) ≡ bundle_started bytes
 bundle_on bytes m at t asked made =
     ap (λ (text : Bytes). started_on t (lines_of text)) (rest-all bytes at) ∙ sym (on_tree bytes (manifest_before m (lines_of (drop at bytes))) asked t made)
 
--- ---- the checks of an image: what it holds, and then the run on its tree
+-- ---- the checks of an image: its tree, and then the run on it
 
 module _ (image schedule : Bytes) where
   pub image_on : (t : Tree) → mounted image ≡ Ok t → started_on t (lines_of schedule) ≡ image_started image schedule
@@ -145,7 +145,7 @@ module _ (image schedule : Bytes) where
 
   started-no_image : (f : ImageFault) → mounted image ≡ Err f → image_started image schedule ≡ Err (of_image f)
   unfolding image_started
-  started-no_image f wrong = rw wrong refl
+  started-no_image f invalid = rw invalid refl
 
   -- an image that is refused
   pub refuses_image : (f : ImageFault) (e : RunFault) → e ≡ of_image f → (f ≡ ImageMemory) ⊎ (mounted image ≡ Err f) → RefusesStart e (image_started image schedule)
@@ -157,15 +157,15 @@ module _ (image schedule : Bytes) where
   refuses_image (Block n) e is (inr refused) = rw is (started-no_image (Block n) refused)
   refuses_image (Dir n) e is (inr refused) = rw is (started-no_image (Dir n) refused)
   refuses_image (NoTree n) e is (inr refused) = rw is (started-no_image (NoTree n) refused)
-  refuses_image Short e is (inl wrong) = cc wrong
-  refuses_image Magic e is (inl wrong) = cc wrong
-  refuses_image ImageSize e is (inl wrong) = cc wrong
-  refuses_image (Inode n) e is (inl wrong) = cc wrong
-  refuses_image (Block n) e is (inl wrong) = cc wrong
-  refuses_image (Dir n) e is (inl wrong) = cc wrong
-  refuses_image (NoTree n) e is (inl wrong) = cc wrong
+  refuses_image Short e is (inl invalid) = cc invalid
+  refuses_image Magic e is (inl invalid) = cc invalid
+  refuses_image ImageSize e is (inl invalid) = cc invalid
+  refuses_image (Inode n) e is (inl invalid) = cc invalid
+  refuses_image (Block n) e is (inl invalid) = cc invalid
+  refuses_image (Dir n) e is (inl invalid) = cc invalid
+  refuses_image (NoTree n) e is (inl invalid) = cc invalid
 
--- what the start on a tree answers is a fault of the start
+-- an error of the start on a tree is an error of the start
 pub start_fault : (f : RunFault) → IsFaultOnTree f → IsStartFault f
 start_fault (RunSchedule n) it = tt
 start_fault (RunInit n) it = tt
@@ -186,7 +186,7 @@ image_fault (RunManifest f) it = elim it [ ]
 image_fault WriteTrace it = elim it [ ]
 image_fault WriteImage it = elim it [ ]
 
--- under a result
+-- the same for results
 pub start_faults : {A : Type 0} → (result : Result A RunFault) → IfErr result IsFaultOnTree → IfErr result IsStartFault
 start_faults (Ok done) it = tt
 start_faults (Err f) it = start_fault f it

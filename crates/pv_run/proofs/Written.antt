@@ -1,4 +1,4 @@
--- A run on an image, and the image that it leaves.
+-- A run on an image, and the image after it.
 use Rattle.std.proofs.Common.{◌≡◌, ◌∙◌, ap, subst, refl, ℕ, Option, Some, Result, Ok, Err, inl, inr}
 use Rattle.pv_model.specs.declared.run_fault.RunFault.{RunFault}
 use Rattle.pv_model.specs.declared.run_fault.RunFault.TheVariants.{Read, Image, Manifest, Schedule as ScheduleLine, Init, Memory, WriteTrace, WriteImage}
@@ -10,12 +10,12 @@ use Rattle.pv_model.specs.Step.{Schedule, boot}
 use Rattle.pv_model.specs.Tree.{Tree}
 use Rattle.pv_laws_runs.proofs.Asked.{image-asks}
 use Rattle.pv_run.proofs.Begun.{has_begun, has_stopped}
-use Rattle.pv_run.specs.Images.{BeginsImage, HasRunOn, IsWriteFault, StandsOn, WrittenImage, last_tree}
-use Rattle.pv_run.specs.Run.{IsSummaryOf, IsTextOf, StopsBy, WantsAtExecve, started_from, text_of}
+use Rattle.pv_run.specs.Images.{BeginsImage, HasRunOn, IsWriteFault, AppearsOn, WrittenImage, last_tree}
+use Rattle.pv_run.specs.Run.{IsSummaryOf, IsTextOf, StopsBy, IsOutOfMemoryAtExecve, started_from, text_of}
 use Rattle.pv_run.specs.declared.turns.Summary.{Summary}
 use Rattle.pv_session.specs.Running.{BeginsLines, WrittenLines, run_of}
 
--- an answer that is this fault
+-- a result with this error
 abbrev pub answered : RunFault → Result (Unit {0}) RunFault
 answered fault = Err fault
 
@@ -24,15 +24,15 @@ module _ (asked : Result Started RunFault) (s : State) (schedule : Schedule) (is
   abbrev is_text : (summary : Summary) → IsSummaryOf (started_from s schedule) summary → IsTextOf asked (text_of (started_from s schedule)) summary
   is_text summary counts = record { it = started_from s schedule; is_asked = is; is_machine = machine; text_is = refl; counts = counts }
 
-  -- the tree of what stands after the run
+  -- the tree after the run
   module _ (t : Tree) (after : State) (same : t ≡ after.tree) (left : after ≡ (run_of s schedule).final) (summary : Summary) (counts : IsSummaryOf (started_from s schedule) summary)
       (written : WrittenLines (run_of s schedule).lines tb ta) where
     is_last : t ≡ last_tree (started_from s schedule)
     is_last = same ∙ ap (λ (x : State). x.tree) left
 
-    -- a run whose image was not written whole
+    -- a run whose image was not written completely
     pub unwritten : (f e : RunFault) → e ≡ f → IsWriteFault f → (answered f ≡ Err WriteImage → BeginsImage t ib ia) → (answered f ≡ Err Memory → ia ≡ ib)
-        → StandsOn asked tb ta ib ia e
+        → AppearsOn asked tb ta ib ia e
     unwritten WriteImage e same_fault kind cut memory = rw same_fault (record {
       text = text_of (started_from s schedule);
       summary = summary;
@@ -51,7 +51,7 @@ module _ (asked : Result Started RunFault) (s : State) (schedule : Schedule) (is
 
   -- a run that stopped before its end writes no image
   pub stops_on : (left : State) (f e : RunFault) → e ≡ f → (failures now : ℕ) → StopsBy f failures now → BeginsLines (run_of s schedule).lines tb ta
-      → WantsAtExecve f schedule s left tb ta → StandsOn asked tb ta ib ib e
+      → IsOutOfMemoryAtExecve f schedule s left tb ta → AppearsOn asked tb ta ib ib e
   stops_on left Memory e same failures now why begun stop = rw same (inr (inl (has_stopped asked s schedule is machine tb ta left stop)), refl)
   stops_on left WriteTrace e same failures now why begun stop = rw same (has_begun asked s schedule is machine tb ta begun, refl)
   stops_on left Read e same failures now why begun stop = elim why [ ]

@@ -1,4 +1,4 @@
--- What a run on an image leaves.
+-- The output of a run on an image.
 use Rattle.std.specs.Prelude.{◌≡◌, ◌⊎◌, ⊤, Option, Result, Ok, Err}
 use Rattle.pv_model.specs.declared.run_fault.RunFault.{RunFault}
 use Rattle.pv_model.specs.declared.fault.ImageFault.TheVariants.{Memory as ImageMemory}
@@ -12,32 +12,33 @@ use Rattle.pv_run.specs.declared.turns.Summary.{Summary}
 use Rattle.pv_laws_runs.specs.Asked.{AsksOfImage}
 use Rattle.pv_session.specs.Running.{run_of}
 use Rattle.pv_streams.specs.Sinks.{and_all}
-use Rattle.pv_image_write.specs.Written.{TellsImage, BeginsImage as BeginsWrittenImage}
+use Rattle.pv_image_write.specs.Written.{WritesImage, BeginsImage as BeginsWrittenImage}
 
--- what was written grew by bytes that hold a tree: its root and its named nodes
+-- the output grew by bytes that hold a tree: its root and its named nodes
 abbrev pub WrittenImage : Tree → Option Bytes → Option Bytes → Type 0
-WrittenImage t before after = TellsImage (named_tree t) before after
+WrittenImage t before after = WritesImage (named_tree t) before after
 
--- bytes that hold a tree were written up to somewhere
+-- a prefix of bytes that hold a tree was written
 abbrev pub BeginsImage : Tree → Option Bytes → Option Bytes → Type 0
 BeginsImage t before after = BeginsWrittenImage (named_tree t) before after
 
--- the tree that a run leaves
+-- the tree after a run
 abbrev pub last_tree : Started → Tree
 last_tree it = (run_of it.state it.schedule).final.tree
 
--- a run on an image was made: the bytes are an image of a tree on which the machine boots, the text spells a schedule, the trace grew by
--- just the text of that machine's run, and the image by bytes that hold the tree that it leaves; the summary counts the steps and the lines
+-- a run on an image was made: the bytes are an image of a tree on which the machine boots, the text parses as a
+-- schedule, the trace grew by exactly the text of the machine's run, and the image by bytes that hold the tree after
+-- it; the summary counts the steps and the lines
 pub record HasRunOn (image turns : Bytes) (trace_before trace_after image_before image_after : Option Bytes) (summary : Summary) : Type 0 where
   pub it : Started
   pub asks : AsksOfImage image turns it
   pub written : trace_after ≡ and_all trace_before (text_of it)
   pub as_written : WrittenImage (last_tree it) image_before image_after
   pub counts : IsSummaryOf it summary
-  -- it is what the checks find
+  -- it is the start that the checks yield
   pub is_asked : image_started image turns ≡ Ok it
 
--- a run was made, and the tree that it leaves was written up to somewhere
+-- a run was made, and a prefix of the image after it was written
 pub record HasRunUncut (asked : Result Started RunFault) (trace_before trace_after image_before image_after : Option Bytes) : Type 0 where
   pub text : Bytes
   pub summary : Summary
@@ -52,16 +53,16 @@ pub record HasRunWhole (asked : Result Started RunFault) (before after : Option 
   pub is_run : IsTextOf asked text summary
   pub written : after ≡ and_all before text
 
--- a refusal stands in what is asked, before any other, and then nothing was written; no image was written of a run that stopped. Memory is
--- wanted before the first step, at an execve, or for the image of what is left
-abbrev pub StandsOn : Result Started RunFault → Option Bytes → Option Bytes → Option Bytes → Option Bytes → RunFault → Type 0
-StandsOn asked tb ta ib ia WriteImage = HasRunUncut asked tb ta ib ia
-StandsOn asked tb ta ib ia WriteTrace = HasBegun asked tb ta × (ia ≡ ib)
-StandsOn asked tb ta ib ia Memory = ((ta ≡ tb) ⊎ (HasStopped asked tb ta ⊎ HasRunWhole asked tb ta)) × (ia ≡ ib)
-StandsOn asked tb ta ib ia Read = (ta ≡ tb) × (ia ≡ ib)
-StandsOn asked tb ta ib ia fault = (asked ≡ Err fault) × (ta ≡ tb) × (ia ≡ ib)
+-- the first refusal of the input, after which nothing was written; or a run that stopped, after which no image was
+-- written. Memory is needed before the first step, at an execve, or for the image after the run
+abbrev pub AppearsOn : Result Started RunFault → Option Bytes → Option Bytes → Option Bytes → Option Bytes → RunFault → Type 0
+AppearsOn asked tb ta ib ia WriteImage = HasRunUncut asked tb ta ib ia
+AppearsOn asked tb ta ib ia WriteTrace = HasBegun asked tb ta × (ia ≡ ib)
+AppearsOn asked tb ta ib ia Memory = ((ta ≡ tb) ⊎ (HasStopped asked tb ta ⊎ HasRunWhole asked tb ta)) × (ia ≡ ib)
+AppearsOn asked tb ta ib ia Read = (ta ≡ tb) × (ia ≡ ib)
+AppearsOn asked tb ta ib ia fault = (asked ≡ Err fault) × (ta ≡ tb) × (ia ≡ ib)
 
--- what the start of a run on an image may answer: want of memory is answered as such
+-- the possible errors of the start of a run on an image; out of memory is not nested in another error
 abbrev pub IsImageFault : RunFault → Type 0
 IsImageFault (Image ImageMemory) = ⊥
 IsImageFault (Image fault) = ⊤
@@ -70,26 +71,26 @@ IsImageFault (Init n) = ⊤
 IsImageFault Memory = ⊤
 IsImageFault fault = ⊥
 
--- what the writing of an image may answer
+-- the possible errors of writing an image
 abbrev pub IsWriteFault : RunFault → Type 0
 IsWriteFault Memory = ⊤
 IsWriteFault WriteImage = ⊤
 IsWriteFault fault = ⊥
 
--- what the run of an image's bytes may answer
+-- the possible errors of a run on the bytes of an image
 abbrev pub IsImageRunFault : RunFault → Type 0
 IsImageRunFault WriteTrace = ⊤
 IsImageRunFault WriteImage = ⊤
 IsImageRunFault fault = IsImageFault fault
 
--- what a run on an image may answer
+-- the possible errors of a run on an image
 abbrev pub IsRunFault : RunFault → Type 0
 IsRunFault Read = ⊤
 IsRunFault fault = IsImageRunFault fault
 
--- nothing was written, but of a run that stopped; and no image, but where its writing failed
-abbrev pub TellsNeitherUnlessCut : Option Bytes → Option Bytes → Option Bytes → Option Bytes → RunFault → Type 0
-TellsNeitherUnlessCut tb ta ib ia WriteImage = ⊤
-TellsNeitherUnlessCut tb ta ib ia WriteTrace = ia ≡ ib
-TellsNeitherUnlessCut tb ta ib ia Memory = ia ≡ ib
-TellsNeitherUnlessCut tb ta ib ia fault = (ta ≡ tb) × (ia ≡ ib)
+-- nothing was written, unless the run stopped; no image was written, unless its writing failed
+abbrev pub WritesNeitherUnlessCut : Option Bytes → Option Bytes → Option Bytes → Option Bytes → RunFault → Type 0
+WritesNeitherUnlessCut tb ta ib ia WriteImage = ⊤
+WritesNeitherUnlessCut tb ta ib ia WriteTrace = ia ≡ ib
+WritesNeitherUnlessCut tb ta ib ia Memory = ia ≡ ib
+WritesNeitherUnlessCut tb ta ib ia fault = (ta ≡ tb) × (ia ≡ ib)

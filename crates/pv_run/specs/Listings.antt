@@ -1,4 +1,4 @@
--- What the listing of an image leaves.
+-- The output of an image's listing.
 use Rattle.std.specs.Prelude.{◌≡◌, ◌⊎◌, ⊤, ℕ, Option, Result, Ok, Err}
 use Rattle.pv_model.specs.declared.fault.ImageFault.{ImageFault}
 use Rattle.pv_model.specs.declared.fault.ImageFault.TheVariants.{Memory as ImageMemory}
@@ -7,28 +7,29 @@ use Rattle.pv_model.specs.declared.store_fault.ListFault.TheVariants.{Read, Imag
 use Rattle.pv_model.specs.Bytes.{Bytes}
 use Rattle.pv_model.specs.Listing.{listing}
 use Rattle.pv_model.specs.Tree.{Tree}
-use Rattle.pv_streams.specs.Sinks.{and_all, TellsBeginning}
+use Rattle.pv_streams.specs.Sinks.{and_all, WritesPrefix}
 
--- what was written grew by just the listing of the tree that is held
+-- the output grew by exactly the listing of the tree
 pub record HasListed (held : Result Tree ImageFault) (before after : Option Bytes) : Type 0 where
   pub tree : Tree
   pub is_held : held ≡ Ok tree
   pub written : after ≡ and_all before (listing tree)
 
--- the listing of the tree that is held was written up to somewhere
+-- a prefix of the listing of the tree was written
 pub record HasBegunListing (held : Result Tree ImageFault) (before after : Option Bytes) : Type 0 where
   pub tree : Tree
   pub is_held : held ≡ Ok tree
-  pub written : TellsBeginning (listing tree) before after
+  pub written : WritesPrefix (listing tree) before after
 
--- a refusal stands in what is held, and then nothing was written; where memory or a write failed, a beginning of the listing was
-abbrev pub StandsInImage : Result Tree ImageFault → Option Bytes → Option Bytes → ListFault → Type 0
-StandsInImage held before after Read = after ≡ before
-StandsInImage held before after (Image fault) = (held ≡ Err fault) × (after ≡ before)
-StandsInImage held before after Memory = (after ≡ before) ⊎ HasBegunListing held before after
-StandsInImage held before after Write = HasBegunListing held before after
+-- the image is refused and nothing was written; or there was no memory or a write failed, and a prefix of the listing
+-- was written
+abbrev pub AppearsInImage : Result Tree ImageFault → Option Bytes → Option Bytes → ListFault → Type 0
+AppearsInImage held before after Read = after ≡ before
+AppearsInImage held before after (Image fault) = (held ≡ Err fault) × (after ≡ before)
+AppearsInImage held before after Memory = (after ≡ before) ⊎ HasBegunListing held before after
+AppearsInImage held before after Write = HasBegunListing held before after
 
--- what the listing of bytes may answer: want of memory is answered as such
+-- the possible errors of the listing of bytes; out of memory is not nested in another error
 abbrev pub IsListingFault : ListFault → Type 0
 IsListingFault (Image ImageMemory) = ⊥
 IsListingFault (Image fault) = ⊤
@@ -36,24 +37,24 @@ IsListingFault Memory = ⊤
 IsListingFault Write = ⊤
 IsListingFault Read = ⊥
 
--- what the listing of an image may answer
+-- the possible errors of the listing of an image
 abbrev pub IsListFault : ListFault → Type 0
 IsListFault Read = ⊤
 IsListFault fault = IsListingFault fault
 
--- what the reading of an image may answer beside its bytes
-abbrev pub IsReadOrWant : ListFault → Type 0
-IsReadOrWant Read = ⊤
-IsReadOrWant Memory = ⊤
-IsReadOrWant fault = ⊥
+-- the possible errors of reading an image that do not depend on its bytes
+abbrev pub IsReadOrOutOfMemory : ListFault → Type 0
+IsReadOrOutOfMemory Read = ⊤
+IsReadOrOutOfMemory Memory = ⊤
+IsReadOrOutOfMemory fault = ⊥
 
--- nothing was written, but where memory or a write failed
-abbrev pub TellsNothingUnlessBegun : Option Bytes → Option Bytes → ListFault → Type 0
-TellsNothingUnlessBegun before after Memory = ⊤
-TellsNothingUnlessBegun before after Write = ⊤
-TellsNothingUnlessBegun before after fault = after ≡ before
+-- nothing was written, unless there was no memory or a write failed
+abbrev pub WritesNothingUnlessBegun : Option Bytes → Option Bytes → ListFault → Type 0
+WritesNothingUnlessBegun before after Memory = ⊤
+WritesNothingUnlessBegun before after Write = ⊤
+WritesNothingUnlessBegun before after fault = after ≡ before
 
--- all that was written was flushed, but where a write failed
+-- everything that was written is flushed, unless a write failed
 abbrev pub BufferedOnlyIfUnlisted : ListFault → ℕ → Type 0
 BufferedOnlyIfUnlisted Write waiting = ⊤
 BufferedOnlyIfUnlisted fault waiting = waiting ≡ 0

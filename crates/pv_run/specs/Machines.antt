@@ -1,4 +1,4 @@
--- The machine that a run leaves.
+-- The machine after a run.
 use Rattle.std.specs.Prelude.{◌≡◌, ⊤, Result, Ok}
 use Rattle.pv_model.specs.declared.run_fault.RunFault.{RunFault}
 use Rattle.pv_model.specs.declared.run_fault.RunFault.TheVariants.{Read}
@@ -10,26 +10,26 @@ use Rattle.pv_run.specs.Images.{IsImageFault}
 use Rattle.pv_run.specs.Run.{IsStartFault, RefusesStart}
 use Rattle.pv_session.specs.Running.{run_of}
 
--- this is what a run on an image leaves: the bytes are an image of a tree on which the machine boots, the text spells a schedule, and the
--- run of that machine ends in this state
+-- s is the state after a run on an image: the bytes are an image of a tree on which the machine boots, the text parses
+-- as a schedule, and the run of the machine ends in s
 pub record IsLeftBy (image turns : Bytes) (s : State) : Type 0 where
   pub it : Started
   pub asks : AsksOfImage image turns it
   pub is_left : s ≡ (run_of it.state it.schedule).final
-  -- it is what the checks find
+  -- it is the start that the checks yield
   pub is_asked : image_started image turns ≡ Ok it
 
--- a refusal is that of what was asked, but for reading and memory
+-- the error is the one of the checks, except for a failed read and out of memory
 abbrev pub RefusesMachine : {A : Type 0} → RunFault → Result A RunFault → Type 0
 RefusesMachine Read asked = ⊤
 RefusesMachine fault asked = RefusesStart fault asked
 
--- why there may be no machine
+-- the reasons why there may be no machine of an image
 abbrev pub IsMachineFault : RunFault → Type 0
 IsMachineFault Read = ⊤
 IsMachineFault fault = IsImageFault fault
 
--- why there may be none of a bundle
+-- the reasons why there may be no machine of a bundle
 abbrev pub IsBundleMachineFault : RunFault → Type 0
 IsBundleMachineFault Read = ⊤
 IsBundleMachineFault fault = IsStartFault fault

@@ -1,4 +1,4 @@
--- What a run is asked, and what it answers.
+-- The input of a run, and its result.
 use Rattle.std.specs.Prelude.{◌≡◌, ◌⊎◌, ⊤, ℕ, length, Option, Some, Result, Ok, Err}
 use Rattle.pv_model.specs.declared.fault.ManifestFault.TheVariants.{Memory as ManifestMemory}
 use Rattle.pv_model.specs.declared.run_fault.RunFault.{RunFault}
@@ -13,10 +13,10 @@ use Rattle.pv_model.specs.Trace.{trace_bytes}
 use Rattle.pv_laws_runs.specs.Asked.{AsksOfBundle}
 use Rattle.pv_session.specs.Running.{run_of}
 use Rattle.pv_session.specs.Stopping.{StopsAtExecve}
-use Rattle.pv_streams.specs.Sinks.{and_all, TellsBeginning}
+use Rattle.pv_streams.specs.Sinks.{and_all, WritesPrefix}
 use Rattle.pv_run.specs.declared.turns.Summary.{Summary}
 
--- what a run starts from
+-- the start of a run
 abbrev pub started_from : State → Schedule → Started
 started_from state schedule = record { state = state; schedule = schedule }
 
@@ -24,12 +24,12 @@ started_from state schedule = record { state = state; schedule = schedule }
 abbrev pub text_of : Started → Bytes
 text_of it = trace_bytes (run_of it.state it.schedule).lines
 
--- a summary counts the steps and the lines of a run
+-- the summary counts the steps and the lines of a run
 pub record IsSummaryOf (it : Started) (summary : Summary) : Type 0 where
   pub steps : summary.steps ≡ length (steps_of it.schedule)
   pub lines : summary.lines ≡ length (run_of it.state it.schedule).lines
 
--- this is the text of a run: what is asked gives a machine that starts so, the text is that of its lines, and the summary
+-- this is the text of a run: the machine starts from the input, the text has the lines of its run, and the summary
 -- counts the steps and the lines
 pub record IsTextOf (asked : Result Started RunFault) (text : Bytes) (summary : Summary) : Type 0 where
   pub it : Started
@@ -38,31 +38,32 @@ pub record IsTextOf (asked : Result Started RunFault) (text : Bytes) (summary : 
   pub text_is : text ≡ text_of it
   pub counts : IsSummaryOf it summary
 
--- the run of a bundle was made: the entries of its manifest make a tree on which the machine boots, the lines after it spell a
--- schedule, and what was written grew by just the text of that machine's run; the summary counts the steps and the lines
+-- the run of a bundle was made: the entries of its manifest make a tree on which the machine boots, the lines after it
+-- parse as a schedule, and the output grew by exactly the text of the machine's run; the summary counts the steps and
+-- the lines
 pub record HasRun (bytes : Bytes) (before after : Option Bytes) (summary : Summary) : Type 0 where
   pub it : Started
   pub asks : AsksOfBundle bytes it
   pub written : after ≡ and_all before (text_of it)
   pub counts : IsSummaryOf it summary
-  -- it is what the checks find
+  -- it is the start that the checks yield
   pub is_asked : bundle_started bytes ≡ Ok it
 
--- where a line could not be written a failure was counted, and where memory was refused none was
+-- a failed write was counted if a line could not be written, and none was counted if memory was refused
 abbrev pub StopsBy : RunFault → ℕ → ℕ → Type 0
 StopsBy Memory before after = after ≡ before
 StopsBy WriteTrace before after = Rose before after
 StopsBy fault before after = ⊥
 
--- the text of a run was written up to somewhere
+-- a prefix of the text of a run was written
 pub record HasBegun (asked : Result Started RunFault) (before after : Option Bytes) : Type 0 where
   pub text : Bytes
   pub summary : Summary
   pub is_run : IsTextOf asked text summary
-  pub written : TellsBeginning text before after
+  pub written : WritesPrefix text before after
 
--- a run stopped before an execve that leads to an executable file, which its process's table allows: the lines of the steps before it were
--- written, and no more
+-- a run stopped before an execve that leads to an executable file that the table of the process allows; exactly the
+-- lines of the earlier steps were written
 pub record HasStopped (asked : Result Started RunFault) (before after : Option Bytes) : Type 0 where
   pub it : Started
   pub now : State
@@ -70,26 +71,26 @@ pub record HasStopped (asked : Result Started RunFault) (before after : Option B
   pub is_machine : boot program_of it.state.tree ≡ Some it.state
   pub stops : StopsAtExecve (steps_of it.schedule) it.state now before after
 
--- in a run memory is wanted there alone
-abbrev pub WantsAtExecve : RunFault → Schedule → State → State → Option Bytes → Option Bytes → Type 0
-WantsAtExecve Memory schedule s now before after = StopsAtExecve (steps_of schedule) s now before after
-WantsAtExecve fault schedule s now before after = ⊤
+-- during a run, memory is needed only there
+abbrev pub IsOutOfMemoryAtExecve : RunFault → Schedule → State → State → Option Bytes → Option Bytes → Type 0
+IsOutOfMemoryAtExecve Memory schedule s now before after = StopsAtExecve (steps_of schedule) s now before after
+IsOutOfMemoryAtExecve fault schedule s now before after = ⊤
 
--- a refusal stands in what is asked, before any other
-abbrev pub StandsIn : Result Started RunFault → Option Bytes → Option Bytes → RunFault → Type 0
-StandsIn asked before after WriteTrace = HasBegun asked before after
-StandsIn asked before after Read = ⊤
-StandsIn asked before after Memory = (after ≡ before) ⊎ HasStopped asked before after
-StandsIn asked before after fault = asked ≡ Err fault
+-- the first refusal of the input, or a run that stopped
+abbrev pub AppearsIn : Result Started RunFault → Option Bytes → Option Bytes → RunFault → Type 0
+AppearsIn asked before after WriteTrace = HasBegun asked before after
+AppearsIn asked before after Read = ⊤
+AppearsIn asked before after Memory = (after ≡ before) ⊎ HasStopped asked before after
+AppearsIn asked before after fault = asked ≡ Err fault
 
--- what the start on a tree may answer
+-- the possible errors of the start on a tree
 abbrev pub IsFaultOnTree : RunFault → Type 0
 IsFaultOnTree (ScheduleLine n) = ⊤
 IsFaultOnTree (Init n) = ⊤
 IsFaultOnTree Memory = ⊤
 IsFaultOnTree fault = ⊥
 
--- what the start of a bundle's run may answer: want of memory is answered as such
+-- the possible errors of the start of a bundle's run; out of memory is not nested in another error
 abbrev pub IsStartFault : RunFault → Type 0
 IsStartFault (Manifest ManifestMemory) = ⊥
 IsStartFault (Manifest fault) = ⊤
@@ -98,28 +99,28 @@ IsStartFault (Init n) = ⊤
 IsStartFault Memory = ⊤
 IsStartFault fault = ⊥
 
--- what the run of bytes may answer
+-- the possible errors of a run of bytes
 abbrev pub IsBytesFault : RunFault → Type 0
 IsBytesFault WriteTrace = ⊤
 IsBytesFault fault = IsStartFault fault
 
--- what the run of a bundle may answer
+-- the possible errors of a run of a bundle
 abbrev pub IsBundleFault : RunFault → Type 0
 IsBundleFault Read = ⊤
 IsBundleFault fault = IsBytesFault fault
 
--- nothing was written, but where the trace could not be written whole, or a step wanted memory
-abbrev pub TellsNothingUnlessCut : Option Bytes → Option Bytes → RunFault → Type 0
-TellsNothingUnlessCut before after WriteTrace = ⊤
-TellsNothingUnlessCut before after Memory = ⊤
-TellsNothingUnlessCut before after fault = after ≡ before
+-- nothing was written, unless the trace could not be written completely, or a step needed memory
+abbrev pub WritesNothingUnlessCut : Option Bytes → Option Bytes → RunFault → Type 0
+WritesNothingUnlessCut before after WriteTrace = ⊤
+WritesNothingUnlessCut before after Memory = ⊤
+WritesNothingUnlessCut before after fault = after ≡ before
 
--- all of a trace was flushed, but where it could not be written
+-- the whole trace is flushed, unless it could not be written
 abbrev pub BufferedOnlyIfCut : RunFault → ℕ → Type 0
 BufferedOnlyIfCut WriteTrace waiting = ⊤
 BufferedOnlyIfCut fault waiting = waiting ≡ 0
 
--- a refusal is that of what was asked, but for memory
+-- the error is the one of the checks, except for out of memory
 abbrev pub RefusesStart : {A : Type 0} → RunFault → Result A RunFault → Type 0
 RefusesStart Memory asked = ⊤
 RefusesStart fault asked = asked ≡ Err fault

@@ -5,8 +5,8 @@ ghost use Rattle.pv_model.specs.Sealed.{verdict_line};
 ghost use Rattle.pv_model.specs.Start.{image_started};
 ghost use Rattle.pv_model.specs.Stream.{Rose};
 ghost use Rattle.pv_streams.specs.Sources.{FailsToGive};
-ghost use Rattle.pv_streams.specs.Sinks.{and_all, TellsBeginning};
-ghost use Rattle.pv_run.specs.Auditing.{IsAuditStop, OnLeft, StandsInAudit, StandsInState, TellsAudit, TellsNothingUnlessStopped, BufferedOnlyIfUnwritten};
+ghost use Rattle.pv_streams.specs.Sinks.{and_all, WritesPrefix};
+ghost use Rattle.pv_run.specs.Auditing.{IsAuditStop, OnLeft, AppearsInAudit, AppearsInState, WritesAudit, WritesNothingUnlessStopped, BufferedOnlyIfUnwritten};
 ghost use Rattle.pv_run.specs.declared.auditing.AuditStop.TheVariants.{Machine as MachineStop, Path as PathStop, Write as WriteStop};
 
 use crate::machine::machine_after;
@@ -18,12 +18,12 @@ use pv_streams::{Failed, Sink, Source};
 use std::alloc::Global;
 use std::fmt;
 
-/// Why an audit is not written, or not whole.
+/// The reason why an audit is not written, or not completely.
 #[derive(Clone, Copy, Debug, PartialEq, Eq)]
 pub enum AuditStop {
-    /// There is no machine to audit, or memory was refused.
+    /// The input is invalid, or there is no memory.
     Machine(RunFault),
-    /// The path names no file.
+    /// The path does not name a file.
     Path(AuditFault),
     /// The sink failed.
     Write,
@@ -53,7 +53,7 @@ impl From<Failed> for AuditStop {
     }
 }
 
-/// The text for a person, without an LF.
+/// The message for a person, without a newline.
 impl fmt::Display for AuditStop {
     fn fmt<W: fmt::Write>(&self, f: &mut fmt::Formatter<W>) -> fmt::Result {
         match self {
@@ -66,22 +66,22 @@ impl fmt::Display for AuditStop {
 
 // Writes the line of a verdict, and flushes it.
 #[tactic(auto, using(pv_streams::proofs::Sinks::begins_whole))]
-fn tell<W: Sink>(verdict: &Verdict, out: &mut W) -> Result<(), Failed>
+fn report_verdict<W: Sink>(verdict: &Verdict, out: &mut W) -> Result<(), Failed>
     ensures whole { OnOk result (W.written out.new ≡ and_all (W.written out.old) (verdict_line verdict.now)) }
     ensures empty { OnOk result (W.buffered out.new ≡ 0) }
-    ensures beginning { OnErr result (TellsBeginning (verdict_line verdict.now) (W.written out.old) (W.written out.new)) }
+    ensures prefix { OnErr result (WritesPrefix (verdict_line verdict.now) (W.written out.old) (W.written out.new)) }
     ensures failed { OnErr result (Rose (W.failures out.old) (W.failures out.new)) }
 {
     write_verdict(out, verdict)?;
     out.flush()
 }
 
-// Writes the report of a machine, and flushes it.
+// Writes the verdicts on all files of a machine, and flushes them.
 #[tactic(auto, using(pv_streams::proofs::Sinks::begins_whole))]
-fn tell_all<W: Sink>(alloc: Global, session: &Session, out: &mut W) -> Result<(), ListStop>
+fn report_verdicts<W: Sink>(alloc: Global, session: &Session, out: &mut W) -> Result<(), ListStop>
     ensures whole { OnOk result (W.written out.new ≡ and_all (W.written out.old) (report session.now)) }
     ensures empty { OnOk result (W.buffered out.new ≡ 0) }
-    ensures beginning { OnErr result (TellsBeginning (report session.now) (W.written out.old) (W.written out.new)) }
+    ensures prefix { OnErr result (WritesPrefix (report session.now) (W.written out.old) (W.written out.new)) }
     ensures stopped { result ≡ Err ListStop.Memory → W.buffered out.new ≡ 0 }
     ensures failed { result ≡ Err ListStop.Write → Rose (W.failures out.old) (W.failures out.new) }
 {
@@ -98,45 +98,47 @@ fn tell_all<W: Sink>(alloc: Global, session: &Session, out: &mut W) -> Result<()
     }
 }
 
-// Writes what is found of a file of a machine, or of all its files where there is no path.
+// Writes the verdict on the file of a machine at a path, or on all its files if there is no path.
 fn audit_machine<W: Sink>(
     alloc: Global,
     session: &Session,
     path: Option<&[u8]>,
     out: &mut W,
 ) -> Result<(), AuditStop>
-    ensures written { OnOk result (TellsAudit session.now (option_map (λ p. p.now) path.entry) (W.written out.old) (W.written out.new)) }
+    ensures written { OnOk result (WritesAudit session.now (option_map (λ p. p.now) path.entry) (W.written out.old) (W.written out.new)) }
     ensures empty { OnOk result (W.buffered out.new ≡ 0) }
-    ensures refused { IfErr result (StandsInState session.now (option_map (λ p. p.now) path.entry) (W.written out.old) (W.written out.new)) }
+    ensures refused { IfErr result (AppearsInState session.now (option_map (λ p. p.now) path.entry) (W.written out.old) (W.written out.new)) }
     ensures stopped { IfErr result (λ stop. W.buffered out.old ≡ 0 → BufferedOnlyIfUnwritten stop (W.buffered out.new)) }
     ensures failed { result ≡ Err AuditStop.Write → Rose (W.failures out.old) (W.failures out.new) }
 {
     let Some(path) = path else {
-        return match tell_all(alloc, session, out) {
+        return match report_verdicts(alloc, session, out) {
             Ok(()) => Ok(()),
             Err(ListStop::Memory) => Err(AuditStop::Machine(RunFault::Memory)),
             Err(ListStop::Write) => Err(AuditStop::Write),
         };
     };
     let found = session.audit(path)?;
-    tell(&found, out)?;
+    report_verdict(&found, out)?;
     Ok(())
 }
 
-/// Runs a schedule on an image, of which it writes no trace, and then tells what is found of a file of the tree that is
-/// left: a line that says whether it is sealed, sealed and frozen, or exposed to which process, and why. With no path it
-/// tells that of all files, a line for each name of one, in the order of a listing: the name's path, and what is found.
+/// Runs a schedule on an image without writing a trace, and writes the verdict on a file of the resulting tree: a line
+/// that says whether the file is sealed, sealed and frozen, or exposed to which process, and why. Without a path it
+/// writes the verdict on all files: a line for each name of a file, in the order of a listing, with the path of the
+/// name and the verdict.
 ///
-/// The image and the schedule are read whole, and they are judged before a step is made. Where the answer is `Ok`, `out`
-/// has grown by just that text, and all of it was flushed. A path is walked from the root, following links, and judged
-/// by no table.
+/// The image and the schedule are read to their ends, and they are checked before the first step. On success, `out`
+/// received exactly that text, all of it flushed. A path is walked from the root; links are followed, and no unveil
+/// table applies.
 ///
 /// # Errors
 ///
-/// - `Machine`: what `machine_after` answers, for the first fault of the image, the schedule, or the program of `init`;
-///   nothing was written. Want of memory may also come while all files are gone through; then a beginning of the text was written.
-/// - `Path`: the walk along the path failed, or it names no file; nothing was written.
-/// - `Write`: a write failed; `out` has grown by a beginning of the text.
+/// - `Machine`: the error of `machine_after`, for the first error of the image, the schedule, or the program of `init`.
+///   Nothing was written. Memory can also run out while all files are audited; `out` then received a prefix of the
+///   text.
+/// - `Path`: the walk along the path failed, or the path does not name a file. Nothing was written.
+/// - `Write`: a write failed. `out` received a prefix of the text.
 pub fn audit_image<I: Source, S: Source, W: Sink>(
     alloc: Global,
     image: &mut I,
@@ -145,13 +147,13 @@ pub fn audit_image<I: Source, S: Source, W: Sink>(
     out: &mut W,
 ) -> Result<(), AuditStop>
     ensures audited { OnOk result (IfSome (I.remaining image.old) (λ bytes. IfSome (S.remaining schedule.old) (λ turns.
-        OnLeft bytes turns (λ s. TellsAudit s (option_map (λ p. p.now) path.entry) (W.written out.old) (W.written out.new))))) }
+        OnLeft bytes turns (λ s. WritesAudit s (option_map (λ p. p.now) path.entry) (W.written out.old) (W.written out.new))))) }
     ensures refused { IfErr result (λ stop. IfSome (I.remaining image.old) (λ bytes. IfSome (S.remaining schedule.old) (λ turns.
-        StandsInAudit bytes turns (option_map (λ p. p.now) path.entry) (W.written out.old) (W.written out.new) stop))) }
+        AppearsInAudit bytes turns (option_map (λ p. p.now) path.entry) (W.written out.old) (W.written out.new) stop))) }
     ensures kind { IfErr result IsAuditStop }
 
-    // Nothing is written but the text, it is flushed, and a fault of reading or writing was counted.
-    ensures unwritten { IfErr result (TellsNothingUnlessStopped (W.written out.old) (W.written out.new)) }
+    // `out` receives nothing but the text, flushed, and each failed read or write is counted.
+    ensures unwritten { IfErr result (WritesNothingUnlessStopped (W.written out.old) (W.written out.new)) }
     ensures empty { OnOk result (W.buffered out.new ≡ 0) }
     ensures stopped { IfErr result (λ stop. W.buffered out.old ≡ 0 → BufferedOnlyIfUnwritten stop (W.buffered out.new)) }
     ensures read { result ≡ Err (AuditStop.Machine RunFault.Read) → FailsToGive I.Source image.old image.new ⊎ FailsToGive S.Source schedule.old schedule.new }

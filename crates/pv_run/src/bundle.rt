@@ -5,7 +5,7 @@ ghost use Rattle.pv_model.specs.Start.{bundle_started};
 ghost use Rattle.pv_model.specs.Step.{boot};
 ghost use Rattle.pv_model.specs.Stream.{Rose};
 ghost use Rattle.pv_run.specs.Machines.{IsBundleMachineFault, RefusesMachine};
-ghost use Rattle.pv_run.specs.Run.{HasRun, IsBundleFault, IsBytesFault, IsStartFault, RefusesStart, StandsIn, TellsNothingUnlessCut, BufferedOnlyIfCut, started_from};
+ghost use Rattle.pv_run.specs.Run.{HasRun, IsBundleFault, IsBytesFault, IsStartFault, RefusesStart, AppearsIn, WritesNothingUnlessCut, BufferedOnlyIfCut, started_from};
 ghost use Rattle.pv_streams.specs.Sources.{FailsToGive};
 
 use crate::turns::{Ready, Summary, make_turns, start_on};
@@ -14,7 +14,7 @@ use pv_model::RunFault;
 use pv_streams::{SOURCE_BYTES, Sink, Source, read_whole};
 use std::alloc::Global;
 
-// What a bundle's run starts from.
+// Returns the start of a bundle's run.
 fn start_bundle(alloc: Global, bytes: &[u8]) -> Result<Ready, RunFault>
     requires { length bytes.now ≤ SOURCE_BYTES }
     ensures asked { IfOk result (λ r. bundle_started bytes.now ≡ Ok (started_from r.session r.schedule)) }
@@ -27,36 +27,36 @@ fn start_bundle(alloc: Global, bytes: &[u8]) -> Result<Ready, RunFault>
     start_on(alloc, store, &bytes[bundle.schedule_at..])
 }
 
-/// What the run of a bundle starts from.
+/// Returns the start of a bundle's run: the machine and the schedule.
 ///
-/// The bundle is read whole. Then its manifest, the manifest's entries, the schedule and the program of `init` are checked in
-/// this order.
+/// The bundle is read to its end. Then its manifest, the entries of the manifest, the schedule and the program of
+/// `init` are checked in this order.
 ///
 /// # Errors
 ///
 /// - `Read`: a read failed, or the source gave more than 67,108,864 bytes.
-/// - `Manifest`, `Schedule`, `Init`: the first fault of the bundle, in the order of the checks; each names
-///   the least line of its kind.
-/// - `Memory`: memory was refused.
+/// - `Manifest`, `Schedule`, `Init`: the first error of the bundle, in the order of the checks. Each names the first
+///   line with such an error.
+/// - `Memory`: there is no memory.
 pub fn ready_on_bundle<S: Source>(alloc: Global, bundle: &mut S) -> Result<Ready, RunFault>
     ensures asked { IfOk result (λ r. IfSome (S.remaining bundle.old) (λ bytes. bundle_started bytes ≡ Ok (started_from r.session r.schedule))) }
     ensures refused { IfErr result (λ fault. IfSome (S.remaining bundle.old) (λ bytes. RefusesMachine fault (bundle_started bytes))) }
     ensures kind { IfErr result IsBundleMachineFault }
 
-    // A fault of reading was counted.
+    // Each failed read is counted.
     ensures read { result ≡ Err RunFault.Read → FailsToGive S.Source bundle.old bundle.new }
 {
     let bytes = read_whole(alloc, bundle)?;
     start_bundle(alloc, &bytes)
 }
 
-// Runs what the bytes of a bundle ask for.
+// Runs the bundle in `bytes`.
 fn run_bytes<W: Sink>(alloc: Global, bytes: &[u8], trace: &mut W) -> Result<Summary, RunFault>
     requires { length bytes.now ≤ SOURCE_BYTES }
     ensures ran { IfOk result (λ summary. HasRun bytes.now (W.written trace.old) (W.written trace.new) summary) }
-    ensures refused { IfErr result (λ fault. StandsIn (bundle_started bytes.now) (W.written trace.old) (W.written trace.new) fault) }
+    ensures refused { IfErr result (λ fault. AppearsIn (bundle_started bytes.now) (W.written trace.old) (W.written trace.new) fault) }
     ensures kind { IfErr result IsBytesFault }
-    ensures unwritten { IfErr result (TellsNothingUnlessCut (W.written trace.old) (W.written trace.new)) }
+    ensures unwritten { IfErr result (WritesNothingUnlessCut (W.written trace.old) (W.written trace.new)) }
     ensures write { result ≡ Err RunFault.WriteTrace → Rose (W.failures trace.old) (W.failures trace.new) }
     ensures empty { OnOk result (W.buffered trace.new ≡ 0) }
     ensures stopped { IfErr result (λ fault. W.buffered trace.old ≡ 0 → BufferedOnlyIfCut fault (W.buffered trace.new)) }
@@ -67,35 +67,32 @@ fn run_bytes<W: Sink>(alloc: Global, bytes: &[u8], trace: &mut W) -> Result<Summ
 
 /// Runs a bundle: a manifest, the line `schedule`, and a schedule.
 ///
-/// The bundle is read whole. Then its manifest, the manifest's entries, the schedule and the program of
-/// `init` are checked in this order, and nothing is written before all of them have passed. Then the lines
-/// of each step are written before the next step is made. Where the answer is `Ok`, the trace has grown by
-/// just the text of the machine's run on the manifest's tree, all of it was flushed, and the summary counts its steps
-/// and its lines.
+/// The bundle is read to its end. Then its manifest, the entries of the manifest, the schedule and the program of
+/// `init` are checked in this order, and nothing is written before all of them have passed. Then the lines of each step
+/// are written before the next step is made. On success, `trace` received exactly the text of the machine's run on the
+/// manifest's tree, all of it flushed, and the summary counts its steps and its lines.
 ///
 /// # Errors
 ///
 /// - `Read`: a read failed, or the source gave more than 67,108,864 bytes.
-/// - `Manifest`, `Schedule`, `Init`: the first fault of the bundle, in the order of the checks; each names
-///   the least line of its kind.
-/// - `Memory`: memory was refused. Once a line was written only an execve(2) wants memory,
-///   one that leads to an executable file that its process's table allows: the trace has grown by just the lines of the
-///   steps before.
-/// - `WriteTrace`: a write failed; the trace has grown by a beginning of the text, and no step was made
-///   after it.
+/// - `Manifest`, `Schedule`, `Init`: the first error of the bundle, in the order of the checks. Each names the first
+///   line with such an error.
+/// - `Memory`: there is no memory. After the first line is written, only an execve(2) that leads to an executable file
+///   allowed by the process's table needs memory. `trace` then received exactly the lines of the earlier steps.
+/// - `WriteTrace`: a write failed. `trace` received a prefix of the text, and no step was made after it.
 ///
-/// After each other fault nothing was written. What was written before a fault was flushed, but for `WriteTrace`.
+/// After any other error nothing was written. Except after `WriteTrace`, everything that was written is flushed.
 pub fn run_tree<S: Source, W: Sink>(
     alloc: Global,
     bundle: &mut S,
     trace: &mut W,
 ) -> Result<Summary, RunFault>
     ensures ran { IfOk result (λ summary. IfSome (S.remaining bundle.old) (λ bytes. HasRun bytes (W.written trace.old) (W.written trace.new) summary)) }
-    ensures refused { IfErr result (λ fault. IfSome (S.remaining bundle.old) (λ bytes. StandsIn (bundle_started bytes) (W.written trace.old) (W.written trace.new) fault)) }
+    ensures refused { IfErr result (λ fault. IfSome (S.remaining bundle.old) (λ bytes. AppearsIn (bundle_started bytes) (W.written trace.old) (W.written trace.new) fault)) }
     ensures kind { IfErr result IsBundleFault }
 
-    // Nothing is written but the text, and a fault of reading or writing was counted.
-    ensures unwritten { IfErr result (TellsNothingUnlessCut (W.written trace.old) (W.written trace.new)) }
+    // `trace` receives nothing but the text, and each failed read or write is counted.
+    ensures unwritten { IfErr result (WritesNothingUnlessCut (W.written trace.old) (W.written trace.new)) }
     ensures read { result ≡ Err RunFault.Read → FailsToGive S.Source bundle.old bundle.new }
     ensures write { result ≡ Err RunFault.WriteTrace → Rose (W.failures trace.old) (W.failures trace.new) }
     ensures empty { OnOk result (W.buffered trace.new ≡ 0) }

@@ -5,7 +5,7 @@ ghost use Rattle.pv_model.specs.Mount.{mounted};
 ghost use Rattle.pv_model.specs.Start.{image_started};
 ghost use Rattle.pv_model.specs.Step.{boot};
 ghost use Rattle.pv_model.specs.Stream.{Rose};
-ghost use Rattle.pv_run.specs.Images.{BeginsImage, HasRunOn, IsImageFault, IsImageRunFault, IsRunFault, IsWriteFault, StandsOn, TellsNeitherUnlessCut, WrittenImage};
+ghost use Rattle.pv_run.specs.Images.{BeginsImage, HasRunOn, IsImageFault, IsImageRunFault, IsRunFault, IsWriteFault, AppearsOn, WritesNeitherUnlessCut, WrittenImage};
 ghost use Rattle.pv_run.specs.Machines.{IsMachineFault, RefusesMachine};
 ghost use Rattle.pv_run.specs.Run.{IsStartFault, RefusesStart, BufferedOnlyIfCut, started_from};
 ghost use Rattle.pv_streams.specs.Sources.{FailsToGive};
@@ -18,8 +18,8 @@ use pv_streams::{SOURCE_BYTES, Sink, Source, read_whole};
 use pv_tree::{Store, Tree};
 use std::alloc::Global;
 
-// The store of the tree that an image holds. `listed` tells whether all its directories will be listed, so that it is worth
-// to put their entries in order.
+// Returns the store of the tree in an image. `listed` says whether all its directories will be listed, so that it pays
+// to sort their entries.
 fn store_of(alloc: Global, image: Vec<u8>, listed: bool) -> Result<Store, ImageFault>
     ensures mounted { IfOk result (λ store. mounted image.items ≡ Ok store) }
     ensures refused { IfErr result (λ fault. (fault ≡ ImageFault.Memory) ⊎ (mounted image.items ≡ Err fault)) }
@@ -31,7 +31,7 @@ fn store_of(alloc: Global, image: Vec<u8>, listed: bool) -> Result<Store, ImageF
     Ok(store)
 }
 
-// What a run on an image starts from, by the text of its schedule. `listed` is as in `store_of`.
+// Returns the start of a run on an image, given the text of the schedule. `listed` is as for `store_of`.
 pub(crate) fn start_image(
     alloc: Global,
     image: Vec<u8>,
@@ -48,13 +48,13 @@ pub(crate) fn start_image(
     start_on(alloc, store, schedule)
 }
 
-/// Writes an image of a tree: its root and its nodes that have a name, under their numbers, with the sizes and the
+/// Writes an image of a tree: its root and the nodes that have a name, under their numbers, with the sizes and the
 /// version of the tree.
 ///
 /// # Errors
 ///
-/// `Memory` where memory was refused: then nothing was written. `WriteImage` where a write failed: the sink was given a
-/// beginning of the bytes.
+/// - `Memory`, if there is no memory. Nothing was written.
+/// - `WriteImage`, if a write failed. The sink received a prefix of the bytes.
 pub fn write_image<O: Sink>(alloc: Global, tree: &Tree, image: &mut O) -> Result<(), RunFault>
     ensures whole { OnOk result (WrittenImage tree.now.tree (O.written image.old) (O.written image.new)) }
     ensures cut { result ≡ Err RunFault.WriteImage → BeginsImage tree.now.tree (O.written image.old) (O.written image.new) }
@@ -70,18 +70,18 @@ pub fn write_image<O: Sink>(alloc: Global, tree: &Tree, image: &mut O) -> Result
     }
 }
 
-/// What a run on an image starts from.
+/// Returns the start of a run on an image: the machine and the schedule.
 ///
-/// The image and the schedule are read whole. Then the image, the schedule and the program of `init` are checked in this
-/// order. `listed` tells whether all directories of the image will be listed, so that it is worth to put their entries in
-/// order.
+/// The image and the schedule are read to their ends. Then the image, the schedule and the program of `init` are
+/// checked in this order. `listed` says whether all directories of the image will be listed, so that it pays to sort
+/// their entries.
 ///
 /// # Errors
 ///
 /// - `Read`: a read failed, or a source gave more than 67,108,864 bytes.
-/// - `Image`, `Schedule`, `Init`: the first fault, in the order of the checks; each names the least inode, or
-///   the least line, of its kind.
-/// - `Memory`: memory was refused.
+/// - `Image`, `Schedule`, `Init`: the first error, in the order of the checks. Each names the first inode or the first
+///   line with such an error.
+/// - `Memory`: there is no memory.
 pub fn ready_on_image<I: Source, S: Source>(
     alloc: Global,
     image: &mut I,
@@ -94,7 +94,7 @@ pub fn ready_on_image<I: Source, S: Source>(
         RefusesMachine fault (image_started bytes turns)))) }
     ensures kind { IfErr result IsMachineFault }
 
-    // A fault of reading was counted.
+    // Each failed read is counted.
     ensures read { result ≡ Err RunFault.Read → FailsToGive I.Source image.old image.new ⊎ FailsToGive S.Source schedule.old schedule.new }
 {
     let image = read_whole(alloc, image)?;
@@ -102,7 +102,7 @@ pub fn ready_on_image<I: Source, S: Source>(
     start_image(alloc, image, &schedule, listed)
 }
 
-// Runs the bytes of an image and of a schedule, and writes an image of what is left.
+// Runs the bytes of an image and of a schedule, and writes an image of the resulting tree.
 fn run_image<W: Sink, O: Sink>(
     alloc: Global,
     bytes: Vec<u8>,
@@ -112,13 +112,13 @@ fn run_image<W: Sink, O: Sink>(
 ) -> Result<Summary, RunFault>
     requires { length schedule.now ≤ SOURCE_BYTES }
     ensures ran { IfOk result (λ summary. HasRunOn bytes.items schedule.now (W.written trace.old) (W.written trace.new) (O.written image.old) (O.written image.new) summary) }
-    ensures refused { IfErr result (λ fault. StandsOn (image_started bytes.items schedule.now) (W.written trace.old) (W.written trace.new) (O.written image.old) (O.written image.new) fault) }
+    ensures refused { IfErr result (λ fault. AppearsOn (image_started bytes.items schedule.now) (W.written trace.old) (W.written trace.new) (O.written image.old) (O.written image.new) fault) }
     ensures kind { IfErr result IsImageRunFault }
     ensures write_trace { result ≡ Err RunFault.WriteTrace → Rose (W.failures trace.old) (W.failures trace.new) }
     ensures write_image { result ≡ Err RunFault.WriteImage → Rose (O.failures image.old) (O.failures image.new) }
 
-    // Nothing is written but the text and the image, and what was written was flushed.
-    ensures unwritten { IfErr result (TellsNeitherUnlessCut (W.written trace.old) (W.written trace.new) (O.written image.old) (O.written image.new)) }
+    // The sinks receive nothing but the text and the image, flushed.
+    ensures unwritten { IfErr result (WritesNeitherUnlessCut (W.written trace.old) (W.written trace.new) (O.written image.old) (O.written image.new)) }
     ensures empty { OnOk result (W.buffered trace.new ≡ 0) }
     ensures stopped { IfErr result (λ fault. W.buffered trace.old ≡ 0 → BufferedOnlyIfCut fault (W.buffered trace.new)) }
     ensures flushed { OnOk result (O.buffered image.new ≡ 0) }
@@ -131,27 +131,27 @@ fn run_image<W: Sink, O: Sink>(
 
 /// Runs a schedule on an image.
 ///
-/// The image and the schedule are read whole. Then the image, the schedule and the program of `init` are
-/// checked in this order, and nothing is written before all of them have passed. Then the lines of each step
-/// are written before the next step is made, and at the end an image of the tree that is left: its root and
-/// its nodes that have a name, under their numbers, with the sizes and the version of the image. Where the
-/// answer is `Ok`, the trace has grown by just the text of the machine's run on the image's tree, `image` by
-/// bytes that hold that machine's last tree, both were flushed, and the summary counts the steps and the lines.
+/// The image and the schedule are read to their ends. Then the image, the schedule and the program of `init` are
+/// checked in this order, and nothing is written before all of them have passed. Then the lines of each step are
+/// written before the next step is made. At the end an image of the resulting tree is written: its root and the nodes
+/// that have a name, under their numbers, with the sizes and the version of the image. On success, `trace` received
+/// exactly the text of the machine's run on the image's tree, `image` received bytes that hold the machine's last tree,
+/// both are flushed, and the summary counts the steps and the lines.
 ///
 /// # Errors
 ///
 /// - `Read`: a read failed, or a source gave more than 67,108,864 bytes.
-/// - `Image`, `Schedule`, `Init`: the first fault, in the order of the checks; each names the least inode, or
-///   the least line, of its kind.
-/// - `Memory`: memory was refused. Once a line was written only an execve(2) wants memory in the run,
-///   one that leads to an executable file that its process's table allows: the trace has grown by just the lines of the
-///   steps before. After the run the trace is whole. No image was written.
-/// - `WriteTrace`: a write failed; the trace has grown by a beginning of the text, no step was made after it,
-///   and no image was written.
-/// - `WriteImage`: a write failed; the trace is whole, and `image` has grown by a beginning of the bytes.
+/// - `Image`, `Schedule`, `Init`: the first error, in the order of the checks. Each names the first inode or the first
+///   line with such an error.
+/// - `Memory`: there is no memory, and no image was written. After the first line is written, only an execve(2) that
+///   leads to an executable file allowed by the process's table needs memory during the run. `trace` then received
+///   exactly the lines of the earlier steps. If memory runs out after the run, the trace is complete.
+/// - `WriteTrace`: a write failed. `trace` received a prefix of the text, no step was made after it, and no image was
+///   written.
+/// - `WriteImage`: a write failed. The trace is complete, and `image` received a prefix of the bytes.
 ///
-/// After each other fault nothing was written. What was written of the trace before a fault was flushed, but for
-/// `WriteTrace`.
+/// After any other error nothing was written. Except after `WriteTrace`, everything that was written to the trace is
+/// flushed.
 pub fn run<I: Source, S: Source, W: Sink, O: Sink>(
     alloc: Global,
     bytes: &mut I,
@@ -162,16 +162,16 @@ pub fn run<I: Source, S: Source, W: Sink, O: Sink>(
     ensures ran { IfOk result (λ summary. IfSome (I.remaining bytes.old) (λ b. IfSome (S.remaining schedule.old) (λ turns.
         HasRunOn b turns (W.written trace.old) (W.written trace.new) (O.written image.old) (O.written image.new) summary))) }
     ensures refused { IfErr result (λ fault. IfSome (I.remaining bytes.old) (λ b. IfSome (S.remaining schedule.old) (λ turns.
-        StandsOn (image_started b turns) (W.written trace.old) (W.written trace.new) (O.written image.old) (O.written image.new) fault))) }
+        AppearsOn (image_started b turns) (W.written trace.old) (W.written trace.new) (O.written image.old) (O.written image.new) fault))) }
     ensures kind { IfErr result IsRunFault }
 
-    // A fault of reading or writing was counted.
+    // Each failed read or write is counted.
     ensures read { result ≡ Err RunFault.Read → FailsToGive I.Source bytes.old bytes.new ⊎ FailsToGive S.Source schedule.old schedule.new }
     ensures write_trace { result ≡ Err RunFault.WriteTrace → Rose (W.failures trace.old) (W.failures trace.new) }
     ensures write_image { result ≡ Err RunFault.WriteImage → Rose (O.failures image.old) (O.failures image.new) }
 
-    // Nothing is written but the text and the image, and what was written was flushed.
-    ensures unwritten { IfErr result (TellsNeitherUnlessCut (W.written trace.old) (W.written trace.new) (O.written image.old) (O.written image.new)) }
+    // The sinks receive nothing but the text and the image, flushed.
+    ensures unwritten { IfErr result (WritesNeitherUnlessCut (W.written trace.old) (W.written trace.new) (O.written image.old) (O.written image.new)) }
     ensures empty { OnOk result (W.buffered trace.new ≡ 0) }
     ensures stopped { IfErr result (λ fault. W.buffered trace.old ≡ 0 → BufferedOnlyIfCut fault (W.buffered trace.new)) }
     ensures flushed { OnOk result (O.buffered image.new ≡ 0) }

@@ -1,17 +1,13 @@
-//! All that `pvsim` does with bundles and images, from bytes to bytes.
+//! The operations of `pvsim` on bundles and images, from bytes to bytes.
 //!
-//! `run_tree` runs a bundle and `run` an image under a schedule, `machine_after` answers the machine that a run leaves;
-//! `list` writes the listing of an image's tree, `make_image` the image of a manifest, `migrate_image` an image of version 2
-//! of the tree of one of version 1, and `audit_image` what is found of the files that a run leaves.
-//!
-//! `ready_on_bundle` and `ready_on_image` answer what a run starts from, for those who ask something else of it.
-//!
-//! `bundle` and `image` have the runs, `machine` what they leave, and `turns` how one starts and goes on; `listing`, `making`,
-//! `migrating` and `auditing` have the others, and `report` what an audit says of all files.
-//!
-//! A clause sees the tree that bytes hold (`pv_model`'s `mounted`), the tree that a manifest makes (`tree_made`), what
-//! becomes of an old image's tree (`pv_image`'s `migrated`), what a run is asked (`image_started`, `bundle_started`), and
-//! what sources give and sinks are given.
+//! `bundle` has `run_tree`, which runs a bundle, and `image` has `run`, which runs a schedule on an image; `turns`
+//! starts and makes a run. Their `ready_on_bundle` and `ready_on_image` return the start of a run to callers with
+//! another question. `machine_after` (`machine`) returns the machine after a run. `list` (`listing`) writes the listing
+//! of an image's tree, `make_image` (`making`) the image of a manifest, `migrate_image` (`migrating`) an image of
+//! version 2 with the tree of one of version 1, and `audit_image` (`auditing`, `report`) the verdicts on the files
+//! after a run. Contracts cite the tree that bytes hold (`mounted`), the tree that a manifest makes (`tree_made`), the
+//! migrated tree (`migrated`), the start of a run (`image_started`, `bundle_started`), the bytes that sources give and
+//! those that sinks receive.
 #![tactic(auto)]
 
 pub mod auditing;

@@ -4,8 +4,8 @@ ghost use Rattle.pv_model.specs.Listing.{listing};
 ghost use Rattle.pv_model.specs.Mount.{mounted};
 ghost use Rattle.pv_model.specs.Stream.{Rose};
 ghost use Rattle.pv_streams.specs.Sources.{FailsToGive};
-ghost use Rattle.pv_streams.specs.Sinks.{and_all, TellsBeginning};
-ghost use Rattle.pv_run.specs.Listings.{HasListed, IsListFault, IsListingFault, IsReadOrWant, StandsInImage, TellsNothingUnlessBegun, BufferedOnlyIfUnlisted};
+ghost use Rattle.pv_streams.specs.Sinks.{and_all, WritesPrefix};
+ghost use Rattle.pv_run.specs.Listings.{HasListed, IsListFault, IsListingFault, IsReadOrOutOfMemory, AppearsInImage, WritesNothingUnlessBegun, BufferedOnlyIfUnlisted};
 
 use pv_image_mount::mount;
 use pv_listing::{ListStop, write_listing};
@@ -14,11 +14,11 @@ use pv_streams::{Sink, Source, read_whole};
 use pv_tree::Tree;
 use std::alloc::Global;
 
-// Reads an image whole.
+// Reads an image to its end.
 fn read_image<S: Source>(alloc: Global, image: &mut S) -> Result<Vec<u8>, ListFault>
     ensures whole { IfOk result (λ bytes. IfSome (S.remaining image.old) (λ all. all ≡ bytes.items)) }
     ensures read { result ≡ Err ListFault.Read → FailsToGive S.Source image.old image.new }
-    ensures fault { IfErr result IsReadOrWant }
+    ensures fault { IfErr result IsReadOrOutOfMemory }
 {
     match read_whole(alloc, image) {
         Ok(bytes) => Ok(bytes),
@@ -32,7 +32,7 @@ fn read_image<S: Source>(alloc: Global, image: &mut S) -> Result<Vec<u8>, ListFa
 fn write_all<W: Sink>(alloc: Global, tree: &Tree, out: &mut W) -> Result<(), ListStop>
     ensures whole { OnOk result (W.written out.new ≡ and_all (W.written out.old) (listing tree.now.tree)) }
     ensures empty { OnOk result (W.buffered out.new ≡ 0) }
-    ensures beginning { OnErr result (TellsBeginning (listing tree.now.tree) (W.written out.old) (W.written out.new)) }
+    ensures prefix { OnErr result (WritesPrefix (listing tree.now.tree) (W.written out.old) (W.written out.new)) }
     ensures stopped { result ≡ Err ListStop.Memory → W.buffered out.new ≡ 0 }
     ensures failed { result ≡ Err ListStop.Write → Rose (W.failures out.old) (W.failures out.new) }
 {
@@ -49,12 +49,12 @@ fn write_all<W: Sink>(alloc: Global, tree: &Tree, out: &mut W) -> Result<(), Lis
     }
 }
 
-// Writes the listing of the tree that bytes hold.
+// Writes the listing of the tree in an image, given its bytes.
 fn list_bytes<W: Sink>(alloc: Global, bytes: Vec<u8>, out: &mut W) -> Result<(), ListFault>
     ensures listed { OnOk result (HasListed (mounted bytes.items) (W.written out.old) (W.written out.new)) }
-    ensures refused { IfErr result (StandsInImage (mounted bytes.items) (W.written out.old) (W.written out.new)) }
+    ensures refused { IfErr result (AppearsInImage (mounted bytes.items) (W.written out.old) (W.written out.new)) }
     ensures kind { IfErr result IsListingFault }
-    ensures unwritten { IfErr result (TellsNothingUnlessBegun (W.written out.old) (W.written out.new)) }
+    ensures unwritten { IfErr result (WritesNothingUnlessBegun (W.written out.old) (W.written out.new)) }
     ensures write { result ≡ Err ListFault.Write → Rose (W.failures out.old) (W.failures out.new) }
     ensures empty { OnOk result (W.buffered out.new ≡ 0) }
     ensures stopped { IfErr result (λ fault. W.buffered out.old ≡ 0 → BufferedOnlyIfUnlisted fault (W.buffered out.new)) }
@@ -68,27 +68,27 @@ fn list_bytes<W: Sink>(alloc: Global, bytes: Vec<u8>, out: &mut W) -> Result<(),
     }
 }
 
-/// Writes the listing of an image: a line for each name of its tree, each directory followed at once by all that is in
-/// it, names in the order of their bytes.
+/// Writes the listing of an image: a line for each name of its tree. Each directory is followed by all names in it, and
+/// names are in the order of their bytes.
 ///
-/// The image is read whole, and it is judged before anything is written. Where the answer is `Ok`, `out` has grown by
-/// just the listing of the tree that the image holds.
+/// The image is read to its end, and it is checked before anything is written. On success, `out` received exactly the
+/// listing of the image's tree.
 ///
 /// # Errors
 ///
 /// - `Read`: a read failed, or the source gave more than 67,108,864 bytes.
-/// - `Image`: the first fault of the image; it is never its want of memory.
-/// - `Memory`: memory was refused; `out` has grown by a beginning of the listing, or by nothing.
-/// - `Write`: a write failed; `out` has grown by a beginning of the listing.
+/// - `Image`: the first error of the image. Out of memory is never reported as an error of the image.
+/// - `Memory`: there is no memory. `out` received a prefix of the listing, possibly nothing.
+/// - `Write`: a write failed. `out` received a prefix of the listing.
 ///
-/// After each other fault nothing was written. What was written was flushed, but where a write failed.
+/// After any other error nothing was written. Except after `Write`, everything that was written is flushed.
 pub fn list<S: Source, W: Sink>(alloc: Global, image: &mut S, out: &mut W) -> Result<(), ListFault>
     ensures listed { OnOk result (IfSome (S.remaining image.old) (λ bytes. HasListed (mounted bytes) (W.written out.old) (W.written out.new))) }
-    ensures refused { IfErr result (λ fault. IfSome (S.remaining image.old) (λ bytes. StandsInImage (mounted bytes) (W.written out.old) (W.written out.new) fault)) }
+    ensures refused { IfErr result (λ fault. IfSome (S.remaining image.old) (λ bytes. AppearsInImage (mounted bytes) (W.written out.old) (W.written out.new) fault)) }
     ensures kind { IfErr result IsListFault }
 
-    // Nothing is written but the listing, and a fault of reading or writing was counted.
-    ensures unwritten { IfErr result (TellsNothingUnlessBegun (W.written out.old) (W.written out.new)) }
+    // `out` receives nothing but the listing, and each failed read or write is counted.
+    ensures unwritten { IfErr result (WritesNothingUnlessBegun (W.written out.old) (W.written out.new)) }
     ensures read { result ≡ Err ListFault.Read → FailsToGive S.Source image.old image.new }
     ensures write { result ≡ Err ListFault.Write → Rose (W.failures out.old) (W.failures out.new) }
     ensures empty { OnOk result (W.buffered out.new ≡ 0) }

@@ -1,4 +1,4 @@
-//! The machine that a schedule leaves on an image.
+//! The machine after a run on an image.
 ghost use Rattle.std.specs.Prelude.{◌≡◌, ◌⊎◌, ◌≤◌, length, Err, IfOk, IfErr, IfSome};
 ghost use Rattle.pv_model.specs.Start.{image_started};
 ghost use Rattle.pv_model.specs.Stream.{Rose};
@@ -14,7 +14,7 @@ use pv_session::{Session, pass_schedule};
 use pv_streams::{SOURCE_BYTES, Source, read_whole};
 use std::alloc::Global;
 
-// The machine that the bytes of a schedule leave on those of an image.
+// Returns the machine after a run, given the bytes of the image and of the schedule.
 #[tactic(auto, using(crate::proofs::Left::left_by))]
 fn machine_of(alloc: Global, image: Vec<u8>, schedule: &[u8]) -> Result<Session, RunFault>
     requires { length schedule.now ≤ SOURCE_BYTES }
@@ -32,17 +32,17 @@ fn machine_of(alloc: Global, image: Vec<u8>, schedule: &[u8]) -> Result<Session,
     }
 }
 
-/// The machine that a schedule leaves on an image: the one that `run` would leave, of which nothing is written.
+/// Returns the machine after the run of a schedule on an image, as `run` makes it, without writing anything.
 ///
-/// The image and the schedule are read whole. Then the image, the schedule and the program of `init` are checked in this
-/// order, and then the steps are made.
+/// The image and the schedule are read to their ends. Then the image, the schedule and the program of `init` are
+/// checked in this order, and then the steps are made.
 ///
 /// # Errors
 ///
 /// - `Read`: a read failed, or a source gave more than 67,108,864 bytes.
-/// - `Image`, `Schedule`, `Init`: the first fault, in the order of the checks; each names the least inode, or
-///   the least line, of its kind.
-/// - `Memory`: memory was refused.
+/// - `Image`, `Schedule`, `Init`: the first error, in the order of the checks. Each names the first inode or the first
+///   line with such an error.
+/// - `Memory`: there is no memory.
 pub fn machine_after<I: Source, S: Source>(
     alloc: Global,
     image: &mut I,
@@ -54,7 +54,7 @@ pub fn machine_after<I: Source, S: Source>(
         RefusesMachine fault (image_started bytes turns)))) }
     ensures kind { IfErr result IsMachineFault }
 
-    // A fault of reading was counted.
+    // Each failed read is counted.
     ensures read { result ≡ Err RunFault.Read → FailsToGive I.Source image.old image.new ⊎ FailsToGive S.Source schedule.old schedule.new }
 {
     let image = read_whole(alloc, image)?;

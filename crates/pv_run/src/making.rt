@@ -2,7 +2,7 @@
 ghost use Rattle.std.specs.Prelude.{◌≡◌, ◌⊎◌, ◌≤◌, length, IfErr, IfSome, OnOk, Err};
 ghost use Rattle.pv_model.specs.Stream.{Rose};
 ghost use Rattle.pv_streams.specs.Sources.{FailsToGive};
-ghost use Rattle.pv_run.specs.Making.{HasMade, IsMakeFault, IsMakingFault, StandsInManifest, TellsNothingUnlessWritten, tree_made};
+ghost use Rattle.pv_run.specs.Making.{HasMade, IsMakeFault, IsMakingFault, AppearsInManifest, WritesNothingUnlessWritten, tree_made};
 
 use crate::image::write_image;
 use pv_image_manifest::{Manifest, build};
@@ -10,13 +10,13 @@ use pv_model::RunFault;
 use pv_streams::{SOURCE_BYTES, Sink, Source, read_whole};
 use std::alloc::Global;
 
-// Writes the image of the manifest in bytes.
+// Writes the image of the manifest in `bytes`.
 fn make_bytes<W: Sink>(alloc: Global, bytes: &[u8], image: &mut W) -> Result<(), RunFault>
     requires { length bytes.now ≤ SOURCE_BYTES }
     ensures made { OnOk result (HasMade (tree_made bytes.now) (W.written image.old) (W.written image.new)) }
-    ensures refused { IfErr result (StandsInManifest (tree_made bytes.now) (W.written image.old) (W.written image.new)) }
+    ensures refused { IfErr result (AppearsInManifest (tree_made bytes.now) (W.written image.old) (W.written image.new)) }
     ensures kind { IfErr result IsMakingFault }
-    ensures unwritten { IfErr result (TellsNothingUnlessWritten (W.written image.old) (W.written image.new)) }
+    ensures unwritten { IfErr result (WritesNothingUnlessWritten (W.written image.old) (W.written image.new)) }
     ensures write { result ≡ Err RunFault.WriteImage → Rose (W.failures image.old) (W.failures image.new) }
     ensures flushed { OnOk result (W.buffered image.new ≡ 0) }
 {
@@ -26,31 +26,32 @@ fn make_bytes<W: Sink>(alloc: Global, bytes: &[u8], image: &mut W) -> Result<(),
     write_image(alloc, store.tree(), image)
 }
 
-/// Writes the image of a manifest: just the tree that the manifest makes, in an image of version 1 of its sizes, in
-/// which all that no node uses is zero.
+/// Writes the image of a manifest: exactly the tree that the manifest makes, in an image of version 1 with the
+/// manifest's sizes. All bytes that no node uses are zero.
 ///
-/// The manifest is read whole, and it is judged before anything is written. Where the answer is `Ok`, `image` has grown
-/// by bytes that hold the manifest's tree, all of which were flushed.
+/// The manifest is read to its end, and it is checked before anything is written. On success, `image` received bytes
+/// that hold the manifest's tree, all of them flushed.
 ///
 /// # Errors
 ///
 /// - `Read`: a read failed, or the source gave more than 67,108,864 bytes.
-/// - `Manifest`: the first fault of the manifest; it names the least line of its kind, and is never its want of memory.
-/// - `Memory`: memory was refused.
-/// - `WriteImage`: a write failed; `image` has grown by a beginning of the bytes.
+/// - `Manifest`: the first error of the manifest, with the first line that has such an error. Out of memory is never
+///   reported as an error of the manifest.
+/// - `Memory`: there is no memory.
+/// - `WriteImage`: a write failed. `image` received a prefix of the bytes.
 ///
-/// After each other fault nothing was written.
+/// After any other error nothing was written.
 pub fn make_image<S: Source, W: Sink>(
     alloc: Global,
     manifest: &mut S,
     image: &mut W,
 ) -> Result<(), RunFault>
     ensures made { OnOk result (IfSome (S.remaining manifest.old) (λ bytes. HasMade (tree_made bytes) (W.written image.old) (W.written image.new))) }
-    ensures refused { IfErr result (λ fault. IfSome (S.remaining manifest.old) (λ bytes. StandsInManifest (tree_made bytes) (W.written image.old) (W.written image.new) fault)) }
+    ensures refused { IfErr result (λ fault. IfSome (S.remaining manifest.old) (λ bytes. AppearsInManifest (tree_made bytes) (W.written image.old) (W.written image.new) fault)) }
     ensures kind { IfErr result IsMakeFault }
 
-    // Nothing is written but the image, and a fault of reading or writing was counted.
-    ensures unwritten { IfErr result (TellsNothingUnlessWritten (W.written image.old) (W.written image.new)) }
+    // `image` receives nothing but the image, and each failed read or write is counted.
+    ensures unwritten { IfErr result (WritesNothingUnlessWritten (W.written image.old) (W.written image.new)) }
     ensures read { result ≡ Err RunFault.Read → FailsToGive S.Source manifest.old manifest.new }
     ensures write { result ≡ Err RunFault.WriteImage → Rose (W.failures image.old) (W.failures image.new) }
     ensures flushed { OnOk result (W.buffered image.new ≡ 0) }

@@ -1,9 +1,9 @@
-//! Images of version 2 from those of version 1.
+//! Migration of images from version 1 to version 2.
 ghost use Rattle.std.specs.Prelude.{◌≡◌, ◌⊎◌, IfOk, IfErr, IfSome, OnOk, Err};
 ghost use Rattle.pv_model.specs.Stream.{Rose};
 ghost use Rattle.pv_image.specs.Migrated.{migrated};
 ghost use Rattle.pv_streams.specs.Sources.{FailsToGive};
-ghost use Rattle.pv_run.specs.Migrating.{HasMigrated, IsMigrateStop, IsMigratingStop, IsReadOrNoMemory, StandsInOldImage, TellsNothingUnlessBroken};
+ghost use Rattle.pv_run.specs.Migrating.{HasMigrated, IsMigrateStop, IsMigratingStop, IsReadOrNoMemory, AppearsInOldImage, WritesNothingUnlessBroken};
 
 use pv_image::{MigratingStop, migrate};
 use pv_model::{MigrateFault, RunFault};
@@ -11,18 +11,18 @@ use pv_streams::{Sink, Source, read_whole};
 use std::alloc::Global;
 use std::fmt;
 
-/// Why an image is not made into one of version 2, or not whole.
+/// The reason why an image is not migrated, or not completely.
 #[derive(Clone, Copy, Debug, PartialEq, Eq)]
 pub enum MigrateStop {
-    /// The source failed, or gave more bytes than one may give.
+    /// The source failed, or gave more bytes than allowed.
     Read,
-    /// The image, the sizes, or memory was refused.
+    /// The image or the sizes are invalid, or there is no memory.
     Refused(MigrateFault),
     /// The sink failed.
     Write,
 }
 
-/// The text for a person, without an LF.
+/// The message for a person, without a newline.
 impl fmt::Display for MigrateStop {
     fn fmt<W: fmt::Write>(&self, f: &mut fmt::Formatter<W>) -> fmt::Result {
         match self {
@@ -33,7 +33,7 @@ impl fmt::Display for MigrateStop {
     }
 }
 
-// Reads an image whole.
+// Reads an image to its end.
 fn read_image<S: Source>(alloc: Global, image: &mut S) -> Result<Vec<u8>, MigrateStop>
     ensures whole { IfOk result (λ bytes. IfSome (S.remaining image.old) (λ all. all ≡ bytes.items)) }
     ensures read { result ≡ Err MigrateStop.Read → FailsToGive S.Source image.old image.new }
@@ -46,7 +46,7 @@ fn read_image<S: Source>(alloc: Global, image: &mut S) -> Result<Vec<u8>, Migrat
     }
 }
 
-// Writes the new image of the tree that bytes hold.
+// Writes the migrated image of the tree in an image, given its bytes.
 fn migrate_bytes<W: Sink>(
     alloc: Global,
     bytes: Vec<u8>,
@@ -55,9 +55,9 @@ fn migrate_bytes<W: Sink>(
     out: &mut W,
 ) -> Result<(), MigrateStop>
     ensures migrated { OnOk result (HasMigrated (migrated bytes.items blocks inodes) (W.written out.old) (W.written out.new)) }
-    ensures refused { IfErr result (StandsInOldImage (migrated bytes.items blocks inodes) (W.written out.old) (W.written out.new)) }
+    ensures refused { IfErr result (AppearsInOldImage (migrated bytes.items blocks inodes) (W.written out.old) (W.written out.new)) }
     ensures kind { IfErr result IsMigratingStop }
-    ensures unwritten { IfErr result (TellsNothingUnlessBroken (W.written out.old) (W.written out.new)) }
+    ensures unwritten { IfErr result (WritesNothingUnlessBroken (W.written out.old) (W.written out.new)) }
     ensures write { result ≡ Err MigrateStop.Write → Rose (W.failures out.old) (W.failures out.new) }
     ensures flushed { OnOk result (W.buffered out.new ≡ 0) }
 {
@@ -68,20 +68,20 @@ fn migrate_bytes<W: Sink>(
     }
 }
 
-/// Writes an image of version 2, of so many blocks in all and so many inodes, of the tree that an image of version 1
-/// holds. Each node keeps its number, and what none uses is zero.
+/// Writes an image of version 2, with the given number of blocks in all and of inodes, that holds the tree of an image
+/// of version 1. Each node keeps its number. All bytes that no node uses are zero.
 ///
-/// The image is read whole, and it and the sizes are judged before anything is written. Where the answer is `Ok`, `out`
-/// has grown by bytes that hold just that tree, all of which were flushed.
+/// The image is read to its end. The image and the sizes are checked before anything is written. On success, `out`
+/// received bytes that hold exactly that tree, all of them flushed.
 ///
 /// # Errors
 ///
 /// - `Read`: a read failed, or the source gave more than 67,108,864 bytes.
-/// - `Refused`: the first fault of the image, then `Small`, or want of memory, each as `migrate` answers it; the
-///   image's fault is never its want of memory.
-/// - `Write`: a write failed; `out` has grown by a beginning of the new image.
+/// - `Refused`: the error of `migrate`: the first error of the image, then `Small`; or `Memory`. Out of memory is never
+///   reported as an error of the image.
+/// - `Write`: a write failed. `out` received a prefix of the new image.
 ///
-/// After each other fault nothing was written.
+/// After any other error nothing was written.
 pub fn migrate_image<S: Source, W: Sink>(
     alloc: Global,
     image: &mut S,
@@ -90,11 +90,11 @@ pub fn migrate_image<S: Source, W: Sink>(
     out: &mut W,
 ) -> Result<(), MigrateStop>
     ensures migrated { OnOk result (IfSome (S.remaining image.old) (λ bytes. HasMigrated (migrated bytes blocks inodes) (W.written out.old) (W.written out.new))) }
-    ensures refused { IfErr result (λ stop. IfSome (S.remaining image.old) (λ bytes. StandsInOldImage (migrated bytes blocks inodes) (W.written out.old) (W.written out.new) stop)) }
+    ensures refused { IfErr result (λ stop. IfSome (S.remaining image.old) (λ bytes. AppearsInOldImage (migrated bytes blocks inodes) (W.written out.old) (W.written out.new) stop)) }
     ensures kind { IfErr result IsMigrateStop }
 
-    // Nothing is written but the image, and a fault of reading or writing was counted.
-    ensures unwritten { IfErr result (TellsNothingUnlessBroken (W.written out.old) (W.written out.new)) }
+    // `out` receives nothing but the image, and each failed read or write is counted.
+    ensures unwritten { IfErr result (WritesNothingUnlessBroken (W.written out.old) (W.written out.new)) }
     ensures read { result ≡ Err MigrateStop.Read → FailsToGive S.Source image.old image.new }
     ensures write { result ≡ Err MigrateStop.Write → Rose (W.failures out.old) (W.failures out.new) }
     ensures flushed { OnOk result (W.buffered out.new ≡ 0) }

@@ -1,10 +1,9 @@
-//! What a report says of each file.
-ghost use Rattle.std.specs.Prelude.{◌≡◌, Some, Ok, IfErr, OnOk, OnErr};
+//! Reports on all files.
+ghost use Rattle.std.specs.Prelude.{◌≡◌, Some, Ok};
 ghost use Rattle.pv_listing.specs.Failing.{FailsBy};
 ghost use Rattle.pv_model.specs.Listing.{found_line, report};
 ghost use Rattle.pv_model.specs.Sealed.{audit_node};
-ghost use Rattle.pv_model.specs.Stream.{Rose};
-ghost use Rattle.pv_streams.specs.Sinks.{and_all, TellsBeginning};
+ghost use Rattle.pv_streams.specs.Sinks.{Writes, WritesOr};
 
 use pv_listing::{ListStop, Remarks, write_lines, write_path, write_verdict};
 use pv_model::Verdict;
@@ -14,17 +13,14 @@ use std::alloc::Global;
 
 // Writes the line of a file at a path.
 fn write_found<W: Sink>(out: &mut W, path: &[u8], found: &Verdict) -> Result<(), Failed>
-    ensures whole { OnOk result (W.written out.new ≡ and_all (W.written out.old) (found_line path.now (Ok found.now))) }
-    ensures beginning { OnErr result (TellsBeginning (found_line path.now (Ok found.now)) (W.written out.old) (W.written out.new)) }
-    ensures failed { OnErr result (Rose (W.failures out.old) (W.failures out.new)) }
-    ensures quiet { OnOk result (W.failures out.new ≡ W.failures out.old) }
+    ensures { Writes W.Sink (found_line path.now (Ok found.now)) out.old out.new result }
 {
     write_path(out, path)?;
     write_whole(out, b" ")?;
     write_verdict(out, found)
 }
 
-// The remarks of a report: of a file its path, and what is found of it.
+// The remarks of a report: for each file its path and its verdict.
 #[derive(Clone, Copy)]
 struct FoundLines<'a> {
     session: &'a Session,
@@ -41,20 +37,18 @@ impl<'a> Remarks for FoundLines<'a> {
     }
 }
 
-/// Writes what is found of each file of a machine: a line for each name of a file, in the order of a listing, with the path
-/// as a program writes a text, a space, and what an audit of the file finds. Of directories and links it says nothing.
+/// Writes the verdicts on all files of a machine: a line for each name of a file, in the order of a listing, with the
+/// path of the name as a quoted text, a space, and the verdict. Directories and links have no line.
 ///
-/// Memory is taken for the path alone.
+/// Memory is needed only for the path.
 ///
 /// # Errors
 ///
-/// `Write` where a write failed, `Memory` where memory was refused for a path: the sink was given a beginning of the report.
+/// - `Write`, if a write failed. The sink received a prefix of the report.
+/// - `Memory`, if there is no memory for a path. The sink received a prefix of the report.
 #[tactic(auto, unfolding(pv_model::specs::Listing::report))]
 pub fn write_report<W: Sink>(alloc: Global, session: &Session, out: &mut W) -> Result<(), ListStop>
-    ensures whole { OnOk result (W.written out.new ≡ and_all (W.written out.old) (report session.now)) }
-    ensures beginning { OnErr result (TellsBeginning (report session.now) (W.written out.old) (W.written out.new)) }
-    ensures failed { IfErr result (λ stop. FailsBy stop (W.failures out.old) (W.failures out.new)) }
-    ensures quiet { OnOk result (W.failures out.new ≡ W.failures out.old) }
+    ensures { WritesOr W.Sink FailsBy (report session.now) out.old out.new result }
 {
     write_lines(alloc, session.tree(), &FoundLines { session }, out)
 }

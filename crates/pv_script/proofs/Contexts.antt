@@ -1,4 +1,4 @@
--- What an instruction on registers, or a jump, makes of a context.
+-- The effect of an instruction on registers, or a jump, on a context.
 use Rattle.std.proofs.Common.{◌≡◌, ◌∙◌, ◌+◌, ap, sym, subst, add-one, ℕ, zero, suc, ◌-◌, ◌<◌, ◌≤◌, ℤ, pos, negsuc, ◌+ℤ◌, Bool, true, false, not, ltb, inl, inr, arith}
 use Rattle.std.specs.Prelude.{slice_get, slice_index}
 use Rattle.std.specs.Int.{w32, saturate_signed}
@@ -12,7 +12,7 @@ use Rattle.pv_model.specs.State.{Program, Process}
 use Rattle.pv_script.specs.Context.{Context, in_context, Changes, is_some_on_registers, is_inside}
 use Rattle.pv_script.specs.Passing.{Passes}
 
--- a sum that stops at the ends of 32 bits
+-- a sum saturated to 32 bits
 pub clamped : (z : ℤ) → saturate_signed w32 z ≡ clamp z
 clamped (pos n) =
     elim (cases_lt 2147483647 n) [
@@ -70,13 +70,13 @@ module _ (program : Program) (old new : Context) (i : Instruction) where
   unfolding perform
   jump_if_negative_made r line holds is same made p = rw is (jumped holds line made (is_negative (register (in_context p program old) r)) (same p) p)
 
--- one instruction more inside each process with this program
+-- one more instruction on registers or jump in each process with this program
 pub pass-more : (program : Program) (old mid new : Context) (n : ℕ) → ((p : Process) → Passes n (in_context p program old) (in_context p program mid))
     → ((p : Process) → next (in_context p program mid) ≡ inside (in_context p program new)) → (p : Process) → Passes (n + 1) (in_context p program old) (in_context p program new)
 pass-more program old mid new n passed step p =
     subst (λ k. Passes k (in_context p program old) (in_context p program new)) (sym (add-one n)) (in_context p program mid, passed p, step p)
 
--- at most one, and not none where one comes, is one
+-- a count that is at most one, and not zero if such an instruction comes next, is one
 pub one_passed : (program : Program) (old new : Context) (n : ℕ) → n ≤ 1 → ((p : Process) → Passes n (in_context p program old) (in_context p program new)) → (n < 1 → is_inside program new ≡ false)
     → is_inside program old ≡ true → (p : Process) → next (in_context p program old) ≡ inside (in_context p program new)
 one_passed program old new zero few passed whole comes p =

@@ -1,5 +1,5 @@
--- Lemmas of programs and contexts: WholePrograms (a loop over a program's lines, however a line is read), WholeSchedules, Contexts
--- (instructions on registers), Buffers (a buffer is zero past its mark).
+-- Lemmas of programs and contexts: WholePrograms (a loop over the lines of a program, for any line parser),
+-- WholeSchedules, Contexts (instructions on registers), Buffers (a buffer is zero past `used`).
 pub mod Buffers
 pub mod Contexts
 pub mod WholePrograms

@@ -1,4 +1,4 @@
--- The context of a process: the line that comes next, its registers and its buffer.
+-- The context of a process: its next line, its registers and its buffer.
 use Rattle.std.specs.Prelude.{◌≡◌, ℕ, ◌-◌, ℤ, Bool, true, false, List, IsTrue, slice_get, Option, None, Some}
 use Rattle.pv_model.specs.declared.call_ref.CallRef.{CallRef}
 use Rattle.pv_model.specs.declared.instruction.Instruction.{Instruction}
@@ -13,11 +13,10 @@ pub record Context : Type 0 where
   pub registers : List ℤ
   pub buffer : Bytes
 
--- that of a process before its first step
+-- the context of a process before its first step
 unfoldable pub first_context : Context
 first_context = record { line = 1; registers = no_registers; buffer = no_bytes }
 
--- a context at another line
 abbrev pub at_line : ℕ → Context → Context
 at_line line c = record c { line = line }
 
@@ -25,11 +24,11 @@ at_line line c = record c { line = line }
 abbrev pub in_context : Process → Program → Context → Process
 in_context p program c = record p { program = program; line = c.line; registers = c.registers; buffer = c.buffer }
 
--- what changes a process of this program does so by its context alone
+-- a function on processes changes only the context of a process with this program
 abbrev pub Changes : (Process → Process) → Program → Context → Context → Type 0
 Changes change program old new = (p : Process) → in_context p program new ≡ change (in_context p program old)
 
--- whether an instruction is one on registers or a jump, and no call
+-- whether an instruction is one on registers or a jump, not a call
 abbrev pub is_on_registers : Instruction → Bool
 is_on_registers (Set r n) = true
 is_on_registers (Add r n) = true
@@ -41,7 +40,7 @@ is_on_registers (JumpIfNotZero r line) = true
 is_on_registers (JumpIfNegative r line) = true
 is_on_registers _ = false
 
--- whether an instruction is a call without a text
+-- whether an instruction is a call without texts
 abbrev pub is_plain : Instruction → Bool
 is_plain Fork = true
 is_plain Wait = true
@@ -64,11 +63,12 @@ abbrev pub is_some_on_registers : Option Instruction → Bool
 is_some_on_registers None = false
 is_some_on_registers (Some instruction) = is_on_registers instruction
 
--- whether such a one comes next
+-- whether the next instruction is one on registers or a jump
 abbrev pub is_inside : Program → Context → Bool
 is_inside program c = is_some_on_registers (slice_get program (c.line - 1))
 
--- the call that comes next in each process with this program and context, or none where an instruction on registers does
+-- the next call of each process with this program and context, or None if the next instruction is one on registers or a
+-- jump
 abbrev pub IsNext : Program → Context → Option CallRef → Type 0
 IsNext program c None = IsTrue (is_inside program c)
 IsNext program c (Some call) = (p : Process) → next (in_context p program c) ≡ calls_for (call_of call)

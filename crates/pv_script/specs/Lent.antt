@@ -1,4 +1,4 @@
--- What becomes of a context, and of its buffer, when the buffer was lent.
+-- The effect of lending the buffer of a context for writing.
 use Rattle.std.specs.Prelude.{◌++◌, length, take, drop}
 use Rattle.std.specs.Borrow.{Array, Lends, MutBor, Fml, u8}
 use Rattle.pv_model.specs.Bytes.{Bytes}
@@ -6,18 +6,18 @@ use Rattle.pv_script.specs.contracts.buffer.Buffer.{the_row as buffer_row}
 use Rattle.pv_script.specs.contracts.context.Context.{the_row}
 use Rattle.pv_script.specs.Context.{Context}
 
--- a buffer with these bytes at its front, which stays as long
+-- a buffer with its front overwritten and its length kept
 abbrev pub with_bytes : Bytes → Bytes → Bytes
 with_bytes buffer bytes = take (length buffer) (bytes ++ drop (length bytes) buffer)
 
--- a context with these bytes at the front of its buffer, which stays as long
+-- a context with the front of its buffer overwritten
 abbrev pub with_buffer : Context → Bytes → Context
 with_buffer m bytes = record m { buffer = with_bytes m.buffer bytes }
 
--- the buffer ends with the last bytes of what was lent
+-- the final value of the buffer has the final bytes of the borrow r
 abbrev pub LendsBytes : MutBor Bytes → MutBor Bytes → Fml
 LendsBytes b r = Lends buffer_row (Array u8 0) b r (with_bytes b.now)
 
--- the context ends with the last bytes of what was lent in its buffer
+-- the final value of the context has the final bytes of the borrow r in its buffer
 abbrev pub LendsBuffer : MutBor Context → MutBor Bytes → Fml
 LendsBuffer m r = Lends the_row (Array u8 0) m r (with_buffer m.now)

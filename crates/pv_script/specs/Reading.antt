@@ -1,4 +1,4 @@
--- What a reader that was given bytes answers, by what the bytes spell.
+-- The results of the parsers of programs and schedules.
 use Rattle.std.specs.Prelude.{◌≡◌, Result, Ok, Err}
 use Rattle.pv_model.specs.declared.fault.ParseFault.{ParseFault}
 use Rattle.pv_model.specs.declared.fault.ParseFault.TheVariants.{Line as ParseLine, Memory as ParseMemory}
@@ -7,22 +7,22 @@ use Rattle.pv_model.specs.declared.fault.ScheduleFault.TheVariants.{Line as Sche
 use Rattle.pv_model.specs.State.{Program}
 use Rattle.pv_model.specs.Step.{Schedule}
 
--- what a refusal says of a program that was to be read: nothing, where memory was refused
+-- the error agrees with the grammar's result; out of memory agrees with every result
 abbrev pub RefusesProgram : ParseFault → Result Program ParseFault → Type 0
 RefusesProgram ParseMemory read = Unit {0}
 RefusesProgram (ParseLine n what) read = read ≡ Err (ParseLine n what)
 
--- a program is what was to be read, or its fault is
+-- the result of the program parser agrees with the grammar's
 abbrev pub GivesProgram : Result Program ParseFault → Result Program ParseFault → Type 0
 GivesProgram (Ok program) read = read ≡ Ok program
 GivesProgram (Err fault) read = RefusesProgram fault read
 
--- what a refusal says of a schedule that was to be read: nothing, where memory was refused
+-- the error agrees with the grammar's result; out of memory agrees with every result
 abbrev pub RefusesSchedule : ScheduleFault → Result Schedule ScheduleFault → Type 0
 RefusesSchedule ScheduleMemory read = Unit {0}
 RefusesSchedule (ScheduleLine n) read = read ≡ Err (ScheduleLine n)
 
--- a schedule is what was to be read, or its fault is
+-- the result of the schedule parser agrees with the grammar's
 abbrev pub GivesSchedule : Result Schedule ScheduleFault → Result Schedule ScheduleFault → Type 0
 GivesSchedule (Ok schedule) read = read ≡ Ok schedule
 GivesSchedule (Err fault) read = RefusesSchedule fault read

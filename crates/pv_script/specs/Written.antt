@@ -1,9 +1,9 @@
--- How much of a buffer was written.
+-- The part of a buffer that was written.
 use Rattle.std.specs.Prelude.{◌≡◌, ◌≤◌, ◌-◌, ℕ, length, drop, replicate}
 use Rattle.pv_model.specs.declared.limits.TheConstants.{BUFFER}
 use Rattle.pv_model.specs.Bytes.{Bytes}
 
--- the bytes are those of a buffer, and all after the first `used` are zero
+-- the bytes are those of a buffer, and all from `used` on are zero
 pub record IsZeroAfter (bytes : Bytes) (used : ℕ) : Type 0 where
   pub whole : length bytes ≡ BUFFER
   pub within : used ≤ BUFFER

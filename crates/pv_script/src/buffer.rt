@@ -7,8 +7,8 @@ use pv_model::limits::BUFFER;
 use std::alloc::{AllocError, Global};
 use std::marker::Model;
 
-/// The 4,096 bytes of a process's buffer. Those after the first `used` were never written, and are zero, so that a copy
-/// need not copy them. A contract sees the bytes.
+/// The 4,096 bytes of a process's buffer. The bytes from `used` on were never written and are zero, so a copy can skip
+/// them. Contracts see the bytes.
 #[derive(Drop)]
 pub(crate) struct Buffer {
     bytes: Vec<u8>,
@@ -27,7 +27,7 @@ impl Model for Buffer {
     ghost invariant = { λ b. IsZeroAfter b.bytes.items b.used };
 }
 
-// Puts bytes to the front of others.
+// Overwrites the front of a buffer with `bytes`.
 fn put_to_front(buffer: &mut [u8], bytes: &[u8])
     requires { length bytes.now ≤ length buffer.old }
     ensures { buffer.new ≡ bytes.now ++ drop (length bytes.now) buffer.old }
@@ -35,7 +35,7 @@ fn put_to_front(buffer: &mut [u8], bytes: &[u8])
     buffer[..bytes.len()].copy_from_slice(bytes);
 }
 
-// Makes bytes at the front zero.
+// Writes `count` zeros to the front of a buffer.
 fn clear_front(buffer: &mut [u8], count: usize)
     requires { count ≤ length buffer.old }
     ensures { buffer.new ≡ replicate count 0 ++ drop count buffer.old }
@@ -46,7 +46,7 @@ fn clear_front(buffer: &mut [u8], count: usize)
 impl Buffer {
     ghost use Rattle.pv_script.specs.Lent.{LendsBytes};
 
-    // A buffer of zeros.
+    // Creates a buffer of zeros.
     pub(crate) fn new(alloc: Global) -> Result<Buffer, AllocError>
         ensures { IfOk result (λ b. b ≡ replicate BUFFER 0) }
     {
@@ -56,7 +56,7 @@ impl Buffer {
         })
     }
 
-    // Becomes all zero.
+    // Sets all bytes to zero.
     pub(crate) fn clear(&mut self)
         ensures { self.new ≡ replicate BUFFER 0 }
     {
@@ -64,7 +64,7 @@ impl Buffer {
         self.used = 0;
     }
 
-    // Becomes as another.
+    // Copies another buffer.
     pub(crate) fn copy_from(&mut self, other: &Buffer)
         ensures { self.new ≡ other.now }
     {
@@ -73,7 +73,7 @@ impl Buffer {
         self.used = other.used;
     }
 
-    // The bytes.
+    // Returns the bytes.
     pub(crate) fn as_slice(&self) -> &[u8]
         ensures value { result.now ≡ self.now }
         ensures size { length result.now ≡ BUFFER }
@@ -81,7 +81,7 @@ impl Buffer {
         &self.bytes
     }
 
-    // The bytes, to be changed: all may be written.
+    // Returns the bytes for modification. All of them may be written.
     pub(crate) fn as_mut_slice(&mut self) -> &mut [u8]
         ensures* writes_back { sem 𝓛 (LendsBytes self.entry result) }
         ensures value { result.now ≡ self.old }
@@ -91,7 +91,7 @@ impl Buffer {
         &mut self.bytes
     }
 
-    // Puts bytes to the front.
+    // Overwrites the front of the buffer with `bytes`.
     pub(crate) fn put_front(&mut self, bytes: &[u8])
         requires { length bytes.now ≤ BUFFER }
         ensures { self.new ≡ bytes.now ++ drop (length bytes.now) self.old }

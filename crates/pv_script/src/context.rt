@@ -1,4 +1,4 @@
-//! What runs a program: the line that comes next, eight registers, and a buffer of 4,096 bytes.
+//! The context of a process: the next line, eight registers and a buffer of 4,096 bytes.
 ghost use Rattle.std.specs.Prelude.{◌≡◌, ◌-◌, ◌<◌, ◌≤◌, ◌+ℤ◌, ◌++◌, true, false, Some, length, drop, take, slice_get, slice_index, IfOk, IfSome, OnSome};
 ghost use Rattle.std.specs.Option.{IfNone, option_copied, is_some};
 ghost use Rattle.std.specs.Borrow.{sem};
@@ -16,7 +16,7 @@ use pv_model::{CallRef, Instruction, Operand, Origin, Register, Start};
 use std::alloc::{AllocError, Global};
 use std::marker::Model;
 
-/// The line that comes next, the registers and the buffer of a process: a contract sees a `Context`.
+/// The next line, the registers and the buffer of a process.
 #[derive(Drop)]
 pub struct Context {
     line: u16,
@@ -32,7 +32,7 @@ impl Model for Context {
     ghost view = { λ m. record { line = m.line; registers = m.registers; buffer = m.buffer } };
 }
 
-// The sum of two numbers, held within 32 bits.
+// Returns the sum of two numbers, saturated to 32 bits.
 #[tactic(auto, using(crate::proofs::Contexts::clamped))]
 fn held_sum(a: i32, b: i32) -> i32
     ensures { result ≡ clamp (a +ℤ b) }
@@ -40,28 +40,28 @@ fn held_sum(a: i32, b: i32) -> i32
     a.saturating_add(b)
 }
 
-// Whether a number is zero.
+// Returns whether a number is zero.
 fn is_zero(value: i32) -> bool
     ensures { result ≡ is_zero value }
 {
     value == 0
 }
 
-// Whether a number is below zero.
+// Returns whether a number is negative.
 fn is_negative(value: i32) -> bool
     ensures { result ≡ is_negative value }
 {
     value < 0
 }
 
-// The byte at a place, 0 where there is none.
+// Returns the byte at an offset, or 0 if there is none.
 fn byte_at(bytes: &[u8], place: u16) -> u8
     ensures { result ≡ slice_index bytes.now place }
 {
     bytes.get(usize::from(place)).copied().unwrap_or(0)
 }
 
-// Whether an instruction is one on registers or a jump.
+// Returns whether an instruction is one on registers or a jump.
 fn is_on_registers(instruction: &Instruction) -> bool
     ensures { result ≡ is_on_registers instruction.now }
 {
@@ -78,7 +78,7 @@ fn is_on_registers(instruction: &Instruction) -> bool
     )
 }
 
-// The instruction of a line, if one on registers or a jump stands there.
+// Returns the instruction of a line if it is one on registers or a jump.
 #[inline]
 fn inside_at(program: &Program, line: u16) -> Option<&Instruction>
     ensures there { IfSome (option_copied result) (λ i. slice_get program.now (line - 1) ≡ Some i) }
@@ -90,7 +90,7 @@ fn inside_at(program: &Program, line: u16) -> Option<&Instruction>
     }
 }
 
-// The line after this one, at most the one after the last.
+// Returns the next line, at most the one after the last.
 #[inline]
 fn line_after(line: u16, program: &Program) -> u16
     ensures { (c : Context) → Changes at_next_line program.now (at_line line c) (at_line result c) }
@@ -99,7 +99,7 @@ fn line_after(line: u16, program: &Program) -> u16
     if line <= count { line + 1 } else { count + 1 }
 }
 
-// The target if a test holds, and else the line after this one.
+// Returns `target` if `holds` is true, otherwise the next line.
 #[inline]
 fn jump_if(holds: bool, line: u16, target: u16, program: &Program) -> u16
     ensures { (c : Context) → Changes (λ p. jump_if holds p target) program.now (at_line line c) (at_line result c) }
@@ -117,9 +117,11 @@ ghost use Rattle.pv_script.specs.Passing.{Passes};
 impl Context {
     ghost use Rattle.pv_script.specs.Lent.{LendsBuffer};
 
-    /// A context at line 1, its registers and its buffer zero. Nothing else of it allocates.
+    /// Creates a context at line 1 with registers and buffer of zeros. No other method allocates memory.
     ///
-    /// `Err` says that memory was refused for the buffer.
+    /// # Errors
+    ///
+    /// Returns `AllocError` if memory for the buffer cannot be allocated.
     pub fn new(alloc: Global) -> Result<Context, AllocError>
         ensures { IfOk result (λ m. m ≡ first_context) }
     {
@@ -130,7 +132,7 @@ impl Context {
         })
     }
 
-    /// Becomes as a new one.
+    /// Resets the context to that of a new process.
     pub fn reset(&mut self)
         ensures { self.new ≡ first_context }
     {
@@ -139,7 +141,7 @@ impl Context {
         self.buffer.clear();
     }
 
-    /// Becomes as another.
+    /// Copies another context.
     pub fn copy_from(&mut self, other: &Context)
         ensures { self.new ≡ other.now }
     {
@@ -148,7 +150,7 @@ impl Context {
         self.buffer.copy_from(&other.buffer);
     }
 
-    /// The 4,096 bytes of the buffer.
+    /// Returns the 4,096 bytes of the buffer.
     pub fn buffer(&self) -> &[u8]
         ensures value { result.now ≡ self.now.buffer }
         ensures size { length result.now ≡ BUFFER }
@@ -156,36 +158,36 @@ impl Context {
         self.buffer.as_slice()
     }
 
-    /// The line that comes next, counted from 1: at most the one past the last.
+    /// Returns the next line, counted from 1. It is at most the one after the last.
     pub fn line(&self) -> u16
         ensures { result ≡ self.now.line }
     {
         self.line
     }
 
-    /// The eight registers, from r0 on.
+    /// Returns the eight registers, from r0 on.
     pub fn registers(&self) -> [i32; REGISTERS]
         ensures { result ≡ self.now.registers }
     {
         self.registers
     }
 
-    /// Goes on to the next line, at most to the one after the last.
+    /// Advances to the next line, at most to the one after the last.
     pub fn advance(&mut self, program: &Program)
         ensures { Changes at_next_line program.now self.old self.new }
     {
         self.line = line_after(self.line, program);
     }
 
-    /// Sets the registers that tell what a call came to: r0 to the value, r1 to the error, 0 where there is none.
-    pub fn tell(&mut self, value: i32, error: u16)
+    /// Stores the result of a call in the registers: the value in r0 and the error in r1, or 0 if there is no error.
+    pub fn report(&mut self, value: i32, error: u16)
         ensures { (program : Instructions) → Changes (λ p. with_result p value error) program self.old self.new }
     {
         self.registers[0] = value;
         self.registers[1] = i32::from(error);
     }
 
-    /// The 4,096 bytes of the buffer, to be changed.
+    /// Returns the 4,096 bytes of the buffer for modification.
     pub fn buffer_mut(&mut self) -> &mut [u8]
         ensures* writes_back { sem 𝓛 (LendsBuffer self.entry result) }
         ensures value { result.now ≡ self.old.buffer }
@@ -194,7 +196,7 @@ impl Context {
         self.buffer.as_mut_slice()
     }
 
-    /// Puts bytes, at most 4,096, to the front of the buffer.
+    /// Copies at most 4,096 bytes to the front of the buffer.
     pub fn put_front(&mut self, bytes: &[u8])
         requires { length bytes.now ≤ BUFFER }
         ensures { (program : Instructions) → Changes (with_front bytes.now) program self.old self.new }
@@ -202,7 +204,7 @@ impl Context {
         self.buffer.put_front(bytes);
     }
 
-    // The number that is written, or stands in a register.
+    // Returns the value of an operand: a literal number or the value of a register.
     fn operand(&self, written: Operand) -> i32
         ensures { (p : Process) (program : Instructions) → result ≡ operand (in_context p program self.now) written }
     {
@@ -212,7 +214,7 @@ impl Context {
         }
     }
 
-    // Where an openat starts.
+    // Returns the directory from which an openat starts.
     fn start(&self, origin: Origin) -> Start
         ensures { (p : Process) (program : Instructions) → result ≡ start_of_origin (in_context p program self.now) origin }
     {
@@ -222,7 +224,7 @@ impl Context {
         }
     }
 
-    // The call of an instruction without a text.
+    // Returns the call of an instruction without texts.
     #[tactic(auto, unfolding(pv_model::specs::Program::perform))]
     fn plain_call<'a>(&self, instruction: &Instruction) -> CallRef<'a>
         requires { is_plain instruction.now ≡ true }
@@ -250,8 +252,8 @@ impl Context {
         }
     }
 
-    // The call of an instruction, with its texts kept. Not inlined, so that `step_or_fetch` stays small and is a part of the loops
-    // over steps.
+    // Returns the call of an instruction, with its texts copied to `texts`. It is not inlined, so that `step_or_fetch`
+    // stays small enough to be inlined into loops over steps.
     #[inline(never)]
     #[tactic(auto, unfolding(pv_model::specs::Program::perform))]
     fn call<'a>(&self, instruction: &Instruction, texts: &'a mut CallTexts) -> CallRef<'a>
@@ -295,7 +297,7 @@ impl Context {
         }
     }
 
-    // A register's value.
+    // Returns the value of a register.
     fn value(&self, number: Register) -> i32
         ensures { (p : Process) (program : Instructions) → result ≡ register (in_context p program self.now) number }
     {
@@ -309,7 +311,7 @@ impl Context {
         self.registers[number.number()] = value;
     }
 
-    // Sets a register, and answers the line after this one.
+    // Sets a register and returns the next line.
     #[inline]
     fn set(&mut self, line: u16, number: Register, value: i32, program: &Program) -> u16
         ensures { Changes (λ p. at_next_line (with_register p number value)) program.now (at_line line self.old) (at_line result self.new) }
@@ -318,7 +320,7 @@ impl Context {
         line_after(line, program)
     }
 
-    // Makes an instruction on registers, or a jump, that stands at this line: answers the line that comes next.
+    // Executes an instruction on registers or a jump that is on this line, and returns the next line.
     #[inline]
     #[tactic(auto, unfolding(pv_model::specs::Program::perform))]
     fn make(&mut self, line: u16, instruction: &Instruction, program: &Program) -> u16
@@ -356,8 +358,8 @@ impl Context {
         }
     }
 
-    /// The call that comes next, with its texts kept: past the last line, an exit. It is None where an instruction on
-    /// registers or a jump comes next. Nothing is made.
+    /// Returns the next call without executing it, with its texts copied to `texts`. After the last line, it is exit.
+    /// Returns `None` if the next instruction is one on registers or a jump.
     #[inline]
     pub fn fetch<'a>(&self, program: &Program, texts: &'a mut CallTexts) -> Option<CallRef<'a>>
         ensures { IsNext program.now self.now result }
@@ -369,35 +371,35 @@ impl Context {
         }
     }
 
-    /// The call that comes next, as `fetch` gives it. Where an instruction on registers or a jump comes next, it is made, and
-    /// the answer is None.
+    /// Returns the next call like `fetch`. If the next instruction is one on registers or a jump, executes it and
+    /// returns `None`.
     pub fn step_or_fetch<'a>(
         &mut self,
         program: &Program,
         texts: &'a mut CallTexts,
     ) -> Option<CallRef<'a>>
         ensures call { IsNext program.now self.old result }
-        ensures kept { OnSome result (self.new ≡ self.old) }
+        ensures preserved { OnSome result (self.new ≡ self.old) }
         ensures made { IfNone result ((p : Process) → next (in_context p program.now self.old) ≡ inside (in_context p program.now self.new)) }
     {
         match self.fetch(program, texts) {
             Some(call) => Some(call),
             None => {
-                // By `pass`, so that `make` has one caller, and is a part of its loop.
+                // It calls `pass`, so that `make` has one caller and is inlined into its loop.
                 self.pass(program, 1);
                 None
             }
         }
     }
 
-    /// Makes the instructions on registers and the jumps as they come, at most so many: answers how many.
+    /// Executes the next instructions on registers and jumps, at most `most`, and returns their number.
     pub fn pass(&mut self, program: &Program, most: u32) -> u32
         ensures few { result ≤ most }
         ensures made { (p : Process) → Passes result (in_context p program.now self.old) (in_context p program.now self.new) }
         ensures whole { result < most → is_inside program.now self.new ≡ false }
     {
         let mut made = 0;
-        // In a local, since one in memory is written and read again at each instruction.
+        // The line is in a local variable, because a field would be written and read again at each instruction.
         let mut line = self.line;
         while made < most {
             let Some(instruction) = inside_at(program, line) else {

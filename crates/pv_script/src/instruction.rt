@@ -1,4 +1,4 @@
-//! One line of a program: an instruction.
+//! Parsing a line of a program: an instruction.
 ghost use Rattle.std.specs.Prelude.{◌≡◌, ℕ, Some, Result, Ok, Err, MatchResult, unwrap_or, bytes_eq};
 ghost use Rattle.pv_model.specs.declared.fault.What.TheVariants.{Argument};
 ghost use Rattle.pv_model.specs.declared.instruction.Instruction.{Instruction};
@@ -14,21 +14,21 @@ use pv_text::arguments::{
 };
 use pv_text::lines::split_word;
 
-// Whether a word is this name.
+// Returns whether a word is this name.
 fn is(word: &[u8], name: &[u8]) -> bool
     ensures { result ≡ bytes_eq word.now name.now }
 {
     word == name
 }
 
-// The instruction, or that its arguments have not their form.
+// Returns the instruction, or `Argument` as an error if its arguments do not parse.
 fn or_argument(instruction: Option<Instruction>) -> Option<Result<Instruction, What>>
     ensures { result ≡ Some (or_argument instruction) }
 {
     Some(instruction.ok_or(What::Argument))
 }
 
-// The instruction `peek` with these arguments.
+// Parses the arguments of `peek`.
 fn peek(rest: &[u8]) -> Option<Instruction>
     ensures { result ≡ peek_by (two_arguments register_at number_at rest.now) }
 {
@@ -39,7 +39,7 @@ fn peek(rest: &[u8]) -> Option<Instruction>
     Some(Instruction::Peek(register, place as u16))
 }
 
-// A line of a program that has so many, counted from 1.
+// Returns the line number if the program has such a line. Lines are counted from 1.
 fn target(lines: u16, number: i32) -> Option<u16>
     ensures { result ≡ line_within lines number }
 {
@@ -49,7 +49,7 @@ fn target(lines: u16, number: i32) -> Option<u16>
     Some(number as u16)
 }
 
-// The instruction `jmp` with these arguments.
+// Parses the arguments of `jmp`.
 fn jump(lines: u16, rest: &[u8]) -> Result<Instruction, What>
     ensures { result ≡ jump_by lines (one_argument number_at rest.now) }
 {
@@ -62,7 +62,7 @@ fn jump(lines: u16, rest: &[u8]) -> Result<Instruction, What>
     }
 }
 
-// The arguments of a jump on a condition: a register, and a line of the program.
+// Parses the arguments of a conditional jump: a register and a line of the program.
 fn jump_if(lines: u16, rest: &[u8]) -> Result<(Register, u16), What>
     ensures { (jump : ℕ → ℕ → Instruction) → let it = jump_if_by lines jump (two_arguments register_at number_at rest.now) in MatchResult result (λ p. it ≡ Ok (jump p.0 p.1)) (λ what. it ≡ Err what) }
 {
@@ -75,7 +75,7 @@ fn jump_if(lines: u16, rest: &[u8]) -> Result<(Register, u16), What>
     }
 }
 
-// The instruction `jz` with these arguments.
+// Parses the arguments of `jz`.
 fn jump_if_zero(lines: u16, rest: &[u8]) -> Result<Instruction, What>
     ensures { result ≡ jump_if_by lines JumpIfZeroLine (two_arguments register_at number_at rest.now) }
 {
@@ -85,7 +85,7 @@ fn jump_if_zero(lines: u16, rest: &[u8]) -> Result<Instruction, What>
     }
 }
 
-// The instruction `jnz` with these arguments.
+// Parses the arguments of `jnz`.
 fn jump_if_not_zero(lines: u16, rest: &[u8]) -> Result<Instruction, What>
     ensures { result ≡ jump_if_by lines JumpIfNotZeroLine (two_arguments register_at number_at rest.now) }
 {
@@ -95,7 +95,7 @@ fn jump_if_not_zero(lines: u16, rest: &[u8]) -> Result<Instruction, What>
     }
 }
 
-// The instruction `jneg` with these arguments.
+// Parses the arguments of `jneg`.
 fn jump_if_negative(lines: u16, rest: &[u8]) -> Result<Instruction, What>
     ensures { result ≡ jump_if_by lines JumpIfNegativeLine (two_arguments register_at number_at rest.now) }
 {
@@ -105,7 +105,7 @@ fn jump_if_negative(lines: u16, rest: &[u8]) -> Result<Instruction, What>
     }
 }
 
-// An instruction on registers, or a jump, if the word is the name of one.
+// Parses an instruction on registers or a jump. Returns `None` if the word does not name one.
 fn register_line(lines: u16, word: &[u8], rest: &[u8]) -> Option<Result<Instruction, What>>
     ensures { (other : Result Instruction What) → on_registers lines word.now rest.now other ≡ unwrap_or result other }
 {
@@ -140,7 +140,7 @@ fn register_line(lines: u16, word: &[u8], rest: &[u8]) -> Option<Result<Instruct
     None
 }
 
-// A call on processes, promises or unveiled paths, if the word is the name of one.
+// Parses a call on processes, promises or the unveil table. Returns `None` if the word does not name one.
 fn process_call(word: &[u8], rest: &[u8]) -> Option<Result<Instruction, What>>
     ensures { (other : Result Instruction What) → on_processes word.now rest.now other ≡ unwrap_or result other }
 {
@@ -177,7 +177,7 @@ fn process_call(word: &[u8], rest: &[u8]) -> Option<Result<Instruction, What>>
     None
 }
 
-// A call on descriptors, if the word is the name of one.
+// Parses a call on descriptors. Returns `None` if the word does not name one.
 fn descriptor_call(word: &[u8], rest: &[u8]) -> Option<Result<Instruction, What>>
     ensures { (other : Result Instruction What) → on_descriptors word.now rest.now other ≡ unwrap_or result other }
 {
@@ -228,7 +228,7 @@ fn descriptor_call(word: &[u8], rest: &[u8]) -> Option<Result<Instruction, What>
     None
 }
 
-// A call on paths, if the word is the name of one.
+// Parses a call on paths. Returns `None` if the word does not name one.
 fn path_call(word: &[u8], rest: &[u8]) -> Option<Result<Instruction, What>>
     ensures { (other : Result Instruction What) → on_paths word.now rest.now other ≡ unwrap_or result other }
 {
@@ -265,7 +265,7 @@ fn path_call(word: &[u8], rest: &[u8]) -> Option<Result<Instruction, What>>
     None
 }
 
-// The instruction that a word and what stands after it spell.
+// Parses the instruction with this name and the arguments `rest`.
 #[tactic(auto, unfolding(pv_model::specs::Grammar::Instructions::instruction_by))]
 fn by_word(lines: u16, word: &[u8], rest: &[u8]) -> Result<Instruction, What>
     ensures { result ≡ instruction_by lines word.now rest.now }
@@ -282,11 +282,12 @@ fn by_word(lines: u16, word: &[u8], rest: &[u8]) -> Result<Instruction, What>
     path_call(word, rest).unwrap_or(Err(What::Word))
 }
 
-/// The instruction that a line spells, in a program of so many lines, of which at most 256 count.
+/// Parses a line of a program. `lines` is the number of lines of the program, counted up to 256.
 ///
-/// `Err(Word)` says that its first word is no name of an instruction, `Err(Argument)` that what stands
-/// after it has not the form that the instruction wants, and `Err(Target)` that it is a jump to a line
-/// that the program has not.
+/// # Errors
+///
+/// Returns `Word` if the first word does not name an instruction, `Argument` if the arguments do not have the form that
+/// the instruction requires, and `Target` if it is a jump to a line that the program does not have.
 pub fn instruction(lines: u16, line: &[u8]) -> Result<Instruction, What>
     ensures { result ≡ instruction_of lines line.now }
 {

@@ -1,10 +1,10 @@
-//! Programs and schedules as their texts spell them, and the context in which a program's instructions run.
+//! Programs and schedules: parsing their texts, and the context in which the instructions of a program run.
 //!
-//! A text is read line by line, over the words and arguments of `pv_text`: `instruction` reads a line of a
-//! program, `program` a program and `schedule` a schedule. The readers answer exactly what the functions of
-//! `pv_model`'s grammar give. `context` is the part of a process that its instructions change: the line that
-//! comes next, the registers and the buffer, of which `buffer` knows how many bytes may have been written;
-//! `texts` is room for the texts of a call. Contracts see a program and a schedule as their lists.
+//! Texts are parsed line by line with the word and argument parsers of `pv_text`: `instruction` parses a line of a
+//! program, `program` a program, and `schedule` a schedule. The parsers return exactly what the grammar of `pv_model`
+//! defines. `context` is the part of a process that its instructions change: the next line, the registers and the
+//! buffer. `buffer` records how many bytes of a buffer may have been written, and `texts` is storage for the texts of a
+//! call. Contracts see programs and schedules as lists.
 #![tactic(auto)]
 
 mod buffer;

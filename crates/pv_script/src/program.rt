@@ -1,4 +1,4 @@
-//! Programs, line by line.
+//! Programs.
 ghost use Rattle.std.specs.Prelude.{◌≡◌, ◌-◌, ◌≤◌, ◌↔◌, [], length, slice_get, vec_len, IsTrue};
 ghost use Rattle.std.specs.Option.{option_copied};
 ghost use Rattle.pv_model.specs.Grammar.Programs.{read_program};
@@ -11,10 +11,10 @@ use pv_text::lines::{count_lines, split_line};
 use std::alloc::Global;
 use std::marker::Model;
 
-// The line after the last that a program may have, counted from 1.
+// The number of the first line that exceeds the limit, counted from 1.
 const TOO_MANY: u16 = LINES as u16 + 1;
 
-/// A program: at most 256 instructions. A contract sees their list.
+/// A program: at most 256 instructions. Contracts see their list.
 #[derive(Drop)]
 pub struct Program {
     lines: Vec<Instruction>,
@@ -33,7 +33,7 @@ impl Model for Program {
 }
 
 impl Program {
-    /// The program of no lines.
+    /// Creates a program without lines.
     pub fn empty(alloc: Global) -> Program
         ensures { result ≡ [] }
     {
@@ -42,11 +42,13 @@ impl Program {
         }
     }
 
-    /// The program that bytes spell, each line an instruction, at most 256 lines.
+    /// Parses a program: at most 256 lines, each an instruction.
     ///
-    /// `Err(Line(n, what))` names the least line that is no instruction, counted from 1, and what is
-    /// wrong with it; where the first 256 lines are instructions and there are more, it is
-    /// `Line(257, TooMany)`. `Err(Memory)` says that memory was refused.
+    /// # Errors
+    ///
+    /// Returns `Line(n, what)` for the first line that is not an instruction, counted from 1; `what` is its error. If
+    /// the first 256 lines are instructions and more lines follow, the error is `Line(257, TooMany)`. Returns `Memory`
+    /// if memory cannot be allocated.
     pub fn parse(alloc: Global, bytes: &[u8]) -> Result<Program, ParseFault>
         ensures exact { GivesProgram result (read_program bytes.now) }
     {
@@ -68,7 +70,7 @@ impl Program {
         Ok(Program { lines })
     }
 
-    /// How many lines it has, at most 256.
+    /// Returns the number of lines, at most 256.
     pub fn len(&self) -> usize
         ensures value { result ≡ length self.now }
         ensures few { result ≤ LINES }
@@ -76,14 +78,14 @@ impl Program {
         self.lines.len()
     }
 
-    /// Whether it has no lines.
+    /// Returns whether the program has no lines.
     pub fn is_empty(&self) -> bool
         ensures { IsTrue result ↔ (self.now ≡ []) }
     {
         self.lines.is_empty()
     }
 
-    /// Its lines, in a list, which takes no memory.
+    /// Converts the program to the vector of its lines, without a copy.
     pub fn into_lines(self) -> Vec<Instruction>
         ensures value { result.items ≡ self }
         ensures few { vec_len result ≤ LINES }
@@ -91,7 +93,8 @@ impl Program {
         self.lines
     }
 
-    /// The instruction of a line, counted from 1, of which there may be none. Line 0 is as line 1.
+    /// Returns the instruction of a line, counted from 1, or `None` if there is no such line. Line 0 is the same as
+    /// line 1.
     pub fn at(&self, line: u16) -> Option<&Instruction>
         ensures { option_copied result ≡ slice_get self.now (line - 1) }
     {

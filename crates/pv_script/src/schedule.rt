@@ -1,4 +1,4 @@
-//! Schedules: which processes make how many steps, in turn.
+//! Schedules: sequences of turns, each with a process and its number of steps.
 ghost use Rattle.std.specs.Prelude.{◌≡◌, ◌<◌, ◌≤◌, ◌↔◌, [], length, slice_get, IsTrue, Some};
 ghost use Rattle.pv_model.specs.declared.limits.TheConstants.{SCHEDULE_LINES};
 ghost use Rattle.pv_model.specs.Grammar.Arguments.{word_at, one_argument};
@@ -13,7 +13,7 @@ use pv_text::words::decimal;
 use std::alloc::Global;
 use std::marker::Model;
 
-/// A schedule: processes in turn, each with how many steps it makes. A contract sees their list.
+/// A schedule: turns, each with a process and its number of steps. Contracts see their list.
 #[derive(Drop)]
 pub struct Schedule {
     turns: Vec<(u32, u32)>,
@@ -31,7 +31,7 @@ impl Model for Schedule {
     ghost invariant = { λ s. length s.turns.items ≤ SCHEDULE_LINES };
 }
 
-// The number from 1 to 99,999 that a word spells.
+// Parses a word as a number from 1 to 99,999.
 fn count_of_word(word: &[u8]) -> Option<u32>
     ensures { result ≡ count_of word.now }
 {
@@ -42,7 +42,7 @@ fn count_of_word(word: &[u8]) -> Option<u32>
     Some(count)
 }
 
-// A number from 1 to 99,999, and what follows it.
+// Parses a number from 1 to 99,999, and returns it with the bytes after it.
 fn count(bytes: &[u8]) -> Option<(u32, &[u8])>
     ensures { Reads result (word_at count_of bytes.now) }
 {
@@ -51,7 +51,7 @@ fn count(bytes: &[u8]) -> Option<(u32, &[u8])>
     Some((count, rest))
 }
 
-// One argument, a number from 1 to 99,999.
+// Parses one argument, a number from 1 to 99,999.
 fn one_count(bytes: &[u8]) -> Option<u32>
     ensures { result ≡ one_argument (word_at count_of) bytes.now }
 {
@@ -59,8 +59,8 @@ fn one_count(bytes: &[u8]) -> Option<u32>
     if rest.is_empty() { Some(first) } else { None }
 }
 
-/// A process and how many steps it makes, as a line of a schedule tells them, each from 1 to 99,999: one step where no count
-/// stands. Nothing of another line.
+/// Parses a line of a schedule: the number of a process and its number of steps, each from 1 to 99,999. If the second
+/// number is missing, it is 1. Returns `None` if the line has another form.
 pub fn turn(line: &[u8]) -> Option<(u32, u32)>
     ensures { result ≡ turn_of line.now }
 {
@@ -73,11 +73,13 @@ pub fn turn(line: &[u8]) -> Option<(u32, u32)>
 }
 
 impl Schedule {
-    /// The schedule that a text spells: a line is a process's number, and after a space how many steps it
-    /// makes, one where none stands; each number is from 1 to 99,999.
+    /// Parses a schedule. Each line has the number of a process and, after a space, its number of steps. If the second
+    /// number is missing, it is 1. Each number is from 1 to 99,999.
     ///
-    /// `Err(Line(n))` names the least line that is none, counted from 1, and the 65,537th where there are
-    /// more than 65,536; `Err(Memory)` says that memory was refused.
+    /// # Errors
+    ///
+    /// Returns `Line(n)` for the first line that does not have this form, counted from 1. If all of the first 65,536
+    /// lines have it and more lines follow, `n` is 65,537. Returns `Memory` if memory cannot be allocated.
     #[tactic(auto, unfolding(pv_model::specs::Grammar::Schedules::read_schedule))]
     pub fn parse(alloc: Global, text: &[u8]) -> Result<Schedule, ScheduleFault>
         ensures { GivesSchedule result (read_schedule text.now) }
@@ -99,7 +101,7 @@ impl Schedule {
         Ok(Schedule { turns })
     }
 
-    /// How many lines it has, at most 65,536.
+    /// Returns the number of turns, at most 65,536.
     pub fn len(&self) -> usize
         ensures value { result ≡ length self.now }
         ensures few { result ≤ SCHEDULE_LINES }
@@ -107,14 +109,14 @@ impl Schedule {
         self.turns.len()
     }
 
-    /// Whether it has no lines.
+    /// Returns whether the schedule has no turns.
     pub fn is_empty(&self) -> bool
         ensures { IsTrue result ↔ (self.now ≡ []) }
     {
         self.turns.is_empty()
     }
 
-    /// The process of a line, counted from 0, and how many steps it makes. The schedule has that line.
+    /// Returns the process of turn `k`, counted from 0, and its number of steps. The schedule must have that turn.
     pub fn at(&self, k: usize) -> (u32, u32)
         requires { k < length self.now }
         ensures { slice_get self.now k ≡ Some result }
@@ -122,7 +124,7 @@ impl Schedule {
         self.turns[k]
     }
 
-    /// Its lines.
+    /// Returns the turns.
     pub fn turns(&self) -> &[(u32, u32)]
         ensures value { result.now ≡ self.now }
         ensures few { length result.now ≤ SCHEDULE_LINES }

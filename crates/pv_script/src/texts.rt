@@ -1,9 +1,9 @@
-//! Room for the texts of a call.
+//! Storage for the texts of a call.
 ghost use Rattle.std.specs.Prelude.{◌≡◌, option_copied};
 
 use pv_model::Text;
 
-/// Room for the texts of one call, which is kept while the program that made it may change.
+/// Storage for the texts of a call. It lets a call outlive changes to the program that made it.
 #[derive(Drop)]
 pub struct CallTexts {
     first: Text,
@@ -11,7 +11,7 @@ pub struct CallTexts {
 }
 
 impl CallTexts {
-    /// Room that keeps nothing yet.
+    /// Creates empty storage.
     pub fn new() -> CallTexts {
         CallTexts {
             first: Text::empty(),
@@ -19,7 +19,7 @@ impl CallTexts {
         }
     }
 
-    // Keeps a text.
+    // Copies a text to the storage.
     pub(crate) fn one<'a>(&'a mut self, text: &Text) -> &'a Text
         ensures { result.now ≡ text.now }
     {
@@ -27,7 +27,7 @@ impl CallTexts {
         &self.first
     }
 
-    // Keeps two texts.
+    // Copies two texts to the storage.
     pub(crate) fn two<'a>(&'a mut self, first: &Text, second: &Text) -> (&'a Text, &'a Text)
         ensures first { result.0.now ≡ first.now }
         ensures second { result.1.now ≡ second.now }
@@ -37,7 +37,7 @@ impl CallTexts {
         (&self.first, &self.second)
     }
 
-    // Keeps the texts that are there.
+    // Copies the texts that are present to the storage.
     pub(crate) fn options<'a>(
         &'a mut self,
         first: Option<&Text>,
@@ -52,7 +52,7 @@ impl CallTexts {
     }
 }
 
-// Keeps a text that is there.
+// Copies a text to `place` if it is present.
 fn keep_option<'a>(place: &'a mut Text, text: Option<&Text>) -> Option<&'a Text>
     ensures { option_copied result ≡ option_copied text.entry }
 {

@@ -1,4 +1,4 @@
--- What is found of a file, and what it says of all runs.
+-- The verdict on a file, and its meaning for all runs.
 use Rattle.std.proofs.Common.{◌≡◌, ℕ, Bool, true, false, Option, None, Some, Result, Ok, Err, refl, ap, cond}
 use Rattle.std.proofs.lemmas.Bool.{and_parts}
 use Rattle.pv_model.specs.declared.errno.Errno.{Errno}
@@ -15,18 +15,18 @@ use Rattle.pv_model.specs.Sealed
 use Rattle.pv_model.specs.State.{State}
 use Rattle.pv_model.specs.Tree.{root, node_at}
 use Rattle.pv_model.specs.Walk.{resolve}
-use Rattle.pv_laws_states.specs.States.{IsWhole}
+use Rattle.pv_laws_states.specs.States.{IsValid}
 use Rattle.pv_laws_access.proofs.Verdicts.{verdicts-exact}
-use Rattle.pv_laws_runs.proofs.Ranges.{program_of-spells}
-use Rattle.pv_laws_secrecy.proofs.ForEver.{sealed-for_ever, frozen-for_ever}
+use Rattle.pv_laws_runs.proofs.Ranges.{program_of-encodes}
+use Rattle.pv_laws_access.proofs.ForEver.{sealed-for_ever, frozen-for_ever}
 use Rattle.pv_session.specs.Audits.{node_there, node_named, IsSecret, IsUnchanging, KeepsSecret, KeepsSecretAt}
 
-module _ (s : State) (whole : IsWhole s) where
+module _ (s : State) (whole : IsValid s) where
   secret : (f : ℕ) → Sealed.is_file (node_at s.tree f) ≡ true → Sealed.is_sealed s f ≡ true → IsSecret s f
-  secret f file sealed = λ pids bytes long. sealed-for_ever program_of program_of-spells s pids f bytes whole (record { file = file; sealed = sealed }) long
+  secret f file sealed = λ pids bytes long. sealed-for_ever program_of program_of-encodes s pids f bytes whole (record { file = file; sealed = sealed }) long
 
   unchanging : (f : ℕ) → Sealed.is_file (node_at s.tree f) ≡ true → Sealed.is_frozen s f ≡ true → IsUnchanging s f
-  unchanging f file frozen = λ pids. frozen-for_ever program_of program_of-spells s pids f whole (record { file = file; frozen = frozen })
+  unchanging f file frozen = λ pids. frozen-for_ever program_of program_of-encodes s pids f whole (record { file = file; frozen = frozen })
 
   sealed-by_frozen : (f : ℕ) → Sealed.is_frozen s f ≡ true → Sealed.is_sealed s f ≡ true
   sealed-by_frozen f frozen = (and_parts (Sealed.is_sealed s f) _ frozen).0

@@ -1,6 +1,7 @@
--- Lemmas of steps and runs: Stepping (a step by what came next and what was answered), Writes (a write leaves its process's buffer,
--- so its line shows what was written), Passing (instructions made at once, as a run), Turns (of a schedule), Audited (what is found
--- of a file, and what it says of all runs).
+-- Lemmas about steps and runs: Stepping (a step, by the fetched instruction and the answer), Writes (a write keeps the
+-- buffer of its process, so its line shows the written bytes), Passing (instructions made at once, as a run), Turns (of
+-- a schedule), Stopped (out of memory), Restrained (restraints), Audited (the verdict on a file, and its meaning for
+-- all runs).
 pub mod Audited
 pub mod Passing
 pub mod Restrained

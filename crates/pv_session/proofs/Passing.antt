@@ -10,14 +10,14 @@ use Rattle.pv_session.specs.Running.{turn}
 use Rattle.pv_session.proofs.Stepping.{step-inside}
 use Rattle.pv_session.proofs.Turns.{following, one_step, single, turn_more}
 
--- a run without a line
+-- a run without lines
 abbrev pub silent : State → Run
 silent final = record { lines = []; final = final }
 
 inside-one : (s : State) (pid : ℕ) (me after : Process) → process_at s pid ≡ Some me → next me ≡ inside after → one_step s pid ≡ silent (with_process s pid after)
 inside-one s pid me after at is = ap (λ (x : Stepped). let it : Run = record { lines = x.lines; final = x.after } in it) (step-inside s pid me after at is)
 
--- one instruction inside a process and so many more
+-- one instruction inside a process, and then n more
 inside-more : (n : ℕ) (s : State) (pid : ℕ) (me after : Process) → process_at s pid ≡ Some me → Passes (suc n) me after → turn s pid (suc n) ≡ silent (with_process s pid after)
 inside-more zero s pid me after at made = single s pid ∙ inside-one s pid made.0 after (at ∙ ap Some (sym made.1)) made.2
 inside-more (suc n) s pid me after at made =
@@ -28,7 +28,7 @@ inside-more (suc n) s pid me after at made =
     ∙ ap (λ r. following (silent mid) r) (inside-one mid pid made.0 after (process_at-same s pid made.0) made.2)
     ∙ ap silent (with_process-twice s pid made.0 after)
 
--- instructions inside a process that were made at once are a turn without a line
+-- instructions inside a process that were made at once are a turn without lines
 pub passed-is : (s new : State) (pid n : ℕ) → PassesInside n pid s new → turn s pid n ≡ silent new
 passed-is s new pid zero same = ap silent (sym same)
 passed-is s new pid (suc n) made = inside-more n s pid made.me made.after made.lives made.step ∙ ap silent (sym made.only)

@@ -1,7 +1,7 @@
--- What a step leaves of restraints, by what it answered.
+-- The effect of a step on restraints, by its outcome.
 use Rattle.std.proofs.Common.{◌≡◌, ℕ, Result, Ok, Err}
 use Rattle.std.specs.Prelude.{IfOk, OnOk}
-use Rattle.pv_laws_states.specs.States.{IsWhole}
+use Rattle.pv_laws_states.specs.States.{IsValid}
 use Rattle.pv_model.specs.declared.kernel_fault.StepFault.{StepFault}
 use Rattle.pv_model.specs.declared.outcome.Outcome.{Outcome}
 use Rattle.pv_model.specs.Grammar.Programs.{program_of}
@@ -11,7 +11,7 @@ use Rattle.pv_laws_access.proofs.Images.{child-same, grows-never, others-keep}
 use Rattle.pv_session.specs.Restraints.{ChildBeginsAlike, GainsNothing, LeavesOthers}
 use Rattle.pv_session.specs.Running.{stepped}
 
-module _ (s : State) (pid : ℕ) (whole : IsWhole s) where
+module _ (s : State) (pid : ℕ) (whole : IsValid s) where
   gains-nothing : GainsNothing s pid (stepped s pid).outcome (stepped s pid).after
   gains-nothing p q at stays same_image = grows-never program_of s pid p q (whole-in_order s whole) at stays same_image
 

@@ -1,4 +1,4 @@
--- A step of the machine, by what is fetched and answered.
+-- A step of the machine, by the fetched instruction and the answer.
 use Rattle.std.proofs.Common.{◌≡◌, ◌∙◌, ℕ, ℤ, List, [], ap, sym, refl, Option, None, Some, Result, Ok, Err}
 use Rattle.std.specs.Prelude.{IfOk, OnOk}
 use Rattle.pv_calls_state.specs.Changes.{StepsInside}
@@ -31,7 +31,7 @@ pub step-inside : (s : State) (pid : ℕ) (me after : Process) → process_at s 
 unfolding step
 step-inside s pid me after at is = ap (step_of program_of s pid) at ∙ ap (step_by program_of s pid me) is
 
--- what is said of moved bytes
+-- the words for moved bytes
 moved : (after : State) (pid : ℕ) (p : Process) (call : Call) (outcome : Outcome) → ((d n : ℤ) (k : ℕ) → call ≡ Write d n → outcome ≡ Value k → buffer_of (process_at after pid) ≡ p.buffer)
     → moved_words after pid p call outcome ≡ moved_by (buffer_of (process_at after pid)) call outcome
 moved after pid p call (Text taken) keeps = refl
@@ -49,7 +49,7 @@ lines-of : (pid : ℕ) (p : Process) (call : Call) (a : Answered)
 unfolding call_lines lines_by
 lines-of pid p call a same = rw same refl
 
--- the lines of a call, by the buffer that it left
+-- the lines of a call, by the buffer after it
 pub called-lines_by : (s : State) (pid : ℕ) (me : Process) (call : Call) (a : Answered) → process_at s pid ≡ Some me → answer program_of s pid call ≡ a
     → call_lines pid me call a ≡ lines_by pid (buffer_of (process_at a.after pid)) call a.outcome a.walks
 called-lines_by s pid me call a at answered = lines-of pid me call a (moved a.after pid me call a.outcome keeps)
@@ -70,9 +70,9 @@ step-called s pid me call a at is answered =
     ∙ ap (λ (ls : List Line). let it : Stepped = record { after = a.after; outcome = a.outcome; lines = ls } in it)
     (called-lines_by s pid me call a at answered)
 
--- ---- what comes next
+-- ---- the next instruction
 
--- an instruction inside a process was made
+-- an instruction inside a process was carried out
 module _ (s : State) (pid : ℕ) (new : State) (made : StepsInside s pid new) where
   pub inside-is : stepped s pid ≡ record { after = new; outcome = Value 0; lines = [] }
   inside-is =
@@ -85,17 +85,17 @@ module _ (s : State) (pid : ℕ) (new : State) (made : StepsInside s pid new) wh
   pub inside-outcome : Value 0 ≡ (stepped s pid).outcome
   inside-outcome = sym (ap (λ (x : Stepped). x.outcome) inside-is)
 
--- a call comes next in a process
+-- a call is next in a process
 abbrev pub Asks : State → ℕ → Call → Type 0
 Asks s pid call = (me : Process) × (process_at s pid ≡ Some me) × (next me ≡ calls_for call)
 
 module _ (s : State) (pid : ℕ) (call : Call) (new : Running) where
-  -- a call that answered, as a step
+  -- an answered call, as a step
   pub called-is : (outcome : Outcome) → Asks s pid call → answer program_of s pid call ≡ record { after = new.state; outcome = outcome; walks = new.walks }
       → stepped s pid ≡ record { after = new.state; outcome = outcome; lines = lines_by pid (buffer_of (process_at new.state pid)) call outcome new.walks }
   called-is outcome fetched answered = step-called s pid fetched.0 call (record { after = new.state; outcome = outcome; walks = new.walks }) fetched.1 fetched.2 answered
 
-  -- its lines, by what the kernel tells after it
+  -- the lines of the call, by the kernel's state after it
   pub called-lines : (outcome : Outcome) → Asks s pid call → answer program_of s pid call ≡ record { after = new.state; outcome = outcome; walks = new.walks }
       → (front : Bytes) (walks : ℕ) → front ≡ buffer_of (process_at new.state pid) → walks ≡ new.walks → lines_by pid front call outcome walks ≡ (stepped s pid).lines
   called-lines outcome fetched answered front walks buffer begun =
@@ -115,12 +115,12 @@ module _ (s : State) (pid : ℕ) (call : Call) (new : Running) where
 pub gone-lines : (s t : State) (pid : ℕ) → s ≡ t → process_at s pid ≡ None → (stepped t pid).lines ≡ gone_lines pid
 gone-lines s t pid same none = ap (λ x. (stepped x pid).lines) (sym same) ∙ ap (λ (x : Stepped). x.lines) (step-gone s pid none)
 
--- nothing is written of no lines
+-- no lines write nothing
 pub written-none : (written : Option Bytes) → WrittenLines [] written written
 written-none None = refl
 written-none (Some had) = ap (λ (bs : Bytes). Some bs) (sym (append-nil had))
 
--- a sink to which nothing more was written has a beginning of any lines
+-- nothing is a prefix of any lines
 pub begins-none : (lines : List Line) (written : Option Bytes) → BeginsLines lines written written
 begins-none lines None = (0, refl)
 begins-none lines (Some had) = (0, ap (λ (bs : Bytes). Some bs) (sym (append-nil had)))

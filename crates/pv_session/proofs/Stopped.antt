@@ -1,4 +1,4 @@
--- Runs that stop for want of memory, step by step.
+-- Runs that stop for lack of memory, step by step.
 use Rattle.std.proofs.Common.{◌≡◌, ◌<◌, ◌+◌, ◌-◌, ◌++◌, ◌∙◌, ap, sym, subst, ℕ, suc, List, [], ◌∷◌, length, take, drop, get_or, append_assoc, arith, refl, Option, None, Result, Ok, Err}
 use Rattle.std.specs.Prelude.{replicate, IfErr, OnErr}
 use Rattle.std.proofs.lemmas.List.{replicate-append-replicate, take-append-drop}
@@ -19,15 +19,15 @@ use Rattle.pv_session.specs.Stopping.{NextLoads, StopsAtExecve, StopsOn, StopsUn
 use Rattle.pv_session.proofs.Stepping.{Asks, written-none}
 use Rattle.pv_session.proofs.Turns.{following, steps_more, written_after}
 
--- a call that comes next, and loads a program
+-- the next call loads a program
 pub next-loads : (s : State) (pid : ℕ) (call : Call) → Asks s pid call → LoadsProgram s pid call → NextLoads s pid
 next-loads s pid call fetched loads = record { me = fetched.0; call = call; lives = fetched.1; comes = fetched.2; loads = loads }
 
--- before the first step
+-- the run stops before the first step
 pub stops-here : (s : State) (pid : ℕ) (rest : List ℕ) (written : Option Bytes) → NextLoads s pid → StopsAtExecve (pid ∷ rest) s s written written
 stops-here s pid rest written loads = record { made = []; pid = pid; rest = rest; all = refl; left = refl; as_written = written-none written; loads = loads }
 
--- after steps that were made
+-- the run stops after steps that were made
 stops-after : (first pids : List ℕ) (s mid now : State) (before written after : Option Bytes) → mid ≡ (run program_of first s).final
     → WrittenLines (run program_of first s).lines before written → StopsAtExecve pids mid now written after → StopsAtExecve (first ++ pids) s now before after
 stops-after first pids s mid now before written after at lines stop =
@@ -42,7 +42,7 @@ stops-after first pids s mid now before written after at lines stop =
       loads = stop.loads;
     }
 
--- and before others that were to come
+-- the run stops before others that were to be made
 stops-before : (pids others : List ℕ) (s now : State) (before after : Option Bytes) → StopsAtExecve pids s now before after → StopsAtExecve (pids ++ others) s now before after
 stops-before pids others s now before after stop = record {
   made = stop.made;
@@ -61,7 +61,7 @@ within first pids others all is s mid now before written after at lines Memory e
     (stops-before (first ++ pids) others s now before after (stops-after first pids s mid now before written after at lines stop)))
 within first pids others all is s mid now before written after at lines Write e same stop = rw same tt
 
--- one step in the midst of a turn
+-- a step within a turn
 pub in-turn : (s mid now : State) (pid n count : ℕ) (before written after : Option Bytes) → n < count → mid ≡ (turn s pid n).final → WrittenLines (turn s pid n).lines before written
     → (f e : Stop) → e ≡ f → StopsOn f (pid ∷ []) mid now written after → StopsOn e (replicate count pid) s now before after
 in-turn s mid now pid n count before written after more at lines f e same stop =
@@ -73,7 +73,7 @@ in-turn s mid now pid n count before written after more at lines f e same stop =
         ap (λ m. replicate m pid) k ∙ sym (replicate-append-replicate n (suc (count - (n + 1))) pid)
         ∙ sym (append_assoc (replicate n pid) (pid ∷ []) (replicate (count - (n + 1)) pid))
 
--- a turn in the midst of a schedule
+-- a turn within a schedule
 pub in-schedule : (s mid now : State) (schedule : Schedule) (i : ℕ) (before written after : Option Bytes) → i < length schedule → mid ≡ (run_of_first s i schedule).final
     → WrittenLines (run_of_first s i schedule).lines before written → (f e : Stop) → e ≡ f
     → StopsOn f (replicate (get_or schedule i (0, 0)).1 (get_or schedule i (0, 0)).0) mid now written after → StopsOn e (steps_of schedule) s now before after
@@ -85,7 +85,7 @@ in-schedule s mid now schedule i before written after more at lines f e same sto
         sym (ap steps_of (take-append-drop (i + 1) schedule)) ∙ flat_map-append (λ e. replicate e.1 e.0) (take (i + 1) schedule) (drop (i + 1) schedule)
         ∙ ap (λ ps. ps ++ steps_of (drop (i + 1) schedule)) (steps_more schedule i more)
 
--- ---- a call that was refused for memory
+-- ---- a call that was refused for lack of memory
 
 pub stops-called : (s : State) (pid : ℕ) (call : Call) (new : State) (written : Option Bytes) → new ≡ s → Asks s pid call → LoadsProgram s pid call
     → (e : Stop) → e ≡ Memory → StopsOn e (pid ∷ []) s new written written
@@ -96,15 +96,15 @@ pub called-loads : (s t : State) (pid : ℕ) (call : Call) → s ≡ t → Asks 
 called-loads s t pid call same fetched (Ok outcome) loads = tt
 called-loads s t pid call same fetched (Err fault) loads = subst (λ (u : State). NextLoads u pid) same (next-loads s pid call fetched loads)
 
--- ---- of steps whose lines nobody reads
+-- ---- steps whose lines are not written
 
--- a step that was refused for memory, in the midst of a turn
+-- a step within a turn that was refused for lack of memory
 pub unread-in-turn : (s mid now : State) (pid n count : ℕ) → n < count → mid ≡ (turn s pid n).final → now ≡ mid → NextLoads mid pid → StopsUnread (replicate count pid) s now
 unread-in-turn s mid now pid n count more at same loads =
     in-turn s mid now pid n count None None None more at refl Memory Memory refl
     (subst (λ (t : State). StopsUnread (pid ∷ []) mid t) (sym same) (stops-here mid pid [] None loads))
 
--- a turn that stopped so, in the midst of a schedule
+-- a turn within a schedule that stopped like this
 pub unread-in-schedule : (s mid now : State) (schedule : Schedule) (i : ℕ) → i < length schedule → mid ≡ (run_of_first s i schedule).final
     → StopsUnread (replicate (get_or schedule i (0, 0)).1 (get_or schedule i (0, 0)).0) mid now → StopsUnread (steps_of schedule) s now
 unread-in-schedule s mid now schedule i more at stop = in-schedule s mid now schedule i None None None more at refl Memory Memory refl stop

@@ -1,4 +1,4 @@
--- What a step leaves of restraints: pledge(2), unveil(2).
+-- The effect of a step on restraints: pledge(2), unveil(2).
 use Rattle.std.specs.Prelude.{◌≡◌, ◌≢◌, ℕ, IsFalse, Some}
 use Rattle.pv_model.specs.declared.call.Call.TheVariants.{Fork}
 use Rattle.pv_model.specs.declared.outcome.Outcome.{Outcome}
@@ -8,19 +8,19 @@ use Rattle.pv_model.specs.State.{Process, State, process_at}
 use Rattle.pv_laws_access.specs.Growth.{HasTheSame, IsLeftAlone, MayDoNoMore, begins_image}
 
 module _ (before : State) (pid : ℕ) (outcome : Outcome) (after : State) where
-  -- in one program image: a process that stays live, and whose step is no execve that succeeded, may do no more
+  -- within one program image, a process that stays live and whose step is not a successful execve gains no right
   abbrev pub GainsNothing : Type 0
   GainsNothing =
       (p q : Process) → process_at before pid ≡ Some p → process_at after pid ≡ Some q
       → IsFalse (begins_image (next p) outcome) → MayDoNoMore p q
 
-  -- a child begins with its parent's restraints and descriptors
+  -- a child starts with the restraints and descriptors of its parent
   abbrev pub ChildBeginsAlike : Type 0
   ChildBeginsAlike =
       (p : Process) (n : ℕ) → process_at before pid ≡ Some p → next p ≡ calls_for Fork → outcome ≡ Value n
       → (child : Process) × (process_at after n ≡ Some child) × HasTheSame p child
 
--- the others stay live, with all that they had but their parent
+-- the other processes stay live and unchanged, except possibly for their parent
 abbrev pub LeavesOthers : State → ℕ → State → Type 0
 LeavesOthers before pid after =
     (other : ℕ) (p : Process) → other ≢ pid → process_at before other ≡ Some p

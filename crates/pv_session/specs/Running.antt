@@ -1,4 +1,4 @@
--- What a step and a run of the machine leave and write.
+-- The state after a step and a run of the machine, and the lines that they write.
 use Rattle.std.specs.Prelude.{◌≡◌, ℕ, List, take, replicate, Option}
 use Rattle.pv_model.specs.Bytes.{Bytes}
 use Rattle.pv_model.specs.Grammar.Programs.{program_of}
@@ -8,17 +8,17 @@ use Rattle.pv_model.specs.Trace.{Line, trace_bytes}
 use Rattle.pv_model.specs.Stream.{Rose}
 use Rattle.pv_session.specs.declared.session.Stop.{Stop}
 use Rattle.pv_session.specs.declared.session.Stop.TheVariants.{Memory, Write}
-use Rattle.pv_streams.specs.Sinks.{and_all, TellsBeginning}
+use Rattle.pv_streams.specs.Sinks.{and_all, WritesPrefix}
 
--- a step of the machine, whose programs are what files spell
+-- a step of the machine, whose programs are parsed from files
 abbrev pub stepped : State → ℕ → Stepped
 stepped s pid = step program_of s pid
 
--- so many steps of a process
+-- `count` steps of a process
 abbrev pub turn : State → ℕ → ℕ → Run
 turn s pid count = run program_of (replicate count pid) s
 
--- a run over the first turns of a schedule
+-- a run over the first `count` turns of a schedule
 abbrev pub run_of_first : State → ℕ → Schedule → Run
 run_of_first s count schedule = run program_of (steps_of (take count schedule)) s
 
@@ -26,15 +26,15 @@ run_of_first s count schedule = run program_of (steps_of (take count schedule)) 
 abbrev pub run_of : State → Schedule → Run
 run_of s schedule = run program_of (steps_of schedule) s
 
--- the text of lines is written after what was there
+-- the text of the lines is written after the earlier output
 abbrev pub WrittenLines : List Line → Option Bytes → Option Bytes → Type 0
 WrittenLines lines before after = after ≡ and_all before (trace_bytes lines)
 
--- a beginning of the text of lines is written
+-- a prefix of the text of the lines is written
 abbrev pub BeginsLines : List Line → Option Bytes → Option Bytes → Type 0
-BeginsLines lines before after = TellsBeginning (trace_bytes lines) before after
+BeginsLines lines before after = WritesPrefix (trace_bytes lines) before after
 
--- where a line could not be written a failure was counted, and where memory was refused none was
+-- a failed write was counted if a line could not be written, and none was counted if memory was refused
 abbrev pub FailsBy : Stop → ℕ → ℕ → Type 0
 FailsBy Memory before after = after ≡ before
 FailsBy Write before after = Rose before after

@@ -1,4 +1,4 @@
--- Where a run stops for want of memory: before an execve that leads to a program.
+-- The point at which out of memory can stop a run: before an execve that leads to a program.
 use Rattle.std.specs.Prelude.{◌≡◌, ⊤, ℕ, List, ◌∷◌, ◌++◌, Option, None, Some}
 use Rattle.pv_calls.specs.Loading.{LoadsProgram}
 use Rattle.pv_model.specs.declared.call.Call.{Call}
@@ -11,7 +11,7 @@ use Rattle.pv_session.specs.declared.session.Stop.{Stop}
 use Rattle.pv_session.specs.declared.session.Stop.TheVariants.{Memory, Write}
 use Rattle.pv_session.specs.Running.{WrittenLines}
 
--- the next step of a process is an execve that leads to an executable file, which its table allows
+-- the next step of a process is an execve that leads to an executable file that its table allows
 pub record NextLoads (s : State) (pid : ℕ) : Type 0 where
   pub me : Process
   pub call : Call
@@ -19,7 +19,7 @@ pub record NextLoads (s : State) (pid : ℕ) : Type 0 where
   pub comes : next me ≡ calls_for call
   pub loads : LoadsProgram s pid call
 
--- of the steps of these processes the first were made, and their lines written, and the next is such an execve
+-- the steps before an execve of this kind were made, and their lines were written
 pub record StopsAtExecve (pids : List ℕ) (s now : State) (before after : Option Bytes) : Type 0 where
   pub made : List ℕ
   pub pid : ℕ
@@ -29,11 +29,11 @@ pub record StopsAtExecve (pids : List ℕ) (s now : State) (before after : Optio
   pub as_written : WrittenLines (run program_of made s).lines before after
   pub loads : NextLoads now pid
 
--- want of memory stops there alone
+-- out of memory stops a run only there
 abbrev pub StopsOn : Stop → List ℕ → State → State → Option Bytes → Option Bytes → Type 0
 StopsOn Memory pids s now before after = StopsAtExecve pids s now before after
 StopsOn Write pids s now before after = ⊤
 
--- the same of steps whose lines nobody reads
+-- the same for steps whose lines are not written
 abbrev pub StopsUnread : List ℕ → State → State → Type 0
 StopsUnread pids s now = StopsAtExecve pids s now None None

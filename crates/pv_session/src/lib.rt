@@ -1,11 +1,11 @@
-//! The machine in use: steps, turns and schedules on the kernel, the lines that they write, and audits.
+//! A running machine: steps, turns and schedules on the kernel, with their trace lines and audits.
 //!
-//! `session` has `Session`, a kernel with the texts of its last call and the line buffer in which a step's lines are made. A
-//! clause sees it as the definitions' state. `step` is the definitions' step, `trace_step` writes its lines too, and `pass` makes
-//! steps on registers that follow one another at once. `audit` says what is found of a file, and what follows for every run
-//! from there: of a sealed file no run tells anything (confidentiality), and none changes a frozen one (integrity).
+//! `session` has `Session`, which owns a kernel, the texts of the last call, and the buffer for trace lines. A contract
+//! sees it as a state. `step` makes one step; `trace_step` also writes its lines; `pass` makes consecutive steps on
+//! registers at once. `audit` checks a file. If it is sealed, no later step depends on its bytes (confidentiality); if
+//! it is also frozen, no later step changes it (integrity).
 //!
-//! `running` makes the turns of a schedule: the lines of each step are written before the next is made.
+//! `running` runs the turns of a schedule and writes the lines of each step before it makes the next.
 #![tactic(auto)]
 
 mod running;

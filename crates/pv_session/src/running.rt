@@ -1,4 +1,4 @@
-//! Runs of the machine, whose lines are written step by step.
+//! Runs of schedules, with or without a trace.
 ghost use Rattle.std.specs.Prelude.{◌≡◌, ◌*◌, ◌≤◌, length, replicate, IfOk, IfErr, OnOk, OnErr};
 ghost use Rattle.pv_model.specs.declared.limits.TheConstants.{SCHEDULE_LINES};
 ghost use Rattle.pv_model.specs.Step.{steps_of};
@@ -10,8 +10,8 @@ use pv_model::StepFault;
 use pv_streams::Sink;
 use std::alloc::Global;
 
-// Makes so many steps of a process and writes the lines of each before the next: answers how many. Those on registers
-// that follow one another are made at once.
+// Makes `count` steps of a process, writes the lines of each step before it makes the next, and returns the number of
+// lines. Consecutive steps on registers are made at once.
 fn run_turn<W: Sink>(
     alloc: Global,
     session: &mut Session,
@@ -23,7 +23,7 @@ fn run_turn<W: Sink>(
     ensures whole { OnOk result (WrittenLines (turn session.old pid count).lines (W.written trace.old) (W.written trace.new)) }
     ensures lines { IfOk result (λ n. n ≡ length (turn session.old pid count).lines) }
     ensures few { IfOk result (λ n. n ≤ 7 * count) }
-    ensures beginning { OnErr result (BeginsLines (turn session.old pid count).lines (W.written trace.old) (W.written trace.new)) }
+    ensures prefix { OnErr result (BeginsLines (turn session.old pid count).lines (W.written trace.old) (W.written trace.new)) }
     ensures failed { IfErr result (λ stop. FailsBy stop (W.failures trace.old) (W.failures trace.new)) }
     ensures quiet { OnOk result (W.failures trace.new ≡ W.failures trace.old) }
     ensures stopped { IfErr result (λ stop. StopsOn stop (replicate count pid) session.old session.new (W.written trace.old) (W.written trace.new)) }
@@ -41,14 +41,13 @@ fn run_turn<W: Sink>(
     Ok(lines)
 }
 
-/// Makes the steps of a schedule and writes the lines of each before the next: answers how many lines
-/// they are.
+/// Runs a schedule, writes the lines of each step before it makes the next, and returns the number of lines.
 ///
 /// # Errors
 ///
-/// `Write` where a write failed: no step was made after it, and the sink was given a beginning of the lines. `Memory` where
-/// memory was refused for the program of an execve(2), which leads to an executable file that the process's table allows: that
-/// step was not made, and the sink was given just the lines of the steps before.
+/// - `Write`, if a write failed. No step was made after it, and the sink received a prefix of the lines.
+/// - `Memory`, if there is no memory for the program of an execve(2) that leads to an executable file allowed by the
+///   process's table. That step was not made, and the sink received exactly the lines of the earlier steps.
 pub fn run_schedule<W: Sink>(
     alloc: Global,
     session: &mut Session,
@@ -59,7 +58,7 @@ pub fn run_schedule<W: Sink>(
     ensures after { OnOk result (session.new ≡ (run_of session.old schedule.now).final) }
     ensures whole { OnOk result (WrittenLines (run_of session.old schedule.now).lines (W.written trace.old) (W.written trace.new)) }
     ensures lines { IfOk result (λ n. n ≡ length (run_of session.old schedule.now).lines) }
-    ensures beginning { OnErr result (BeginsLines (run_of session.old schedule.now).lines (W.written trace.old) (W.written trace.new)) }
+    ensures prefix { OnErr result (BeginsLines (run_of session.old schedule.now).lines (W.written trace.old) (W.written trace.new)) }
     ensures failed { IfErr result (λ stop. FailsBy stop (W.failures trace.old) (W.failures trace.new)) }
     ensures quiet { OnOk result (W.failures trace.new ≡ W.failures trace.old) }
     ensures stopped { IfErr result (λ stop. StopsOn stop (steps_of schedule.now) session.old session.new (W.written trace.old) (W.written trace.new)) }
@@ -71,7 +70,7 @@ pub fn run_schedule<W: Sink>(
     Ok(lines)
 }
 
-// Makes so many steps of a process, whose lines nobody reads: those on registers that follow one another at once.
+// Makes `count` steps of a process without writing lines. Consecutive steps on registers are made at once.
 fn pass_turn(alloc: Global, session: &mut Session, pid: u32, count: u32) -> Result<(), StepFault>
     ensures after { OnOk result (session.new ≡ (turn session.old pid count).final) }
     ensures stopped { OnErr result (StopsUnread (replicate count pid) session.old session.new) }
@@ -85,12 +84,12 @@ fn pass_turn(alloc: Global, session: &mut Session, pid: u32, count: u32) -> Resu
     Ok(())
 }
 
-/// Makes the steps of a schedule, whose lines nobody reads.
+/// Runs a schedule without writing lines.
 ///
 /// # Errors
 ///
-/// `NoMemory` where memory was refused for the program of an execve(2), which leads to an executable file that the
-/// process's table allows: that step was not made, and no step after it; those before it were.
+/// `NoMemory`, if there is no memory for the program of an execve(2) that leads to an executable file allowed by the
+/// process's table. That step was not made, and the run stops; the earlier steps were made.
 pub fn pass_schedule(
     alloc: Global,
     session: &mut Session,
@@ -105,7 +104,7 @@ pub fn pass_schedule(
     Ok(())
 }
 
-/// How many steps a schedule makes.
+/// Returns the number of steps of a schedule.
 pub fn step_count(schedule: &[(u32, u32)]) -> u64
     requires { length schedule.now ≤ SCHEDULE_LINES }
     ensures { result ≡ length (steps_of schedule.now) }

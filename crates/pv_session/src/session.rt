@@ -1,6 +1,6 @@
 //! The machine, step by step.
 ghost use Rattle.std.specs.Prelude.{◌≡◌, ◌⊎◌, ◌<◌, ◌≤◌, ◌∷◌, IfOk, IfErr, IsTrue, OnOk, OnErr, Ok, Err, Some, [], length};
-ghost use Rattle.pv_laws_states.specs.States.{IsFirstTree, IsWhole, is_call};
+ghost use Rattle.pv_laws_states.specs.States.{IsFirstTree, IsValid, is_call};
 ghost use Rattle.pv_model.specs.CallRef.{call_of};
 ghost use Rattle.pv_model.specs.declared.limits.TheConstants.{BUFFER};
 ghost use Rattle.pv_model.specs.Grammar.Programs.{program_of};
@@ -33,10 +33,10 @@ use pv_tree::{Store, Tree};
 use std::alloc::Global;
 use std::marker::Model;
 
-/// Why a run stops before its end.
+/// The reason why a run stops before its end.
 #[derive(Clone, Copy, Debug, PartialEq, Eq)]
 pub enum Stop {
-    /// Memory was refused for a step, which was not made.
+    /// There is no memory for a step. The step was not made.
     Memory,
     /// A line could not be written.
     Write,
@@ -58,14 +58,14 @@ impl From<Failed> for Stop {
     }
 }
 
-/// The machine on a tree: its state, which `step` moves on.
+/// A machine on a tree. `step` advances its state.
 #[derive(Drop)]
 pub struct Session {
-    // It stands apart, as the line buffer below, so that a session is small to move.
+    // Boxed, like the line buffer below, so that a session is cheap to move.
     kernel: Box<Kernel<CachedLookup>>,
-    // The texts of the call that was made last: those of each next one take their place.
+    // The texts of the last call, overwritten by the next.
     texts: CallTexts,
-    // What the lines of a trace are made on.
+    // The buffer in which trace lines are built.
     line_buffer: Box<LineBuffer>,
 }
 
@@ -77,7 +77,7 @@ impl Model for Session {
     ghost view = { λ s. s.kernel.value.state };
 }
 
-// Makes a call that comes next in a live process, and writes its lines: answers how many.
+// Makes the next call of a live process, writes its lines, and returns their number.
 fn trace_call<W: Sink>(
     alloc: Global,
     kernel: &mut Kernel<CachedLookup>,
@@ -92,7 +92,7 @@ fn trace_call<W: Sink>(
     ensures whole { OnOk result (WrittenLines (stepped kernel.old.state pid).lines (W.written trace.old) (W.written trace.new)) }
     ensures lines { IfOk result (λ n. n ≡ length (stepped kernel.old.state pid).lines) }
     ensures few { IfOk result (λ n. n ≤ 7) }
-    ensures beginning { OnErr result (BeginsLines (stepped kernel.old.state pid).lines (W.written trace.old) (W.written trace.new)) }
+    ensures prefix { OnErr result (BeginsLines (stepped kernel.old.state pid).lines (W.written trace.old) (W.written trace.new)) }
     ensures failed { IfErr result (λ stop. FailsBy stop (W.failures trace.old) (W.failures trace.new)) }
     ensures quiet { OnOk result (W.failures trace.new ≡ W.failures trace.old) }
     ensures stopped { IfErr result (λ stop. StopsOn stop (pid ∷ []) kernel.old.state kernel.new.state (W.written trace.old) (W.written trace.new)) }
@@ -104,12 +104,13 @@ fn trace_call<W: Sink>(
 }
 
 impl Session {
-    /// The machine before its first step on a tree.
+    /// Returns the machine before its first step on a tree.
     ///
     /// # Errors
     ///
-    /// `Init(0)` where the file `init` in the root is no executable file, `Init(n)` where line n of its program is the
-    /// least that is no instruction, and `Memory` where memory was refused.
+    /// - `Init(0)`, if the file `init` in the root is not an executable file.
+    /// - `Init(n)`, if line n is the first line of its program that is not an instruction.
+    /// - `Memory`, if there is no memory.
     pub fn new(alloc: Global, store: Store) -> Result<Session, BootFault>
         requires { IsFirstTree store }
         ensures booted { IfOk result (λ session. booted store ≡ Ok session) }
@@ -126,25 +127,26 @@ impl Session {
         }
     }
 
-    // The state is one that a run may reach.
+    // Does nothing. Its contract states that the state satisfies the invariant of all runs.
     fn invariant(&self)
-        ensures { IsWhole self.now }
+        ensures { IsValid self.now }
     {
         let _ = self.kernel.parts();
     }
 
-    /// Makes one step of a process: an instruction on registers, which answers 0, or a call. A process that is not live
-    /// answers `Gone`.
+    /// Makes one step of a process: an instruction on registers, whose outcome is 0, or a call. If the process is not
+    /// live, the outcome is `Gone`.
     ///
-    /// Each touch of the step is justified, in the state before it, by the promises that the process holds and by a place
-    /// that its table allows or a descriptor of its own. In one program image the process loses no restraint: its
-    /// pledge(2) promises and its unveil(2) table stay in force, and neither gains a keyword, an entry under the lock, or a
-    /// permission. The other processes keep all that they have, and a child begins with its parent's restraints.
+    /// Each touch of the step is justified in the state before the step: by the promises of the process, and by a place
+    /// that its table allows or by a descriptor that it holds. Within one program image a process loses no restraint.
+    /// Its promises and its table stay in force; the promises gain no keyword, a locked table gains no entry, and no
+    /// entry gains a permission. The other processes stay live and unchanged, except possibly for their parent. A child
+    /// starts with the restraints of its parent.
     ///
     /// # Errors
     ///
-    /// `NoMemory` where memory was refused for the program of an execve(2), which leads to an executable file that the
-    /// process's table allows; nothing has then changed.
+    /// `NoMemory`, if there is no memory for the program of an execve(2) that leads to an executable file allowed by
+    /// the process's table. The state is then unchanged.
     pub fn step(&mut self, alloc: Global, pid: u32) -> Result<Outcome, StepFault>
         ensures after { OnOk result (self.new ≡ (stepped self.old pid).after) }
         ensures outcome { IfOk result (λ outcome. outcome ≡ (stepped self.old pid).outcome) }
@@ -152,7 +154,8 @@ impl Session {
         ensures memory { OnErr result (NextLoads self.old pid) }
         ensures justified { IsJustified program_of self.old pid }
 
-        // In one program image nothing is gained; the others, and what a child begins with.
+        // The process gains nothing within one program image; the other processes keep what they have; a child starts
+        // restrained.
         ensures own { IfOk result (λ outcome. GainsNothing self.old pid outcome self.new) }
         ensures others { OnOk result (LeavesOthers self.old pid self.new) }
         ensures child { IfOk result (λ outcome. ChildBeginsAlike self.old pid outcome self.new) }
@@ -166,8 +169,8 @@ impl Session {
         }
     }
 
-    /// Makes the steps on registers that come next in a process, at most so many, one after another: answers how many.
-    /// They write no lines. Where the process is not live, they are none.
+    /// Carries out the next register instructions and jumps of a process, at most `most`, and returns their number: 0
+    /// if the process is not live. These steps write no lines.
     pub fn pass(&mut self, pid: u32, most: u32) -> u32
         ensures few { result ≤ most }
         ensures after { self.new ≡ (turn self.old pid result).final }
@@ -177,8 +180,8 @@ impl Session {
         self.kernel.pass(pid, most)
     }
 
-    /// The 4,096 bytes of a process's buffer: none where it is not live. The bytes that an outcome tells stand at its
-    /// front.
+    /// Returns the 4,096 bytes of a process's buffer, or no bytes if the process is not live. The bytes of an outcome
+    /// are at the front of the buffer.
     pub fn buffer(&self, pid: u32) -> &[u8]
         ensures value { result.now ≡ buffer_of (process_at self.now pid) }
         ensures size { length result.now ≤ BUFFER }
@@ -186,8 +189,9 @@ impl Session {
         self.kernel.buffer(pid)
     }
 
-    /// What comes next in a process: nothing where it is not live, an instruction on registers or a jump, or a call, with its
-    /// texts kept: past the last line, an exit. Nothing is made.
+    /// Returns the next instruction of a process: none if the process is not live, an instruction on registers or a
+    /// jump, or a call, whose texts are kept in `texts`. Past the last line the call is `exit 0`. The instruction is
+    /// not carried out.
     pub fn fetch<'a>(&self, pid: u32, texts: &'a mut CallTexts) -> Fetched<'a>
         ensures next { IsFetched result (process_at self.now pid) }
         ensures callable { IsCallable result }
@@ -195,7 +199,8 @@ impl Session {
         self.kernel.fetch(pid, texts)
     }
 
-    /// Makes the instruction on registers or the jump that comes next in a process, as `fetch` tells it.
+    /// Carries out the next instruction of a process, which must be an instruction on registers or a jump, as reported
+    /// by `fetch`.
     pub fn register(&mut self, pid: u32)
         requires { RegisterNext (process_at self.old pid) }
         ensures { StepsInside self.old pid self.new }
@@ -203,12 +208,12 @@ impl Session {
         self.kernel.register(pid);
     }
 
-    /// Makes the call that comes next in a process, as `fetch` tells it: what it answers, and how many walks it began. The
-    /// bytes that an outcome tells stand at the front of the process's buffer.
+    /// Makes the next call of a process, as reported by `fetch`, and returns its outcome and the number of walks that
+    /// it began. The bytes of the outcome are at the front of the process's buffer.
     ///
     /// # Errors
     ///
-    /// `NoMemory` as in `step`; nothing has then changed.
+    /// `NoMemory`, as for `step`. The state is then unchanged.
     pub fn call(&mut self, alloc: Global, pid: u32, call: CallRef<'_>) -> Result<Answer, StepFault>
         requires next { CallsNext call (process_at self.old pid) }
         requires callable { IsTrue (is_call (call_of call)) }
@@ -221,32 +226,33 @@ impl Session {
         Ok(Answer { outcome, walks })
     }
 
-    /// The tree.
+    /// Returns the tree.
     pub fn tree(&self) -> &Tree
         ensures { result.now.tree ≡ self.now.tree }
     {
         self.kernel.tree()
     }
 
-    /// The parts of the system: between any two steps their state is one that a run may reach.
+    /// Returns the state. Between two steps it satisfies the invariant of all runs.
     pub fn parts(&self) -> &Parts
         ensures value { result.now ≡ self.now }
-        ensures whole { IsWhole self.now }
+        ensures whole { IsValid self.now }
     {
         self.kernel.parts()
     }
 
-    /// What is found of the file that a path names: walked from the root, following links, unjudged. It takes no memory.
+    /// Audits the file at a path. The path is walked from the root; links are followed, and no unveil table applies.
+    /// Does not allocate.
     ///
-    /// Where a file is found sealed, nothing that any process does from here on depends on its bytes: with any others, as
-    /// many, every run tells the same text, byte for byte, and leaves the same state but for those bytes. Where it is found
-    /// sealed and frozen, no run changes them either. Else the least process is told that is not closed to it, and the first
-    /// reason why.
+    /// If the file is sealed, nothing that any process does from here on depends on its bytes. With any other bytes of
+    /// the same number, every run writes the same trace, byte for byte, and leaves the same state except for those
+    /// bytes. If the file is also frozen, no run changes its bytes. Otherwise the verdict names the least process that
+    /// is not closed to the file, and the first reason.
     ///
     /// # Errors
     ///
-    /// `Walk` with the error that the walk answers, or `ENOENT` where it ends with no node; `NotFile` where the path names
-    /// no file.
+    /// - `Walk` with the error of the walk, or with `ENOENT` if nothing exists at the path.
+    /// - `NotFile`, if the path does not name a file.
     pub fn audit(&self, path: &[u8]) -> Result<Verdict, AuditFault>
         ensures found { result ≡ audit_by_definition self.now path.now }
         ensures secret { KeepsSecret self.now path.now result }
@@ -254,11 +260,12 @@ impl Session {
         audit(self.kernel.parts(), path)
     }
 
-    /// What is found of a file by its number, as `audit` tells it of a path. It takes no memory.
+    /// Audits the file of a node, as `audit` does for a path. Does not allocate.
     ///
     /// # Errors
     ///
-    /// `NotFile` where no file has the number, and `Walk` with `ENOENT` where the file has no name.
+    /// - `NotFile`, if the node is not a file.
+    /// - `Walk` with `ENOENT`, if the file has no name.
     pub fn audit_node(&self, node: u16) -> Result<Verdict, AuditFault>
         ensures found { result ≡ audit_of self.now (Some node) }
         ensures secret { KeepsSecretAt self.now node result }
@@ -266,12 +273,13 @@ impl Session {
         audit_node(self.kernel.parts(), node)
     }
 
-    /// Makes a step of a process and writes its lines, which are at most seven: answers how many.
+    /// Makes a step of a process, writes its lines, at most seven, and returns their number.
     ///
     /// # Errors
     ///
-    /// `Memory` where memory was refused for the program of an execve(2), as in `step`: the step was not made, and nothing
-    /// was written. `Write` where a write failed: the sink was given a beginning of the lines.
+    /// - `Memory`, if there is no memory for the program of an execve(2), as for `step`. The step was not made, and
+    ///   nothing was written.
+    /// - `Write`, if a write failed. The sink received a prefix of the lines.
     pub fn trace_step<W: Sink>(
         &mut self,
         alloc: Global,
@@ -282,7 +290,7 @@ impl Session {
         ensures whole { OnOk result (WrittenLines (stepped self.old pid).lines (W.written trace.old) (W.written trace.new)) }
         ensures lines { IfOk result (λ n. n ≡ length (stepped self.old pid).lines) }
         ensures few { IfOk result (λ n. n ≤ 7) }
-        ensures beginning { OnErr result (BeginsLines (stepped self.old pid).lines (W.written trace.old) (W.written trace.new)) }
+        ensures prefix { OnErr result (BeginsLines (stepped self.old pid).lines (W.written trace.old) (W.written trace.new)) }
         ensures failed { IfErr result (λ stop. FailsBy stop (W.failures trace.old) (W.failures trace.new)) }
         ensures quiet { OnOk result (W.failures trace.new ≡ W.failures trace.old) }
         ensures stopped { IfErr result (λ stop. StopsOn stop (pid ∷ []) self.old self.new (W.written trace.old) (W.written trace.new)) }

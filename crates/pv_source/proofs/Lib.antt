@@ -1,11 +1,11 @@
--- Lemmas of sources: SourceWords (the words of a line), SourceLines (lines that count, and the lines of a body), SourceBlocks (blocks),
--- SourceEntries (the entries of blocks), SourcePrograms (labels and instructions), ToldLines (the lines that are told), SaidBytes (what is said of them),
--- WrittenTexts (what is written).
+-- Lemmas of sources: SourceWords (the words of a line), SourceLines (lines with words, and the lines of a body),
+-- SourceBlocks (blocks), SourceEntries (the entries of blocks), SourcePrograms (labels and instructions), ReportedLines
+-- (the lines that are reported), SaidBytes (their messages), WrittenTexts (the translation).
 pub mod SaidBytes
 pub mod SourceBlocks
 pub mod SourceEntries
 pub mod SourceLines
 pub mod SourcePrograms
 pub mod SourceWords
-pub mod ToldLines
+pub mod ReportedLines
 pub mod WrittenTexts

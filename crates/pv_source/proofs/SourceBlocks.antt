@@ -21,14 +21,14 @@ pub not_false : (t : Bool) → not t ≡ false → t ≡ true
 not_false true is = refl
 not_false false is = cc
 
--- lines that belong to the block before are left out
+-- lines that belong to the previous block are skipped
 pub blocks_skip : (lines : List NumberedLine) (k : ℕ) → blocks_from lines k ≡ blocks_from (drop k lines) 0
 blocks_skip [] zero = refl
 blocks_skip [] (suc k) = refl
 blocks_skip (line ∷ lines) zero = refl
 blocks_skip (line ∷ lines) (suc k) = blocks_skip lines k
 
--- the blocks from the first line on that counts
+-- the blocks from the first line with a word on
 abbrev pub blocks_then : Option (NumberedWords × List NumberedLine) → List Block
 blocks_then None = []
 blocks_then (Some p) = blocks_at p.0.0 p.0.1 p.1 (blocks_from p.1)
@@ -54,7 +54,7 @@ module _ (n : ℕ) (word : Bytes) (words : List Bytes) (lines rest : List Number
   pub exec_begins : bytes_eq word (codes "schedule") ≡ false → bytes_eq word (codes "exec") ≡ true → blocks_from lines 0 ≡ or_cut_off n (blocks_from rest) (exec_block n words rest)
   exec_begins not_schedule is = from_first ∙ rw (not_schedule, is) (ap (λ ws. or_cut_off n (blocks_from rest) (exec_block n ws rest)) (sym begins.1))
 
--- a number held at the greatest of 32 bits says as much of lines, of which there are fewer
+-- a number saturated to 32 bits selects the same lines, because there are fewer
 pub taken_held : (n : ℕ) (words : List Bytes) (lines : List NumberedLine) (o : Option ℕ) (count : ℕ) → option_map up_to_greatest o ≡ Some count → length lines < 4294967295
     → exec_by n words lines None (Some count) ≡ exec_by n words lines None o
 taken_held n words lines None count is few = cc
@@ -75,7 +75,7 @@ pub none_held : (o : Option ℕ) → option_map up_to_greatest o ≡ None → o 
 none_held None is = refl
 none_held (Some k) is = cc
 
--- a block that was read, and the blocks after it
+-- a parsed block, and the blocks after it
 pub read_first : (n : ℕ) (lines : List NumberedLine) (expected : Option (Block × ℕ)) (p : ReadBlock × Lines) → Reads (Some p) expected lines
     → or_cut_off n (blocks_from lines) expected ≡ block_of p.0 ∷ blocks_from (numbered p.1) 0
 read_first n lines expected p reads =

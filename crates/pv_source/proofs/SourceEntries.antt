@@ -18,7 +18,7 @@ use Rattle.pv_model.specs.Source.Words.{between, words_from}
 use Rattle.pv_source.proofs.SourceLines.{length-counted}
 use Rattle.pv_source.proofs.WrittenTexts.{bytes_counted}
 
--- words that were put in a new line
+-- words that were appended to an empty line
 pub joined_is : (before after text : Bytes) → after ≡ before ++ text → before ≡ [] → after ≡ text
 joined_is before after text is none = is ∙ ap (λ bs. bs ++ text) none
 
@@ -50,7 +50,7 @@ module _ (b : ReadBlock) (is : b.kind ≡ Taken) where
       ap (λ k. entry_of_block (block_by k b.number its_words (numbered_text (b.number + 1) b.body.now))) is
       ∙ rw enough (ap (λ ls. executable ls (exec_path its_words)) (bytes_counted (b.number + 1) (lines_of b.body.now)))
 
--- sizes that are held are those of some sizes
+-- saturated sizes are the saturation of some sizes
 pub held_found : (o : Option (ℕ × ℕ)) (blocks inodes : ℕ) → ◌≡◌ {A = Option (ℕ × ℕ)} (Some (blocks, inodes)) (option_map held_sizes o) → (sizes : ℕ × ℕ) × (o ≡ Some sizes) × (held_sizes sizes ≡ (blocks, inodes))
 held_found None blocks inodes is = cc
 held_found (Some sizes) blocks inodes is = (sizes, refl, let same : ◌≡◌ {A = ℕ × ℕ} (blocks, inodes) (held_sizes sizes) = cc in sym same)

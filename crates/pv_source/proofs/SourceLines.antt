@@ -1,4 +1,4 @@
--- The lines of a source: those that count, and those that belong to a block.
+-- The lines of a source: those with words, and those that belong to a block.
 use Rattle.std.proofs.Common.{◌≡◌, ◌≢◌, ◌∙◌, ap, ℕ, suc, ◌+◌, ◌-◌, ◌<◌, Bool, true, false, cond, eqb, List, [], ◌∷◌, ◌++◌, length, take, drop, Option, None, Some, refl, sym, subst, inl, inr, ◌⊎◌, arith, append_assoc}
 use Rattle.std.specs.Prelude.{option_map}
 use Rattle.std.proofs.Math.Seq.{take-append_seam, drop-append-add}
@@ -12,7 +12,7 @@ use Rattle.pv_model.specs.Source.Blocks.{lines_up_to}
 use Rattle.pv_model.specs.Source.Words.{NumberedLine, words_of, is_alone}
 use Rattle.pv_text.specs.Lines.{IsSplit}
 
--- ---- lines that count
+-- ---- lines with words
 
 module _ (n : ℕ) (text line following : Bytes) (split : lines_of text ≡ line ∷ lines_of following) where
   at_first : first_that_counts (numbered_text n text) ≡ if_words n (words_of line) (numbered_text (n + 1) following) (first_that_counts (numbered_text (n + 1) following))
@@ -42,11 +42,11 @@ length-counted n (x ∷ xs) = ap suc (length-counted (n + 1) xs)
 
 -- ---- the lines of a body
 
--- whatever stands after a text does not change its lines
+-- the text after a text does not change its lines
 abbrev pub IsClosed : Bytes → Type 0
 IsClosed front = (x : Bytes) → lines_of (front ++ x) ≡ lines_of front ++ lines_of x
 
--- a line that is one before some text is one before any
+-- a line before some text is a line before every text
 pub line_before : (line rest x : Bytes) → lines_of (line ++ 10 ∷ rest) ≡ line ∷ lines_of rest → lines_of (line ++ 10 ∷ x) ≡ line ∷ lines_of x
 line_before [] rest x is = refl
 line_before (b ∷ line) rest x is = by (eqb b 10) is (line_before line rest x)
@@ -66,7 +66,7 @@ line_before (b ∷ line) rest x is = by (eqb b 10) is (line_before line rest x)
     by true e h = cc
     by false e h = after_other (onto_some (lines_of (line ++ 10 ∷ rest)) e) h
 
--- what a loop over the lines of a body keeps
+-- the invariant of a loop over the lines of a body
 pub record IsBodySoFar (text rest : Bytes) (count : ℕ) : Type 0 where
   pub front : Bytes
   pub is : text ≡ front ++ rest
@@ -77,7 +77,7 @@ pub record IsBodySoFar (text rest : Bytes) (count : ℕ) : Type 0 where
 pub IsBodySoFar-start : (text : Bytes) → IsBodySoFar text text 0
 IsBodySoFar-start text = record { front = []; is = refl; lines = refl; counted = refl; open_end = inl (λ x. refl) }
 
-module _ (text rest line following : Bytes) (count : ℕ) (split : lines_of rest ≡ line ∷ lines_of following) (kept : IsBodySoFar text rest count) where
+module _ (text rest line following : Bytes) (count : ℕ) (split : lines_of rest ≡ line ∷ lines_of following) (preserved : IsBodySoFar text rest count) where
   abbrev ended_line : Bytes
   ended_line = line ++ 10 ∷ []
 
@@ -90,83 +90,83 @@ module _ (text rest line following : Bytes) (count : ℕ) (split : lines_of rest
   longer : (ls : List Bytes) → length ls ≡ count → length (ls ++ line ∷ []) ≡ count + 1
   longer ls is = omega (arith, length-append ls (line ∷ []))
 
-  step_closed : rest ≡ line ++ 10 ∷ following → IsClosed kept.front → IsBodySoFar text following (count + 1)
+  step_closed : rest ≡ line ++ 10 ∷ following → IsClosed preserved.front → IsBodySoFar text following (count + 1)
   step_closed whole closed =
       let here : (x : Bytes) → lines_of (line ++ 10 ∷ x) ≡ line ∷ lines_of x = λ x. line_before line following x (ap lines_of (sym whole) ∙ split) in
-      let front' : Bytes = kept.front ++ ended_line in
-      let any : (x : Bytes) → lines_of (front' ++ x) ≡ lines_of kept.front ++ line ∷ lines_of x =
-      λ x. ap lines_of (append_assoc kept.front ended_line x ∙ ap (λ bs. kept.front ++ bs) (with_end x)) ∙ closed (line ++ 10 ∷ x) ∙ ap (λ ls. lines_of kept.front ++ ls) (here x) in
-      let alone : lines_of front' ≡ lines_of kept.front ++ line ∷ [] = ap lines_of (sym (append-nil front')) ∙ any [] in
+      let front' : Bytes = preserved.front ++ ended_line in
+      let any : (x : Bytes) → lines_of (front' ++ x) ≡ lines_of preserved.front ++ line ∷ lines_of x =
+      λ x. ap lines_of (append_assoc preserved.front ended_line x ∙ ap (λ bs. preserved.front ++ bs) (with_end x)) ∙ closed (line ++ 10 ∷ x) ∙ ap (λ ls. lines_of preserved.front ++ ls) (here x) in
+      let alone : lines_of front' ≡ lines_of preserved.front ++ line ∷ [] = ap lines_of (sym (append-nil front')) ∙ any [] in
       record {
         front = front';
-        is = kept.is ∙ ap (λ bs. kept.front ++ bs) (whole ∙ sym (with_end following)) ∙ sym (append_assoc kept.front ended_line following);
-        lines = kept.lines ∙ ap (λ ls. lines_of kept.front ++ ls) split ∙ sym (pushed (lines_of kept.front)) ∙ ap (λ ls. ls ++ lines_of following) (sym alone);
-        counted = ap length alone ∙ longer (lines_of kept.front) kept.counted;
-        open_end = inl (λ x. any x ∙ sym (append_assoc (lines_of kept.front) (line ∷ []) (lines_of x)) ∙ ap (λ ls. ls ++ lines_of x) (sym alone));
+        is = preserved.is ∙ ap (λ bs. preserved.front ++ bs) (whole ∙ sym (with_end following)) ∙ sym (append_assoc preserved.front ended_line following);
+        lines = preserved.lines ∙ ap (λ ls. lines_of preserved.front ++ ls) split ∙ sym (pushed (lines_of preserved.front)) ∙ ap (λ ls. ls ++ lines_of following) (sym alone);
+        counted = ap length alone ∙ longer (lines_of preserved.front) preserved.counted;
+        open_end = inl (λ x. any x ∙ sym (append_assoc (lines_of preserved.front) (line ∷ []) (lines_of x)) ∙ ap (λ ls. ls ++ lines_of x) (sym alone));
       }
 
   step_last : following ≡ [] → IsBodySoFar text following (count + 1)
   step_last none =
       let none_left : lines_of following ≡ [] = ap lines_of none in
-      let all : lines_of text ≡ lines_of kept.front ++ line ∷ [] = kept.lines ∙ ap (λ ls. lines_of kept.front ++ ls) (split ∙ ap (λ ls. line ∷ ls) none_left) in
+      let all : lines_of text ≡ lines_of preserved.front ++ line ∷ [] = preserved.lines ∙ ap (λ ls. lines_of preserved.front ++ ls) (split ∙ ap (λ ls. line ∷ ls) none_left) in
       record {
         front = text;
         is = sym (append-nil text) ∙ ap (λ bs. text ++ bs) (sym none);
         lines = sym (append-nil (lines_of text)) ∙ ap (λ ls. lines_of text ++ ls) (sym none_left);
-        counted = ap length all ∙ longer (lines_of kept.front) kept.counted;
+        counted = ap length all ∙ longer (lines_of preserved.front) preserved.counted;
         open_end = inr none;
       }
 
   pub IsBodySoFar-step : IsSplit rest line following → IsBodySoFar text following (count + 1)
   IsBodySoFar-step (inr last) = step_last last.1
-  IsBodySoFar-step (inl whole) = by kept.open_end
+  IsBodySoFar-step (inl whole) = by preserved.open_end
     where
-      by : IsClosed kept.front ⊎ (rest ≡ []) → IsBodySoFar text following (count + 1)
+      by : IsClosed preserved.front ⊎ (rest ≡ []) → IsBodySoFar text following (count + 1)
       by (inl closed) = step_closed whole closed
-      by (inr none) = let wrong : line ∷ lines_of following ≡ [] = sym split ∙ ap lines_of none in cc
+      by (inr none) = let invalid : line ∷ lines_of following ≡ [] = sym split ∙ ap lines_of none in cc
 
 -- the front is the text up to the rest
-pub front_is : (text rest : Bytes) (count : ℕ) (kept : IsBodySoFar text rest count) → take (length text - length rest) text ≡ kept.front
-front_is text rest count kept =
-    let size : length text - length rest ≡ length kept.front = omega (arith, ap length kept.is, length-append kept.front rest) in
-    rw size (ap (take (length kept.front)) kept.is ∙ take-append_seam kept.front rest)
+pub front_is : (text rest : Bytes) (count : ℕ) (preserved : IsBodySoFar text rest count) → take (length text - length rest) text ≡ preserved.front
+front_is text rest count preserved =
+    let size : length text - length rest ≡ length preserved.front = omega (arith, ap length preserved.is, length-append preserved.front rest) in
+    rw size (ap (take (length preserved.front)) preserved.is ∙ take-append_seam preserved.front rest)
 
-module _ (text rest : Bytes) (n count : ℕ) (kept : IsBodySoFar text rest count) where
-  numbered_parts : numbered_text n text ≡ numbered_text n kept.front ++ numbered_text (n + count) rest
+module _ (text rest : Bytes) (n count : ℕ) (preserved : IsBodySoFar text rest count) where
+  numbered_parts : numbered_text n text ≡ numbered_text n preserved.front ++ numbered_text (n + count) rest
   numbered_parts =
-      ap (counted_from n) kept.lines ∙ counted-append n (lines_of kept.front) (lines_of rest)
-      ∙ ap (λ k. numbered_text n kept.front ++ numbered_text (n + k) rest) kept.counted
+      ap (counted_from n) preserved.lines ∙ counted-append n (lines_of preserved.front) (lines_of rest)
+      ∙ ap (λ k. numbered_text n preserved.front ++ numbered_text (n + k) rest) preserved.counted
 
-  numbered_length : length (numbered_text n kept.front) ≡ count
-  numbered_length = length-counted n (lines_of kept.front) ∙ kept.counted
+  numbered_length : length (numbered_text n preserved.front) ≡ count
+  numbered_length = length-counted n (lines_of preserved.front) ∙ preserved.counted
 
-  first_lines : take count (numbered_text n text) ≡ numbered_text n kept.front
+  first_lines : take count (numbered_text n text) ≡ numbered_text n preserved.front
   first_lines =
       ap (take count) numbered_parts
-      ∙ subst (λ k. take k (numbered_text n kept.front ++ numbered_text (n + count) rest) ≡ numbered_text n kept.front) numbered_length (take-append_seam (numbered_text n kept.front) (numbered_text (n + count) rest))
+      ∙ subst (λ k. take k (numbered_text n preserved.front ++ numbered_text (n + count) rest) ≡ numbered_text n preserved.front) numbered_length (take-append_seam (numbered_text n preserved.front) (numbered_text (n + count) rest))
 
   later_lines : (more : ℕ) → drop (count + more) (numbered_text n text) ≡ drop more (numbered_text (n + count) rest)
   later_lines more =
       ap (drop (count + more)) numbered_parts
-      ∙ subst (λ k. drop (k + more) (numbered_text n kept.front ++ numbered_text (n + count) rest) ≡ drop more (numbered_text (n + count) rest)) numbered_length
-      (drop-append-add (numbered_text n kept.front) (numbered_text (n + count) rest) more)
+      ∙ subst (λ k. drop (k + more) (numbered_text n preserved.front ++ numbered_text (n + count) rest) ≡ drop more (numbered_text (n + count) rest)) numbered_length
+      (drop-append-add (numbered_text n preserved.front) (numbered_text (n + count) rest) more)
 
-  -- so many lines are taken
+  -- `count` lines are taken
   pub takes : (lines after : Lines) (body : Bytes) → lines.text.now ≡ text → lines.number ≡ n → body ≡ take (length text - length rest) text → after.text.now ≡ rest → after.number ≡ n + count
       → Takes count lines body after
   takes lines after body text_is number_is body_is rest_is next_is =
-      let front : body ≡ kept.front = body_is ∙ front_is text rest count kept in
+      let front : body ≡ preserved.front = body_is ∙ front_is text rest count preserved in
       let same : count + 0 ≡ count = omega arith in
       record {
-        enough = rw text_is (omega (arith, ap length kept.lines, length-append (lines_of kept.front) (lines_of rest), kept.counted));
+        enough = rw text_is (omega (arith, ap length preserved.lines, length-append (lines_of preserved.front) (lines_of rest), preserved.counted));
         first = rw (text_is, number_is, front) first_lines;
         after = rw (text_is, number_is, rest_is, next_is) (subst (λ k. drop k (numbered_text n text) ≡ numbered_text (n + count) rest) same (later_lines 0));
       }
 
--- fewer lines are there
+-- there are fewer lines
 pub fewer : (text rest : Bytes) (count most : ℕ) → IsBodySoFar text rest count → lines_of rest ≡ [] → count < most → length (lines_of text) < most
-fewer text rest count most kept none less =
-    omega (arith, ap length kept.lines, length-append (lines_of kept.front) (lines_of rest), kept.counted, ap length none)
+fewer text rest count most preserved none less =
+    omega (arith, ap length preserved.lines, length-append (lines_of preserved.front) (lines_of rest), preserved.counted, ap length none)
 
 -- ---- up to a mark
 
@@ -197,52 +197,52 @@ onto_more : (front : List NumberedLine) (line : NumberedLine) (o : Option (List 
 onto_more front line None = refl
 onto_more front line (Some body) = ap (λ ls. Some ls) (sym (append_assoc front (line ∷ []) body))
 
-module _ (mark text rest line following : Bytes) (n k : ℕ) (split : lines_of rest ≡ line ∷ lines_of following) (kept : IsUnmarkedSoFar mark text rest n k) where
+module _ (mark text rest line following : Bytes) (n k : ℕ) (split : lines_of rest ≡ line ∷ lines_of following) (preserved : IsUnmarkedSoFar mark text rest n k) where
   here : (marks : Bool) → marks ≡ is_alone mark (words_of line)
       → lines_up_to mark (numbered_text k rest) ≡ cond marks (Some []) (option_map (λ body. (k, line) ∷ body) (lines_up_to mark (numbered_text (k + 1) following)))
   here marks is = ap (λ ls. lines_up_to mark (counted_from k ls)) split ∙ ap (λ t. cond t (Some []) (option_map (λ body. (k, line) ∷ body) (lines_up_to mark (numbered_text (k + 1) following)))) (sym is)
 
   pub IsUnmarkedSoFar-step : false ≡ is_alone mark (words_of line) → IsSplit rest line following → IsUnmarkedSoFar mark text following n (k + 1)
   IsUnmarkedSoFar-step other bytes =
-      let body' = IsBodySoFar-step text rest line following kept.count split kept.body bytes in
-      let all : lines_of body'.front ≡ lines_of kept.body.front ++ line ∷ [] = fronts body' in
+      let body' = IsBodySoFar-step text rest line following preserved.count split preserved.body bytes in
+      let all : lines_of body'.front ≡ lines_of preserved.body.front ++ line ∷ [] = fronts body' in
       record {
-        count = kept.count + 1;
+        count = preserved.count + 1;
         body = body';
-        number = omega (arith, kept.number);
+        number = omega (arith, preserved.number);
         unmarked =
-            kept.unmarked ∙ ap (onto_lines (numbered_text n kept.body.front)) (here false other)
-            ∙ onto_more (numbered_text n kept.body.front) (k, line) (lines_up_to mark (numbered_text (k + 1) following))
+            preserved.unmarked ∙ ap (onto_lines (numbered_text n preserved.body.front)) (here false other)
+            ∙ onto_more (numbered_text n preserved.body.front) (k, line) (lines_up_to mark (numbered_text (k + 1) following))
             ∙ ap (λ front. onto_lines front (lines_up_to mark (numbered_text (k + 1) following))) (sym (numbers body'.front all));
       }
     where
-      fronts : (body' : IsBodySoFar text following (kept.count + 1)) → lines_of body'.front ≡ lines_of kept.body.front ++ line ∷ []
-      fronts body' = append_cancel_right (lines_of body'.front) (lines_of kept.body.front ++ line ∷ []) (lines_of following)
-          (sym body'.lines ∙ kept.body.lines ∙ ap (λ ls. lines_of kept.body.front ++ ls) split ∙ sym (append_assoc (lines_of kept.body.front) (line ∷ []) (lines_of following)))
+      fronts : (body' : IsBodySoFar text following (preserved.count + 1)) → lines_of body'.front ≡ lines_of preserved.body.front ++ line ∷ []
+      fronts body' = append_cancel_right (lines_of body'.front) (lines_of preserved.body.front ++ line ∷ []) (lines_of following)
+          (sym body'.lines ∙ preserved.body.lines ∙ ap (λ ls. lines_of preserved.body.front ++ ls) split ∙ sym (append_assoc (lines_of preserved.body.front) (line ∷ []) (lines_of following)))
 
-      numbers : (front : Bytes) → lines_of front ≡ lines_of kept.body.front ++ line ∷ [] → numbered_text n front ≡ numbered_text n kept.body.front ++ (k, line) ∷ []
+      numbers : (front : Bytes) → lines_of front ≡ lines_of preserved.body.front ++ line ∷ [] → numbered_text n front ≡ numbered_text n preserved.body.front ++ (k, line) ∷ []
       numbers front all =
-          let at : n + length (lines_of kept.body.front) ≡ k = omega (arith, kept.body.counted, kept.number) in
-          ap (counted_from n) all ∙ counted-append n (lines_of kept.body.front) (line ∷ []) ∙ ap (λ m. numbered_text n kept.body.front ++ (m, line) ∷ []) at
+          let at : n + length (lines_of preserved.body.front) ≡ k = omega (arith, preserved.body.counted, preserved.number) in
+          ap (counted_from n) all ∙ counted-append n (lines_of preserved.body.front) (line ∷ []) ∙ ap (λ m. numbered_text n preserved.body.front ++ (m, line) ∷ []) at
 
   -- the mark ends a body
   pub ends : (lines after : Lines) (body : Bytes) → true ≡ is_alone mark (words_of line) → lines.text.now ≡ text → lines.number ≡ n → body ≡ take (length text - length rest) text → after.text.now ≡ following
       → after.number ≡ k + 1 → Ends mark lines body after
   ends lines after body marks text_is number_is body_is rest_is next_is =
-      let front : body ≡ kept.body.front = body_is ∙ front_is text rest kept.count kept.body in
-      let sum : kept.count + 1 ≡ suc kept.count = omega arith in
-      let at : n + kept.count ≡ k = omega (arith, kept.number) in
-      let later : drop (suc kept.count) (numbered_text n text) ≡ drop 1 (numbered_text k rest) =
+      let front : body ≡ preserved.body.front = body_is ∙ front_is text rest preserved.count preserved.body in
+      let sum : preserved.count + 1 ≡ suc preserved.count = omega arith in
+      let at : n + preserved.count ≡ k = omega (arith, preserved.number) in
+      let later : drop (suc preserved.count) (numbered_text n text) ≡ drop 1 (numbered_text k rest) =
       subst (λ c. drop c (numbered_text n text) ≡ drop 1 (numbered_text k rest)) sum
-      (later_lines text rest n kept.count kept.body 1 ∙ ap (λ m. drop 1 (numbered_text m rest)) at) in
+      (later_lines text rest n preserved.count preserved.body 1 ∙ ap (λ m. drop 1 (numbered_text m rest)) at) in
       record {
         before =
             rw (text_is, number_is, front)
-            (kept.unmarked ∙ ap (onto_lines (numbered_text n kept.body.front)) (here true marks) ∙ ap (λ ls. Some ls) (append-nil (numbered_text n kept.body.front)));
+            (preserved.unmarked ∙ ap (onto_lines (numbered_text n preserved.body.front)) (here true marks) ∙ ap (λ ls. Some ls) (append-nil (numbered_text n preserved.body.front)));
         after =
-            rw (text_is, number_is, rest_is, next_is, front, kept.body.counted) (later ∙ ap (λ ls. drop 1 (counted_from k ls)) split);
+            rw (text_is, number_is, rest_is, next_is, front, preserved.body.counted) (later ∙ ap (λ ls. drop 1 (counted_from k ls)) split);
       }
 
 pub unmarked_end : (mark text rest : Bytes) (n k : ℕ) → IsUnmarkedSoFar mark text rest n k → lines_of rest ≡ [] → lines_up_to mark (numbered_text n text) ≡ None
-unmarked_end mark text rest n k kept none =
-    kept.unmarked ∙ ap (λ ls. onto_lines (numbered_text n kept.body.front) (lines_up_to mark (counted_from k ls))) none
+unmarked_end mark text rest n k preserved none =
+    preserved.unmarked ∙ ap (λ ls. onto_lines (numbered_text n preserved.body.front) (lines_up_to mark (counted_from k ls))) none

@@ -7,27 +7,27 @@ use Rattle.pv_model.specs.Bytes.{Bytes, is_empty}
 use Rattle.pv_source.specs.declared.programs.Label.{Label}
 use Rattle.pv_source.specs.Reading.{numbered_text, if_words, first_that_counts}
 use Rattle.pv_source.specs.ReadPrograms.{label_value}
-use Rattle.pv_model.specs.Source.Programs.{LabelledLine, labelled_words, or_exit, with_exit, labelled_lines, count_words, onto_labels, labels_from, number_of_label, without_labels, instruction_text, program_line_of, taken_lines, instructions_of, is_set_in, and_label, count_instruction, is_wrong, told_if, wrong_lines, program_faults}
-use Rattle.pv_model.specs.Source.Judged.{wrong_turn, wrong_turns}
-use Rattle.pv_source.specs.Telling.{Tells}
-use Rattle.pv_source.proofs.ToldLines.{ToldSoFar, ToldSoFar-start, ToldSoFar-step}
+use Rattle.pv_model.specs.Source.Programs.{LabelledLine, labelled_words, or_exit, with_exit, labelled_lines, count_words, onto_labels, labels_from, number_of_label, without_labels, instruction_text, program_line_of, taken_lines, instructions_of, is_set_in, and_label, count_instruction, is_invalid, reported_if, invalid_lines, program_faults}
+use Rattle.pv_model.specs.Source.Judged.{invalid_turn, invalid_turns}
+use Rattle.pv_source.specs.Reporting.{Reports}
+use Rattle.pv_source.proofs.ReportedLines.{ReportedSoFar, ReportedSoFar-start, ReportedSoFar-step}
 use Rattle.pv_model.specs.Answers.Lines.{spaced, counted_from}
 use Rattle.pv_model.specs.Grammar.Lines.{lines_of}
 use Rattle.pv_model.specs.Source.Words.{NumberedLine, NumberedWords, words_of, lines_that_count}
 
--- ---- words that are there or not
+-- ---- optional words
 
 pub some_words : (t : Bool) (words : List Bytes) → MatchBool t (words ≡ []) (words ≢ []) → t ≡ false → words ≢ []
-some_words true words tells is = cc
-some_words false words tells is = tells
+some_words true words reports is = cc
+some_words false words reports is = reports
 
 pub no_words : (t : Bool) (words : List Bytes) → MatchBool t (words ≡ []) (words ≢ []) → t ≡ true → words ≡ []
-no_words true words tells is = tells
-no_words false words tells is = cc
+no_words true words reports is = reports
+no_words false words reports is = cc
 
 -- ---- the lines of a program
 
--- lines that count, by the first of them
+-- lines with words, from the first of them on
 abbrev pub counting_then : Option (NumberedWords × List NumberedLine) → List NumberedWords
 counting_then None = []
 counting_then (Some p) = p.0 ∷ lines_that_count p.1
@@ -60,24 +60,24 @@ labelled_more lines rest line next first more =
 pub labelled_none : (lines : List NumberedLine) → first_that_counts lines ≡ None → labelled_lines lines ≡ []
 labelled_none lines none = ap (λ ls. with_exit (map to_labelled ls)) (counting_first lines ∙ ap counting_then none)
 
--- a last line that has an instruction stays as it is
-pub exit_kept : (line : LabelledLine) → line.words ≢ [] → with_exit (line ∷ []) ≡ line ∷ []
-exit_kept line some = by line.words some
+-- a last line with an instruction does not change
+pub exit_preserved : (line : LabelledLine) → line.words ≢ [] → with_exit (line ∷ []) ≡ line ∷ []
+exit_preserved line some = by line.words some
   where
     by : (words : List Bytes) → words ≢ [] → record line { words = or_exit words } ∷ [] ≡ record line { words = words } ∷ []
     by [] some = absurd (some refl)
     by (word ∷ words) some = refl
 
--- a line with an instruction, whatever stands after it
-pub labelled_kept : (lines rest : List NumberedLine) (line : NumberedWords) → first_that_counts lines ≡ Some (line, rest) → (to_labelled line).words ≢ []
+-- a line with an instruction, whatever follows
+pub labelled_preserved : (lines rest : List NumberedLine) (line : NumberedWords) → first_that_counts lines ≡ Some (line, rest) → (to_labelled line).words ≢ []
     → labelled_lines lines ≡ to_labelled line ∷ labelled_lines rest
-labelled_kept lines rest line first some = by (first_that_counts rest) refl
+labelled_preserved lines rest line first some = by (first_that_counts rest) refl
   where
     by : (o : Option (NumberedWords × List NumberedLine)) → first_that_counts rest ≡ o → labelled_lines lines ≡ to_labelled line ∷ labelled_lines rest
-    by None none = labelled_last lines rest line first none ∙ exit_kept (to_labelled line) some ∙ ap (λ ls. to_labelled line ∷ ls) (sym (labelled_none rest none))
+    by None none = labelled_last lines rest line first none ∙ exit_preserved (to_labelled line) some ∙ ap (λ ls. to_labelled line ∷ ls) (sym (labelled_none rest none))
     by (Some next) more = labelled_more lines rest line next first more
 
--- a last line without one
+-- a last line without an instruction
 pub labelled_exit : (lines rest : List NumberedLine) (line : NumberedWords) → first_that_counts lines ≡ Some (line, rest) → first_that_counts rest ≡ None → (to_labelled line).words ≡ []
     → labelled_lines lines ≡ record (to_labelled line) { words = or_exit [] } ∷ labelled_lines rest
 labelled_exit lines rest line first none empty =
@@ -91,7 +91,7 @@ pub labels-more : (put later : List (Bytes × ℕ)) (label : Option Bytes) (k : 
 labels-more put later None k = ap (λ ls. ls ++ later) (append-nil put)
 labels-more put later (Some name) k = append_assoc put ((name, k) ∷ []) later
 
--- a label found, and one passed over
+-- a label that is found, and one that is skipped
 pub label_found : (labels rest : List Label) (name : Bytes) (label : Label) → labels ≡ label ∷ rest → bytes_eq label.name.now name ≡ true → number_of_label name (map label_value labels) ≡ Some label.number
 label_found labels rest name label first is = rw first (rw is refl)
 
@@ -99,17 +99,17 @@ pub label_passed : (labels rest : List Label) (name : Bytes) (label : Label) →
     → number_of_label name (map label_value labels) ≡ number_of_label name (map label_value rest)
 label_passed labels rest name label first is = rw first (rw is refl)
 
--- what a loop over the lines of a program keeps of its labels
+-- one step of a loop that collects the labels of a program
 pub labels-step : (put more all : List (Bytes × ℕ)) (line : LabelledLine) (lines following : List LabelledLine) (count next : ℕ) → lines ≡ line ∷ following
     → put ++ labels_from (count + 1) lines ≡ all → more ≡ put ++ onto_labels line.label (count + 1) [] → next ≡ count + count_words line.words
     → more ++ labels_from (next + 1) following ≡ all
-labels-step put more all line lines following count next first kept pushed counted =
+labels-step put more all line lines following count next first preserved pushed counted =
     let sum : next + 1 ≡ count + 1 + count_words line.words = omega (arith, counted) in
     ap (λ ls. ls ++ labels_from (next + 1) following) pushed ∙ labels-more put (labels_from (next + 1) following) line.label (count + 1)
     ∙ ap (λ k. put ++ onto_labels line.label (count + 1) (labels_from k following)) sum
-    ∙ ap (λ ls. put ++ labels_from (count + 1) ls) (sym first) ∙ kept
+    ∙ ap (λ ls. put ++ labels_from (count + 1) ls) (sym first) ∙ preserved
 
--- how many instructions lines have
+-- the number of instructions of lines
 unfoldable pub count_lines : List LabelledLine → ℕ
 count_lines [] = 0
 count_lines (line ∷ lines) = count_words line.words + count_lines lines
@@ -125,7 +125,7 @@ instructions-count labels (line ∷ lines) = by line.words (instructions-count l
 
 pub count_step : (lines following : List LabelledLine) (line : LabelledLine) (count next all : ℕ) → lines ≡ line ∷ following → count + count_lines lines ≡ all → next ≡ count + count_words line.words → next + count_lines following ≡ all
 unfolding count_lines
-count_step lines following line count next all first kept is = omega (arith, kept, is, ap count_lines first)
+count_step lines following line count next all first preserved is = omega (arith, preserved, is, ap count_lines first)
 
 -- the text of an instruction that has words
 pub instruction_some : (labels : List (Bytes × ℕ)) (words : List Bytes) → words ≢ [] → instruction_text labels words ≡ Some (spaced (without_labels labels words))
@@ -136,46 +136,46 @@ pub counted_as_words : (labels : List (Bytes × ℕ)) (words : List Bytes) → c
 counted_as_words labels [] = refl
 counted_as_words labels (word ∷ words) = refl
 
--- what a loop over the lines of a program keeps of those that are told
+-- one step of a loop that reports the lines of a program
 module _ (first now after all : List ℕ) (count before next : ℕ) where
   pub program_step : (labels : List (Bytes × ℕ)) (names more : List Bytes) (lines following : List LabelledLine) (line : LabelledLine) → lines ≡ line ∷ following → more ≡ and_label line.label names → next ≡ before + count_words line.words
-      → Tells now after (told_if (is_set_in line.label names || is_wrong count before (instruction_text labels line.words)) line.number [])
-      → ToldSoFar first now (wrong_lines count names before (map (program_line_of labels) lines)) all → ToldSoFar first after (wrong_lines count more next (map (program_line_of labels) following)) all
-  program_step labels names more lines following line read pushed counted tells kept =
-      let left = wrong_lines count (and_label line.label names) (before + count_instruction (instruction_text labels line.words)) (map (program_line_of labels) following) in
+      → Reports now after (reported_if (is_set_in line.label names || is_invalid count before (instruction_text labels line.words)) line.number [])
+      → ReportedSoFar first now (invalid_lines count names before (map (program_line_of labels) lines)) all → ReportedSoFar first after (invalid_lines count more next (map (program_line_of labels) following)) all
+  program_step labels names more lines following line read pushed counted reports preserved =
+      let left = invalid_lines count (and_label line.label names) (before + count_instruction (instruction_text labels line.words)) (map (program_line_of labels) following) in
       let at : before + count_instruction (instruction_text labels line.words) ≡ next = ap (λ k. before + k) (counted_as_words labels line.words) ∙ sym counted in
-      let step : ToldSoFar first after left all =
-      ToldSoFar-step first now after left all (is_set_in line.label names || is_wrong count before (instruction_text labels line.words)) line.number tells
-      (subst (λ ls. ToldSoFar first now (wrong_lines count names before (map (program_line_of labels) ls)) all) read kept) in
-      subst (λ k. ToldSoFar first after (wrong_lines count more k (map (program_line_of labels) following)) all) at
-      (subst (λ ns. ToldSoFar first after (wrong_lines count ns (before + count_instruction (instruction_text labels line.words)) (map (program_line_of labels) following)) all) (sym pushed) step)
+      let step : ReportedSoFar first after left all =
+      ReportedSoFar-step first now after left all (is_set_in line.label names || is_invalid count before (instruction_text labels line.words)) line.number reports
+      (subst (λ ls. ReportedSoFar first now (invalid_lines count names before (map (program_line_of labels) ls)) all) read preserved) in
+      subst (λ k. ReportedSoFar first after (invalid_lines count more k (map (program_line_of labels) following)) all) at
+      (subst (λ ns. ReportedSoFar first after (invalid_lines count ns (before + count_instruction (instruction_text labels line.words)) (map (program_line_of labels) following)) all) (sym pushed) step)
 
-  pub taken_step : (n m : ℕ) (rest line following : Bytes) → m ≡ n + 1 → lines_of rest ≡ line ∷ lines_of following → next ≡ before + 1 → Tells now after (told_if (is_wrong count before (Some line)) n [])
-      → ToldSoFar first now (wrong_lines count [] before (taken_lines (numbered_text n rest))) all → ToldSoFar first after (wrong_lines count [] next (taken_lines (numbered_text m following))) all
-  taken_step n m rest line following then read counted tells kept =
-      let left = wrong_lines count [] (before + 1) (taken_lines (numbered_text (n + 1) following)) in
-      subst (λ k. ToldSoFar first after (wrong_lines count [] next (taken_lines (numbered_text k following))) all) (sym then)
-      (subst (λ k. ToldSoFar first after (wrong_lines count [] k (taken_lines (numbered_text (n + 1) following))) all) (sym counted)
-      (ToldSoFar-step first now after left all (is_wrong count before (Some line)) n tells
-      (subst (λ ls. ToldSoFar first now (wrong_lines count [] before (taken_lines (counted_from n ls))) all) read kept)))
+  pub taken_step : (n m : ℕ) (rest line following : Bytes) → m ≡ n + 1 → lines_of rest ≡ line ∷ lines_of following → next ≡ before + 1 → Reports now after (reported_if (is_invalid count before (Some line)) n [])
+      → ReportedSoFar first now (invalid_lines count [] before (taken_lines (numbered_text n rest))) all → ReportedSoFar first after (invalid_lines count [] next (taken_lines (numbered_text m following))) all
+  taken_step n m rest line following then read counted reports preserved =
+      let left = invalid_lines count [] (before + 1) (taken_lines (numbered_text (n + 1) following)) in
+      subst (λ k. ReportedSoFar first after (invalid_lines count [] next (taken_lines (numbered_text k following))) all) (sym then)
+      (subst (λ k. ReportedSoFar first after (invalid_lines count [] k (taken_lines (numbered_text (n + 1) following))) all) (sym counted)
+      (ReportedSoFar-step first now after left all (is_invalid count before (Some line)) n reports
+      (subst (λ ls. ReportedSoFar first now (invalid_lines count [] before (taken_lines (counted_from n ls))) all) read preserved)))
 
-  pub turns_step : (lines following : List NumberedWords) (line : NumberedWords) → lines ≡ line ∷ following → next ≡ before + 1 → Tells now after (told_if (wrong_turn before line.1) line.0 [])
-      → ToldSoFar first now (wrong_turns before lines) all → ToldSoFar first after (wrong_turns next following) all
-  turns_step lines following line read counted tells kept =
+  pub turns_step : (lines following : List NumberedWords) (line : NumberedWords) → lines ≡ line ∷ following → next ≡ before + 1 → Reports now after (reported_if (invalid_turn before line.1) line.0 [])
+      → ReportedSoFar first now (invalid_turns before lines) all → ReportedSoFar first after (invalid_turns next following) all
+  turns_step lines following line read counted reports preserved =
       let is : suc before ≡ next = omega (arith, counted) in
-      subst (λ k. ToldSoFar first after (wrong_turns k following) all) is
-      (ToldSoFar-step first now after (wrong_turns (suc before) following) all (wrong_turn before line.1) line.0 tells (subst (λ ls. ToldSoFar first now (wrong_turns before ls) all) read kept))
+      subst (λ k. ReportedSoFar first after (invalid_turns k following) all) is
+      (ReportedSoFar-step first now after (invalid_turns (suc before) following) all (invalid_turn before line.1) line.0 reports (subst (λ ls. ReportedSoFar first now (invalid_turns before ls) all) read preserved))
 
--- lines that are taken are as many instructions
+-- lines that are copied unchanged are as many instructions
 taken-count : (n : ℕ) (ls : List Bytes) → length (instructions_of (taken_lines (counted_from n ls))) ≡ length ls
 taken-count n [] = refl
 taken-count n (l ∷ ls) = ap suc (taken-count (n + 1) ls)
 
-pub taken_start : (told : List ℕ) (n : ℕ) (text : Bytes) (count : ℕ) → count ≡ length (lines_of text)
-    → ToldSoFar told told (wrong_lines count [] 0 (taken_lines (numbered_text (n + 0) text))) (program_faults (taken_lines (numbered_text n text)))
+pub taken_start : (reported : List ℕ) (n : ℕ) (text : Bytes) (count : ℕ) → count ≡ length (lines_of text)
+    → ReportedSoFar reported reported (invalid_lines count [] 0 (taken_lines (numbered_text (n + 0) text))) (program_faults (taken_lines (numbered_text n text)))
 unfolding program_faults
-taken_start told n text count is =
+taken_start reported n text count is =
     let all = taken_lines (numbered_text n text) in
     let at : n + 0 ≡ n = omega arith in
     let many : length (instructions_of all) ≡ count = taken-count n (lines_of text) ∙ sym is in
-    rw at (subst (λ k. ToldSoFar told told (wrong_lines count [] 0 all) (wrong_lines k [] 0 all)) (sym many) (ToldSoFar-start told (wrong_lines count [] 0 all)))
+    rw at (subst (λ k. ReportedSoFar reported reported (invalid_lines count [] 0 all) (invalid_lines k [] 0 all)) (sym many) (ReportedSoFar-start reported (invalid_lines count [] 0 all)))

@@ -39,7 +39,7 @@ pub content_is : (found : Option (Bor Bytes)) (front : Option Bytes) (line resul
 content_is None front line result is chosen = ap (λ r. r.now) chosen ∙ ap (λ o. unwrap_or o line.now) is
 content_is (Some found) front line result is chosen = ap (λ r. r.now) chosen ∙ ap (λ o. unwrap_or o line.now) is
 
--- ---- where a word ends
+-- ---- the end of a word
 
 abbrev pub end_of_word : Bytes → ℕ
 end_of_word bs = position_or_len is_blank bs
@@ -51,7 +51,7 @@ onto_word : (b : ℕ) (bs : Bytes) (end : ℕ) → words_from bs in_word ≡ tak
     → onto_first b (words_from bs in_word) ≡ take (1 + end) (b ∷ bs) ∷ words_from (drop (1 + end) (b ∷ bs)) between
 onto_word b bs end h = let one_more : 1 + end ≡ suc end = omega arith in rw (h, one_more) refl
 
--- what is left of a word goes on to the first blank
+-- the rest of a word ends at the first blank
 pub word_end : (bs : Bytes) → words_from bs in_word ≡ take (end_of_word bs) bs ∷ words_from (drop (end_of_word bs) bs) between
 word_end [] = refl
 word_end (b ∷ bs) = by (is_blank b) refl (word_end bs)
@@ -61,7 +61,7 @@ word_end (b ∷ bs) = by (is_blank b) refl (word_end bs)
     by true p h = rw p (rw p refl)
     by false p h = rw p (onto_word b bs (end_of_word bs) h)
 
--- a quotation mark stands where its first place is
+-- there is a quotation mark at its first position
 pub a_quote : (bs : Bytes) → end_of_text bs < length bs → list_any (λ c. c == 34) bs ≡ true
 a_quote [] some = absurd (omega arith)
 a_quote (b ∷ bs) some = by (b == 34) refl some (a_quote bs)
@@ -85,7 +85,7 @@ onto_text : (b : ℕ) (bs : Bytes) (n : ℕ) → words_from bs in_text ≡ take 
     → onto_first b (words_from bs in_text) ≡ take (suc n) (b ∷ bs) ∷ words_from (drop (suc n) (b ∷ bs)) between
 onto_text b bs n h = rw h refl
 
--- what is left of a text goes on to its quotation mark, and then to the first blank
+-- the rest of a text ends at the first blank after its closing quotation mark
 pub text_end : (bs : Bytes) → end_of_text bs < length bs → words_from bs in_text ≡ take (text_length bs) bs ∷ words_from (drop (text_length bs) bs) between
 text_end [] some = absurd (omega arith)
 text_end (b ∷ bs) some = by (b == 34) refl some (text_end bs)
@@ -109,7 +109,7 @@ text_end_at bs after q e quote some rest blank =
     let length_is : q + 1 + e ≡ text_length bs = ap (λ n. q + 1 + n) (blank ∙ ap end_of_word rest) ∙ ap (λ n. n + 1 + end_of_word (drop (n + 1) bs)) quote in
     rw length_is (text_end bs (omega (arith, quote, some)))
 
--- how many bytes a word has after its first, where it is no text, and where no quotation mark ends it
+-- the length of a word after its first byte, if it is not a text, and if its closing quotation mark is missing
 pub plain_length : (b : ℕ) (bs : Bytes) (n : ℕ) → b ≢ 34 → n ≡ end_of_word bs → words_from bs (begun b bs) ≡ take n bs ∷ words_from (drop n bs) between
 plain_length b bs n other is = let plain : (b == 34) ≡ false = ne_eqb b 34 other in rw (plain, is) (word_end bs)
 
@@ -120,7 +120,7 @@ unended_length b bs n none is = rw is (by (b == 34))
     by true = rw none (word_end bs)
     by false = word_end bs
 
--- a word, by how many bytes it has after its first
+-- a word, from the length after its first byte
 pub first_word : (bytes bs : Bytes) (b n : ℕ) → bytes ≡ b ∷ bs → BeginsNoBlank bytes → b ≢ 35 → words_from bs (begun b bs) ≡ take n bs ∷ words_from (drop n bs) between
     → words_from bytes between ≡ take (1 + n) bytes ∷ words_from (drop (1 + n) bytes) between
 first_word bytes bs b n is begins other h =
@@ -135,7 +135,7 @@ comment_begins bytes bs b is begins hash =
     let same : (b == 35) ≡ true = eq-eqb b 35 hash in
     rw (is, blank, same) refl
 
--- ---- words put in a row
+-- ---- sequences of words
 
 pub spaced_first : (word : Bytes) (words : List Bytes) → spaced (word ∷ words) ≡ word ++ spaced_more words
 spaced_first word words = refl

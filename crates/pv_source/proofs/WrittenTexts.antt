@@ -1,4 +1,4 @@
--- What is written of a source.
+-- The translation of a source.
 use Rattle.std.proofs.Common.{◌≡◌, ◌∙◌, ap, ℕ, List, [], ◌∷◌, ◌++◌, ◌+◌, refl, sym, append_assoc}
 use Rattle.std.specs.Prelude.{map}
 use Rattle.pv_model.specs.Answers.Lines.{counted_from}
@@ -8,7 +8,7 @@ use Rattle.pv_model.specs.Bytes.{Bytes}
 use Rattle.pv_model.specs.Grammar.Manifests.{with_line_end}
 use Rattle.pv_model.specs.Grammar.Texts.{ended}
 
--- a line more
+-- one more line
 pub ended_more : (out line : Bytes) (lines : List Bytes) → ((out ++ line) ++ 10 ∷ []) ++ ended lines ≡ out ++ ended (line ∷ lines)
 ended_more out line lines =
     append_assoc (out ++ line) (10 ∷ []) (ended lines) ∙ append_assoc out line (10 ∷ ended lines)
@@ -17,7 +17,7 @@ ended_more out line lines =
 pub ended_one : (out line : Bytes) → (out ++ line) ++ 10 ∷ [] ≡ out ++ ended (line ∷ [])
 ended_one out line = sym (append-nil ((out ++ line) ++ 10 ∷ [])) ∙ ended_more out line []
 
--- lines that were numbered
+-- removing the numbers of numbered lines
 pub bytes_counted : (n : ℕ) (lines : List Bytes) → map (λ (line : ℕ × Bytes). line.1) (counted_from n lines) ≡ lines
 bytes_counted n [] = refl
 bytes_counted n (line ∷ lines) = ap (λ ls. line ∷ ls) (bytes_counted (n + 1) lines)

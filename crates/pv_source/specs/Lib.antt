@@ -1,8 +1,8 @@
-pub mod Found
+pub mod LineCheck
 pub mod Outcome
 pub mod ReadBlocks
 pub mod ReadEntries
 pub mod ReadPrograms
 pub mod Reading
 pub mod Saying
-pub mod Telling
+pub mod Reporting

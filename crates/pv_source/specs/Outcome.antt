@@ -1,4 +1,4 @@
--- What was written of a source, or told of it.
+-- The output for a source.
 use Rattle.std.specs.Prelude.{◌≡◌, ℕ, List, ◌++◌, map, flat_map, codes, Option, Ok, Err}
 use Rattle.std.specs.Fmt.{decimal}
 use Rattle.std.specs.List.{AllByRecursion}
@@ -10,46 +10,46 @@ use Rattle.pv_source.specs.declared.source.SourceStop.{SourceStop}
 use Rattle.pv_source.specs.declared.source.SourceStop.TheVariants.{Read, Memory}
 use Rattle.pv_model.specs.Source.Judged.{read_source}
 use Rattle.pv_source.specs.Saying.{IsPrintable}
-use Rattle.pv_streams.specs.Sinks.{and_all, TellsBeginning}
+use Rattle.pv_streams.specs.Sinks.{and_all, WritesPrefix}
 
--- a fault: its line, and what it says
-abbrev pub told_of : Fault → ℕ × Bytes
-told_of fault = (fault.line, fault.what)
+-- an error: its line, and its message
+abbrev pub reported_of : Fault → ℕ × Bytes
+reported_of fault = (fault.line, fault.what)
 
 abbrev pub fault_line : Bytes → ℕ × Bytes → Bytes
-fault_line name told = codes "pvsim: " ++ name ++ codes ":" ++ decimal told.0 ++ codes ": " ++ told.1 ++ codes "\n"
+fault_line name reported = codes "pvsim: " ++ name ++ codes ":" ++ decimal reported.0 ++ codes ": " ++ reported.1 ++ codes "\n"
 
 abbrev pub fault_lines : Bytes → List (ℕ × Bytes) → Bytes
-fault_lines name told = flat_map (fault_line name) told
+fault_lines name reported = flat_map (fault_line name) reported
 
--- what is said of each line stands in one line
+-- each message is one line
 abbrev pub AreLines : List (ℕ × Bytes) → Type 0
-AreLines told = AllByRecursion (λ t. IsPrintable t.1) told
+AreLines reported = AllByRecursion (λ t. IsPrintable t.1) reported
 
--- what a source stands for was written
+-- the translation of a source was written
 abbrev pub WritesText : Bytes → Option Bytes → Option Bytes → Type 0
 WritesText source before after = (text : Bytes) × (read_source source ≡ Ok text) × (after ≡ and_all before text)
 
--- its lines at fault were told, with something about each, in a line of its own
-abbrev pub TellsFaults : Bytes → Bytes → Option Bytes → Option Bytes → Type 0
-TellsFaults name source before after =
-    (told : List (ℕ × Bytes)) × (read_source source ≡ Err (map (λ t. t.0) told)) × (after ≡ and_all before (fault_lines name told)) × AreLines told
+-- the lines with errors were reported in order, each in a line with a message
+abbrev pub ReportsFaults : Bytes → Bytes → Option Bytes → Option Bytes → Type 0
+ReportsFaults name source before after =
+    (reported : List (ℕ × Bytes)) × (read_source source ≡ Err (map (λ t. t.0) reported)) × (after ≡ and_all before (fault_lines name reported)) × AreLines reported
 
--- a beginning of either was
+-- a prefix of the translation, or of the report, was written
 abbrev pub BeginsText : Bytes → Option Bytes → Option Bytes → Type 0
-BeginsText source before after = (text : Bytes) × (read_source source ≡ Ok text) × TellsBeginning text before after
+BeginsText source before after = (text : Bytes) × (read_source source ≡ Ok text) × WritesPrefix text before after
 
 abbrev pub BeginsFaults : Bytes → Bytes → Option Bytes → Option Bytes → Type 0
 BeginsFaults name source before after =
-    (told : List (ℕ × Bytes)) × (read_source source ≡ Err (map (λ t. t.0) told)) × TellsBeginning (fault_lines name told) before after × AreLines told
+    (reported : List (ℕ × Bytes)) × (read_source source ≡ Err (map (λ t. t.0) reported)) × WritesPrefix (fault_lines name reported) before after × AreLines reported
 
--- a stop before anything is written
+-- an error that occurs before anything is written
 abbrev pub IsBefore : SourceStop → Type 0
 IsBefore Read = Unit {0}
 IsBefore Memory = Unit {0}
 IsBefore _ = ⊥
 
--- why reading a source stops
+-- the error of reading a source
 abbrev pub stop_of : RunFault → SourceStop
 stop_of MemoryFault = Memory
 stop_of _ = Read

@@ -1,4 +1,4 @@
--- What is read of a source as its blocks.
+-- The blocks of a source.
 use Rattle.std.specs.Prelude.{◌≡◌, ℕ, ◌+◌, ◌≤◌, List, [], ◌∷◌, length, drop, Option, None, Some}
 use Rattle.pv_source.specs.declared.blocks.Block.{Block as ReadBlock}
 use Rattle.pv_source.specs.declared.blocks.Kind.{Kind}
@@ -15,21 +15,21 @@ block_by Taken n words body = taken n words body
 block_by CutOff n words body = cut_off n
 block_by Schedule n words body = schedule n words body
 
--- the block that was read
+-- the parsed block
 abbrev pub block_of : ReadBlock → Block
 block_of b = block_by b.kind b.number (words_from b.words.now between) (numbered_text (b.number + 1) b.body.now)
 
--- a block that was read, and the blocks of the lines after it
+-- a parsed block, and the blocks of the lines after it
 abbrev pub blocks_read : Option (ReadBlock × Lines) → List Block
 blocks_read None = []
 blocks_read (Some p) = block_of p.0 ∷ blocks_from (numbered p.1) 0
 
--- a block and the lines after it are what was to be read: those after as many lines as it took
+-- the block and the lines after it agree with the specification's block and number of lines
 abbrev pub Reads : Option (ReadBlock × Lines) → Option (Block × ℕ) → List NumberedLine → Type 0
 Reads None block lines = block ≡ None
 Reads (Some p) block lines = (count : ℕ) × (block ≡ Some (block_of p.0, count)) × (drop count lines ≡ numbered p.1)
 
--- a block and the lines after it lie within lines
+-- a block and the lines after it are within the given lines
 abbrev pub IsInside : Option (ReadBlock × Lines) → Lines → Type 0
 IsInside None lines = Unit {0}
 IsInside (Some p) lines =

@@ -1,4 +1,4 @@
--- What is read of a source as the entries of its manifest.
+-- The entries of the manifest in a source.
 use Rattle.std.specs.Prelude.{ℕ, Option, option_map}
 use Rattle.pv_model.specs.Manifest.{Entry}
 

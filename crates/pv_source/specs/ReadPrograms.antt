@@ -1,4 +1,4 @@
--- What is read of a source as the lines of a program.
+-- The lines of a program in a source.
 use Rattle.std.specs.Prelude.{ℕ, List, [], ◌∷◌, Option, None, Some, option_map}
 use Rattle.std.specs.Borrow.{Bor}
 use Rattle.pv_model.specs.Bytes.{Bytes}
@@ -21,7 +21,7 @@ labelled_value l = record { number = l.number; label = name_value l.label; words
 abbrev pub label_value : Label → Bytes × ℕ
 label_value l = (l.name.now, l.number)
 
--- a line that was read, and those of the lines after it
+-- a parsed line, and those of the lines after it
 abbrev pub then_labelled : Option (Labelled × Lines) → List LabelledLine
 then_labelled None = []
 then_labelled (Some p) = labelled_value p.0 ∷ labelled_lines (numbered p.1)

@@ -1,4 +1,4 @@
--- What is read of a source: bytes as words, and texts as lines.
+-- Words and lines of a source.
 use Rattle.std.specs.Prelude.{◌≡◌, ℕ, suc, ◌≤◌, false, List, [], ◌∷◌, ◌++◌, length, take, drop, flat_map, codes, Option, None, Some}
 use Rattle.pv_model.specs.Answers.Lines.{counted_from}
 use Rattle.pv_model.specs.Bytes.{Bytes}
@@ -10,7 +10,7 @@ use Rattle.pv_model.specs.Source.Words.{NumberedLine, NumberedWords, is_blank, b
 
 -- ---- words
 
--- no blank stands first
+-- the first byte is not a blank
 abbrev pub BeginsNoBlank : Bytes → Type 0
 BeginsNoBlank [] = Unit {0}
 BeginsNoBlank (b ∷ bs) = is_blank b ≡ false
@@ -19,20 +19,20 @@ BeginsNoBlank (b ∷ bs) = is_blank b ≡ false
 abbrev pub spaced_more : List Bytes → Bytes
 spaced_more words = flat_map (λ word. codes " " ++ word) words
 
--- the first of words
+-- the first of some words
 abbrev pub BeginsWith : Bytes → List Bytes → Type 0
 BeginsWith first words = (others : List Bytes) × (words ≡ first ∷ others)
 
 -- ---- lines
 
--- the lines of a text, with their numbers
+-- the lines of a text with their numbers
 abbrev pub numbered_text : ℕ → Bytes → List NumberedLine
 numbered_text n text = counted_from n (lines_of text)
 
 abbrev pub numbered : Lines → List NumberedLine
 numbered lines = numbered_text lines.number lines.text.now
 
--- a line that counts
+-- a line that has a word
 abbrev pub worded : Line → NumberedWords
 worded line = (line.number, words_from line.words.now between)
 
@@ -40,17 +40,17 @@ abbrev pub if_words : ℕ → List Bytes → List NumberedLine → Option (Numbe
 if_words n [] lines onward = onward
 if_words n (word ∷ words) lines onward = Some ((n, word ∷ words), lines)
 
--- the first line that counts, and the lines after it
+-- the first line that has a word, and the lines after it
 abbrev pub first_that_counts : List NumberedLine → Option (NumberedWords × List NumberedLine)
 first_that_counts [] = None
 first_that_counts (line ∷ lines) = if_words line.0 (words_of line.1) lines (first_that_counts lines)
 
--- a body is the lines before the first that is END alone, and others are those after that
+-- a body is the lines before the first that is the mark alone, and the rest is the lines after that one
 pub record Ends (mark : Bytes) (lines : Lines) (body : Bytes) (rest : Lines) : Type 0 where
   pub before : lines_up_to mark (numbered lines) ≡ Some (numbered_text lines.number body)
   pub after : drop (suc (length (lines_of body))) (numbered lines) ≡ numbered rest
 
--- a body is the first lines, so many, and others are those after them
+-- a body is the first `count` lines, and the rest is the lines after them
 pub record Takes (count : ℕ) (lines : Lines) (body : Bytes) (rest : Lines) : Type 0 where
   pub enough : count ≤ length (lines_of lines.text.now)
   pub first : take count (numbered lines) ≡ numbered_text lines.number body

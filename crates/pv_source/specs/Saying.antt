@@ -1,4 +1,4 @@
--- What a fault says.
+-- Messages.
 use Rattle.std.specs.Prelude.{◌≡◌, ℕ, ◌++◌, [], ◌∷◌, Bool, true, ◌&&◌, if◌then◌else◌, nat_le, flat_map, codes}
 use Rattle.std.specs.Fmt.{decimal}
 use Rattle.std.specs.List.{list_all}
@@ -11,19 +11,19 @@ use Rattle.pv_source.specs.declared.explaining.saying.Part.TheVariants.{Plain, M
 abbrev pub is_printable : ℕ → Bool
 is_printable b = nat_le 32 b && nat_le b 126
 
--- bytes that stand in one line
+-- bytes that form one line
 abbrev pub IsPrintable : Bytes → Type 0
 IsPrintable bytes = list_all is_printable bytes ≡ true
 
--- how a byte is said: by its number where it is none of these
+-- the text of a byte, which is its number if it is not printable
 abbrev pub said_byte : ℕ → Bytes
 said_byte b = if is_printable b then b ∷ [] else codes "\\x" ++ hex_byte b
 
--- how bytes are said
+-- the text of bytes
 abbrev pub said : Bytes → Bytes
 said bytes = flat_map said_byte bytes
 
--- how a part is said
+-- the text of a part
 abbrev pub said_part : Part → Bytes
 said_part (Plain bytes) = said bytes.now
 said_part (Marked bytes) = codes "'" ++ said bytes.now ++ codes "'"

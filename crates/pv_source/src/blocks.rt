@@ -1,4 +1,4 @@
-//! The blocks of a source: lines, each with those after it that belong to it.
+//! The blocks of a source: each is a line with the lines after it that belong to it.
 ghost use Rattle.std.specs.Prelude.{◌≡◌, ◌+◌, ◌<◌, ◌≤◌, ◌^◌, [], length, None, Some, IfSome};
 ghost use Rattle.pv_model.specs.Source.Blocks.{exec_by, exec_block, blocks_from};
 ghost use Rattle.pv_model.specs.Source.Words.{between, words_from};
@@ -9,36 +9,37 @@ use crate::lines::{Line, Lines, lines_before_mark, next_line, next_lines};
 use crate::words::{last_word, mark_of};
 use pv_text::words::decimal;
 
-/// What a block is.
+/// The kind of a block.
 #[derive(Clone, Copy, PartialEq, Eq)]
 pub enum Kind {
-    /// A line by itself.
+    /// A single line.
     Single,
     /// `exec TEXT <<END`, and the lines up to END.
     Program,
     /// `exec TEXT K`, and the next K lines.
     Taken,
-    /// An `exec` line whose lines are not there: what stands after it is not read.
+    /// An `exec` line whose lines are missing. The lines after it are not read.
     CutOff,
     /// The line `schedule`, and all lines after it.
     Schedule,
 }
 
-/// A line, and the lines that belong to it.
+/// A line with the lines that belong to it.
 #[derive(Clone, Copy)]
 pub struct Block<'a> {
-    /// What it is.
+    /// The kind.
     pub kind: Kind,
-    /// The number of its line.
+    /// The number of the first line.
     pub number: u32,
-    /// What the words of its line are read of.
+    /// The text of the words of the first line.
     pub words: &'a [u8],
-    /// The text of the lines after its own that belong to it: none, but of `Program`, `Taken` and `Schedule`.
+    /// The text of the following lines that belong to the block. It is empty unless the kind is `Program`, `Taken` or
+    /// `Schedule`.
     pub body: &'a [u8],
 }
 
 impl<'a> Block<'a> {
-    /// The lines that belong to it.
+    /// Returns the lines that belong to the block.
     pub fn lines(&self) -> Lines<'a>
         requires { self.now.number < 2 ^ 31 }
         ensures number { result.number ≡ self.now.number + 1 }
@@ -51,7 +52,7 @@ impl<'a> Block<'a> {
     }
 }
 
-// The block of a program up to its mark, and the lines after that.
+// Returns the block of a program up to its end mark, with the lines after it.
 fn program_block<'a>(
     line: Line<'a>,
     mark: &[u8],
@@ -74,7 +75,7 @@ fn program_block<'a>(
     Some((block, rest))
 }
 
-// The block of so many lines that are taken, and the lines after them.
+// Returns the block of an `exec` line with a line count, with the lines after it.
 fn taken_block<'a>(line: Line<'a>, count: u32, lines: Lines<'a>) -> Option<(Block<'a>, Lines<'a>)>
     requires next { lines.number ≡ line.number + 1 }
     requires few { lines.number + length lines.text.now < 2 ^ 31 }
@@ -93,7 +94,7 @@ fn taken_block<'a>(line: Line<'a>, count: u32, lines: Lines<'a>) -> Option<(Bloc
     Some((block, rest))
 }
 
-// The block of an `exec` line, and the lines after it; nothing where its lines are not there.
+// Returns the block of an `exec` line, with the lines after it, or `None` if its lines are missing.
 fn exec_block<'a>(line: Line<'a>, lines: Lines<'a>) -> Option<(Block<'a>, Lines<'a>)>
     requires next { lines.number ≡ line.number + 1 }
     requires few { lines.number + length lines.text.now < 2 ^ 31 }
@@ -110,7 +111,7 @@ fn exec_block<'a>(line: Line<'a>, lines: Lines<'a>) -> Option<(Block<'a>, Lines<
     taken_block(line, count, lines)
 }
 
-// The lines at the end of a text: none.
+// Returns the empty sequence of lines at the end of a text.
 fn no_lines<'a>(lines: Lines<'a>) -> Lines<'a>
     ensures none { numbered result ≡ [] }
     ensures number { result.number ≡ lines.entry.number }
@@ -122,7 +123,7 @@ fn no_lines<'a>(lines: Lines<'a>) -> Lines<'a>
     }
 }
 
-/// The first block of lines, and the lines after it; nothing where no line counts.
+/// Returns the first block, with the lines after it, or `None` if no line has a word.
 pub fn next_block<'a>(lines: Lines<'a>) -> Option<(Block<'a>, Lines<'a>)>
     requires { lines.number + length lines.text.now < 2 ^ 31 }
     ensures block { blocks_from (numbered lines.entry) 0 ≡ blocks_read result }

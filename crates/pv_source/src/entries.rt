@@ -1,4 +1,4 @@
-//! The entries that blocks of a source make.
+//! The entries of blocks of a source.
 ghost use Rattle.std.specs.Prelude.{◌≡◌, ◌+◌, ◌<◌, ◌^◌, List, [], length, IfOk, option_map};
 ghost use Rattle.pv_image_manifest.specs.Entries.{entry_of_line};
 ghost use Rattle.pv_model.specs.Bytes.{Bytes};
@@ -24,7 +24,7 @@ use pv_model::limits::PROGRAM_LINES;
 use pv_text::texts::text;
 use std::alloc::{AllocError, Global};
 
-/// The text that the second word of a line is, if it is one.
+/// Returns the second word of a line as a text, if it is one.
 pub fn second_text(words: &[u8]) -> Option<Text>
     ensures { result ≡ second_text (words_from words.now between) }
 {
@@ -38,7 +38,7 @@ pub fn second_text(words: &[u8]) -> Option<Text>
     }
 }
 
-// Whether there are three words.
+// Returns whether there are exactly three words.
 fn has_three_words(words: &[u8]) -> bool
     ensures { result ≡ has_three_words (words_from words.now between) }
 {
@@ -54,7 +54,7 @@ fn has_three_words(words: &[u8]) -> bool
     has_no_word(rest)
 }
 
-// The path of an `exec` line that has its form.
+// Returns the path of an `exec` line of the right form.
 fn exec_path(words: &[u8]) -> Option<Text>
     ensures { result ≡ exec_path (words_from words.now between) }
 {
@@ -69,7 +69,7 @@ fn exec_path(words: &[u8]) -> Option<Text>
     }
 }
 
-// The entry that a line spells without those after it.
+// Parses the entry of a line that takes no further lines.
 fn line_entry(alloc: Global, number: u32, line: &[u8]) -> Result<Option<Entry>, AllocError>
     ensures { IfOk result (λ o. option_map entry_of_line o ≡ option_map (λ taking. (number, taking.0)) (entry_of line.now [])) }
 {
@@ -83,7 +83,7 @@ fn line_entry(alloc: Global, number: u32, line: &[u8]) -> Result<Option<Entry>, 
     }
 }
 
-// The entry of a line by itself.
+// Returns the entry of a single line.
 fn single_entry(alloc: Global, number: u32, words: &[u8]) -> Result<Option<Entry>, AllocError>
     ensures { IfOk result (λ o. option_map entry_of_line o ≡ numbered_entry number (entry_of_block (single number (words_from words.now between)))) }
 {
@@ -92,7 +92,7 @@ fn single_entry(alloc: Global, number: u32, words: &[u8]) -> Result<Option<Entry
     line_entry(alloc, number, &line)
 }
 
-// The entry of an executable file with these bytes, if the line of its path has its form.
+// Returns the entry of an executable file with these bytes, if the line of its path has the right form.
 fn executable(
     alloc: Global,
     number: u32,
@@ -114,7 +114,7 @@ fn executable(
     }))
 }
 
-// The bytes of a program up to its END.
+// Returns the bytes of a program up to its END.
 fn program_bytes(alloc: Global, body: Lines) -> Result<Vec<u8>, AllocError>
     requires { body.number + length body.text.now < 2 ^ 31 }
     ensures { IfOk result (λ bytes. bytes.items ≡ ended (instructions_of (program_lines (numbered body.entry)))) }
@@ -125,7 +125,7 @@ fn program_bytes(alloc: Global, body: Lines) -> Result<Vec<u8>, AllocError>
     Ok(bytes)
 }
 
-// The bytes of lines that are taken as they are.
+// Returns the bytes of lines that are copied unchanged.
 fn taken_bytes(alloc: Global, text: &[u8]) -> Result<Vec<u8>, AllocError>
     ensures { IfOk result (λ bytes. bytes.items ≡ ended (lines_of text.now)) }
 {
@@ -134,9 +134,11 @@ fn taken_bytes(alloc: Global, text: &[u8]) -> Result<Vec<u8>, AllocError>
     Ok(bytes)
 }
 
-/// The entry that a block of a manifest makes, if it has the form of one.
+/// Returns the entry of a block of a manifest, or `None` if it does not have the form of an entry.
 ///
-/// `Err` says that memory was refused.
+/// # Errors
+///
+/// Returns `AllocError` if memory cannot be allocated.
 #[tactic(auto, unfolding(pv_model::specs::Source::Judged::entry_of_block))]
 pub fn entry_of_block(alloc: Global, block: &Block) -> Result<Option<Entry>, AllocError>
     requires { block.now.number + 1 + length block.now.body.now < 2 ^ 31 }

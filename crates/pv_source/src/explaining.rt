@@ -1,8 +1,8 @@
-//! What a fault says: what was found, and what is wanted.
+//! The message of an error: what was found, and what is expected.
 //!
-//! A line is explained by its leftmost fault. `saying` puts bytes into words, `texts` and `words` explain an argument,
-//! `instructions` a line of a program, and `entries` one of a manifest. That it stands in one line is proved; of its words no
-//! contract speaks.
+//! The message of a line explains its leftmost error. `saying` formats bytes, `texts` and `words` explain an argument,
+//! `instructions` a line of a program, and `entries` a line of a manifest. The contracts state that a message is one
+//! line of printable bytes. They do not state its words.
 mod entries;
 mod instructions;
 mod nearest;

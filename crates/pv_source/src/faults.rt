@@ -1,84 +1,86 @@
-//! The faults that are told of a source.
+//! The reported errors of a source.
 ghost use Rattle.std.specs.Prelude.{◌≡◌, ◌↔◌, ◌≤◌, ◌∷◌, [], length, map, OnOk, IsTrue};
-ghost use Rattle.pv_source.specs.Telling.{Tells, line_of};
+ghost use Rattle.pv_source.specs.Reporting.{Reports, line_of};
 
 use crate::explaining::Saying;
 use std::alloc::{AllocError, Global};
 use std::marker::Model;
 
-/// How many faults are told.
-pub const TOLD: usize = 20;
+/// The maximum number of errors that are reported.
+pub const REPORTED: usize = 20;
 
-/// A fault: a line of the source, and what was found in it and is wanted.
+/// An error: a line of the source with a message.
 #[derive(Drop)]
 pub struct Fault {
     /// The number of the line, counted from 1.
     pub line: u32,
-    /// What was found and is wanted.
+    /// The message: what was found and what is expected.
     pub what: Saying,
 }
 
-/// The faults that are told, at most twenty. A contract sees the numbers of their lines.
+/// The reported errors, at most twenty. Contracts see the numbers of their lines.
 #[derive(Drop)]
 pub struct Faults {
-    told: Vec<Fault>,
+    reported: Vec<Fault>,
 }
 
 impl Model for Faults {
     ghost use Rattle.std.specs.Prelude.{ℕ, List, map, length, ◌≤◌};
-    ghost use Rattle.pv_source.specs.declared.faults.TheConstants.{TOLD};
-    ghost use Rattle.pv_source.specs.Telling.{line_of};
+    ghost use Rattle.pv_source.specs.declared.faults.TheConstants.{REPORTED};
+    ghost use Rattle.pv_source.specs.Reporting.{line_of};
 
     ghost Value = { List ℕ };
 
-    ghost view = { λ f. map line_of f.told.items };
+    ghost view = { λ f. map line_of f.reported.items };
 
-    ghost invariant = { λ f. length f.told.items ≤ TOLD };
+    ghost invariant = { λ f. length f.reported.items ≤ REPORTED };
 }
 
 impl Faults {
-    /// No fault.
+    /// Creates an empty list of errors.
     pub fn new(alloc: Global) -> Faults
         ensures { result ≡ [] }
     {
         Faults {
-            told: Vec::new(alloc),
+            reported: Vec::new(alloc),
         }
     }
 
-    /// Tells a fault after those that were told, unless these are twenty.
+    /// Appends an error, unless there are twenty already.
     ///
-    /// `Err` says that memory was refused.
-    #[tactic(auto, using(crate::proofs::ToldLines::told_full, crate::proofs::ToldLines::told_one))]
-    pub fn tell(&mut self, line: u32, what: Saying) -> Result<(), AllocError>
-        ensures { OnOk result (Tells self.old self.new (line ∷ [])) }
+    /// # Errors
+    ///
+    /// Returns `AllocError` if memory cannot be allocated.
+    #[tactic(auto, using(crate::proofs::ReportedLines::reported_full, crate::proofs::ReportedLines::reported_one))]
+    pub fn report(&mut self, line: u32, what: Saying) -> Result<(), AllocError>
+        ensures { OnOk result (Reports self.old self.new (line ∷ [])) }
     {
-        if self.told.len() == TOLD {
+        if self.reported.len() == REPORTED {
             return Ok(());
         }
-        self.told.push(Fault { line, what })?;
+        self.reported.push(Fault { line, what })?;
         Ok(())
     }
 
-    /// Whether as many were told as are told: what is wrong with a further line need not be said.
+    /// Returns whether the list is full, so that no message for a further error is needed.
     pub fn is_full(&self) -> bool
-        ensures { IsTrue result ↔ (length self.now ≡ TOLD) }
+        ensures { IsTrue result ↔ (length self.now ≡ REPORTED) }
     {
-        self.told.len() == TOLD
+        self.reported.len() == REPORTED
     }
 
-    /// Whether there is none.
+    /// Returns whether there are no errors.
     pub fn is_empty(&self) -> bool
         ensures value { IsTrue result ↔ (self.now ≡ []) }
-        ensures few { length self.now ≤ TOLD }
+        ensures few { length self.now ≤ REPORTED }
     {
-        self.told.is_empty()
+        self.reported.is_empty()
     }
 
-    /// The faults, in the order in which they were told.
-    pub fn told(&self) -> &[Fault]
+    /// Returns the errors, in the order in which they were reported.
+    pub fn reported(&self) -> &[Fault]
         ensures { map line_of result.now ≡ self.now }
     {
-        self.told.as_slice()
+        self.reported.as_slice()
     }
 }

@@ -1,12 +1,12 @@
-//! What is judged of the lines that belong to blocks: programs and schedules.
+//! Checking the lines that belong to blocks: programs and schedules.
 ghost use Rattle.std.specs.Prelude.{◌≡◌, ◌+◌, ◌<◌, ◌^◌, ◌||◌, [], length, map, IfOk, OnOk, Some};
-ghost use Rattle.pv_model.specs.Source.Judged.{is_init, second_text, faults_in, wrong_turns, wrong_turn};
-ghost use Rattle.pv_model.specs.Source.Programs.{is_set_in, and_label, is_wrong, instruction_text, program_lines, taken_lines, told_if, program_faults};
+ghost use Rattle.pv_model.specs.Source.Judged.{is_init, second_text, faults_in, invalid_turns, invalid_turn};
+ghost use Rattle.pv_model.specs.Source.Programs.{is_set_in, and_label, is_invalid, instruction_text, program_lines, taken_lines, reported_if, program_faults};
 ghost use Rattle.pv_model.specs.Source.Words.{between, words_from, lines_that_count};
 ghost use Rattle.pv_source.specs.Reading.{numbered};
 ghost use Rattle.pv_source.specs.ReadBlocks.{block_of};
 ghost use Rattle.pv_source.specs.ReadPrograms.{bytes_of, label_value, name_value};
-ghost use Rattle.pv_source.specs.Telling.{Tells};
+ghost use Rattle.pv_source.specs.Reporting.{Reports};
 
 use crate::blocks::{Block, Kind};
 use crate::entries::second_text;
@@ -23,14 +23,15 @@ use pv_script::schedule::turn;
 use pv_text::lines::split_line;
 use std::alloc::{AllocError, Global};
 
-// Whether the instruction after so many, in a program of so many, is none, or one too many.
-fn is_wrong(count: u32, before: u32, text: &[u8]) -> bool
-    ensures { result ≡ is_wrong count before (Some text.now) }
+// Returns whether an instruction is invalid, or exceeds the maximum number. `count` is the number of instructions of
+// the program, and `before` the number of those that precede it.
+fn is_invalid(count: u32, before: u32, text: &[u8]) -> bool
+    ensures { result ≡ is_invalid count before (Some text.now) }
 {
     before == LINES as u32 || instruction(count.min(LINES as u32) as u16, text).is_err()
 }
 
-// Whether a label is one of those that were set.
+// Returns whether a label is in a list of names.
 fn is_set(label: Option<&[u8]>, names: &[&[u8]]) -> bool
     ensures { result ≡ is_set_in (name_value label.entry) (map bytes_of names.now) }
 {
@@ -45,35 +46,37 @@ fn is_set(label: Option<&[u8]>, names: &[&[u8]]) -> bool
     false
 }
 
-// Whether the line of a program after so many instructions has one that is none, or one too many.
+// Returns whether a line of a program has an instruction that is invalid or exceeds the maximum number. `before` is the
+// number of instructions that precede it.
 #[tactic(auto, using(crate::proofs::SourcePrograms::instruction_some))]
-fn has_wrong(
+fn has_invalid(
     labels: &[Label],
     count: u32,
     before: u32,
     line: &Labelled,
     text: &mut Vec<u8>,
 ) -> Result<bool, AllocError>
-    ensures { IfOk result (λ wrong. wrong ≡ is_wrong count before (instruction_text (map label_value labels.now) (words_from line.now.words.now between))) }
+    ensures { IfOk result (λ invalid. invalid ≡ is_invalid count before (instruction_text (map label_value labels.now) (words_from line.now.words.now between))) }
 {
     if has_no_word(line.words) {
         return Ok(false);
     }
     text.clear();
     push_instruction(labels, line.words, text)?;
-    Ok(is_wrong(count, before, text))
+    Ok(is_invalid(count, before, text))
 }
 
-// A program whose lines are judged: its labels, and how many instructions it has.
+// A program whose lines are being checked: its labels and its number of instructions.
 #[derive(Drop)]
 struct Judged<'a> {
     labels: Vec<Label<'a>>,
     count: u32,
 }
 
-// Tells a line of a program after so many instructions, and after the lines that set some labels, if it is at fault.
-#[tactic(auto, using(crate::proofs::ToldLines::tells_when_full))]
-fn tell_line(
+// Reports a line of a program if it has an error. `names` has the labels that previous lines set, and `before` is the
+// number of previous instructions.
+#[tactic(auto, using(crate::proofs::ReportedLines::reports_when_full))]
+fn report_line(
     alloc: Global,
     program: &Judged,
     names: &[&[u8]],
@@ -82,23 +85,23 @@ fn tell_line(
     text: &mut Vec<u8>,
     faults: &mut Faults,
 ) -> Result<(), AllocError>
-    ensures { OnOk result (Tells faults.old faults.new (told_if (is_set_in (name_value line.now.label) (map bytes_of names.now) || is_wrong program.now.count before (instruction_text (map label_value program.now.labels.items) (words_from line.now.words.now between))) line.now.number [])) }
+    ensures { OnOk result (Reports faults.old faults.new (reported_if (is_set_in (name_value line.now.label) (map bytes_of names.now) || is_invalid program.now.count before (instruction_text (map label_value program.now.labels.items) (words_from line.now.words.now between))) line.now.number [])) }
 {
     if faults.is_full() {
         return Ok(());
     }
-    let wrong = has_wrong(&program.labels, program.count, before, line, text)?;
+    let invalid = has_invalid(&program.labels, program.count, before, line, text)?;
     if is_set(line.label, names) {
-        return faults.tell(line.number, explaining::second_label(alloc, line.label)?);
+        return faults.report(line.number, explaining::second_label(alloc, line.label)?);
     }
-    if wrong {
+    if invalid {
         let what = explaining::instruction(alloc, program.count, before, &program.labels, text)?;
-        return faults.tell(line.number, what);
+        return faults.report(line.number, what);
     }
     Ok(())
 }
 
-// Puts the label of a line, if it sets one, after those that were set before.
+// Appends the label that a line sets, if it sets one.
 fn push_name<'a>(names: &mut Vec<&'a [u8]>, label: Option<&'a [u8]>) -> Result<(), AllocError>
     ensures { OnOk result (map bytes_of names.new.items ≡ and_label (name_value label.entry) (map bytes_of names.old.items)) }
 {
@@ -108,10 +111,10 @@ fn push_name<'a>(names: &mut Vec<&'a [u8]>, label: Option<&'a [u8]>) -> Result<(
     Ok(())
 }
 
-// Tells the lines of a program up to its END that are at fault.
-fn tell_program(alloc: Global, body: Lines, faults: &mut Faults) -> Result<(), AllocError>
+// Reports the lines with errors of a program that ends with END.
+fn report_program(alloc: Global, body: Lines, faults: &mut Faults) -> Result<(), AllocError>
     requires { body.number + length body.text.now < 2 ^ 31 }
-    ensures { OnOk result (Tells faults.old faults.new (program_faults (program_lines (numbered body.entry)))) }
+    ensures { OnOk result (Reports faults.old faults.new (program_faults (program_lines (numbered body.entry)))) }
 {
     let (labels, count) = labels_of(alloc, body)?;
     let program = Judged { labels, count };
@@ -120,7 +123,7 @@ fn tell_program(alloc: Global, body: Lines, faults: &mut Faults) -> Result<(), A
     let mut before: u32 = 0;
     let mut rest = body;
     while let Some((line, following)) = next_labelled(rest) {
-        tell_line(alloc, &program, &names, before, &line, &mut text, faults)?;
+        report_line(alloc, &program, &names, before, &line, &mut text, faults)?;
         push_name(&mut names, line.label)?;
         before += instruction_count(line.words);
         rest = following;
@@ -128,9 +131,9 @@ fn tell_program(alloc: Global, body: Lines, faults: &mut Faults) -> Result<(), A
     Ok(())
 }
 
-// Tells a line that is taken as it is, after so many, if it is no instruction.
-#[tactic(auto, using(crate::proofs::ToldLines::tells_when_full))]
-fn tell_taken_line(
+// Reports a line that is copied unchanged if it is not an instruction. `before` is the number of previous lines.
+#[tactic(auto, using(crate::proofs::ReportedLines::reports_when_full))]
+fn report_taken_line(
     alloc: Global,
     count: u32,
     before: u32,
@@ -138,44 +141,45 @@ fn tell_taken_line(
     line: &[u8],
     faults: &mut Faults,
 ) -> Result<(), AllocError>
-    ensures { OnOk result (Tells faults.old faults.new (told_if (is_wrong count before (Some line.now)) number [])) }
+    ensures { OnOk result (Reports faults.old faults.new (reported_if (is_invalid count before (Some line.now)) number [])) }
 {
     if faults.is_full() {
         return Ok(());
     }
-    if is_wrong(count, before, line) {
+    if is_invalid(count, before, line) {
         let what = explaining::taken_instruction(alloc, count, before, line)?;
-        return faults.tell(number, what);
+        return faults.report(number, what);
     }
     Ok(())
 }
 
-// Tells the lines of a program that are taken as they are and are at fault.
-fn tell_taken(alloc: Global, body: Lines, faults: &mut Faults) -> Result<(), AllocError>
+// Reports the lines with errors of a program whose lines are copied unchanged.
+fn report_taken(alloc: Global, body: Lines, faults: &mut Faults) -> Result<(), AllocError>
     requires { body.number + length body.text.now < 2 ^ 31 }
-    ensures { OnOk result (Tells faults.old faults.new (program_faults (taken_lines (numbered body.entry)))) }
+    ensures { OnOk result (Reports faults.old faults.new (program_faults (taken_lines (numbered body.entry)))) }
 {
     let count = line_count(body.text);
     let mut before: u32 = 0;
     let mut rest = body.text;
     while let Some((line, following)) = split_line(rest) {
-        tell_taken_line(alloc, count, before, body.number + before, line, faults)?;
+        report_taken_line(alloc, count, before, body.number + before, line, faults)?;
         before += 1;
         rest = following;
     }
     Ok(())
 }
 
-// Tells the line after so many turns, if it is none, or one too many.
-#[tactic(auto, using(crate::proofs::ToldLines::tells_when_full))]
-fn tell_turn(
+// Reports a line of a schedule if it is not a turn, or exceeds the maximum number. `before` is the number of previous
+// turns.
+#[tactic(auto, using(crate::proofs::ReportedLines::reports_when_full))]
+fn report_turn(
     alloc: Global,
     before: u32,
     line: Line,
     text: &mut Vec<u8>,
     faults: &mut Faults,
 ) -> Result<(), AllocError>
-    ensures { OnOk result (Tells faults.old faults.new (told_if (wrong_turn before (words_from line.entry.words.now between)) line.entry.number [])) }
+    ensures { OnOk result (Reports faults.old faults.new (reported_if (invalid_turn before (words_from line.entry.words.now between)) line.entry.number [])) }
 {
     if faults.is_full() {
         return Ok(());
@@ -183,28 +187,28 @@ fn tell_turn(
     text.clear();
     push_words(line.words, text)?;
     if before == SCHEDULE_LINES as u32 || turn(text).is_none() {
-        return faults.tell(line.number, explaining::turn(alloc, before, text)?);
+        return faults.report(line.number, explaining::turn(alloc, before, text)?);
     }
     Ok(())
 }
 
-// Tells the lines of a schedule that are at fault.
-fn tell_turns(alloc: Global, lines: Lines, faults: &mut Faults) -> Result<(), AllocError>
+// Reports the lines with errors of a schedule.
+fn report_turns(alloc: Global, lines: Lines, faults: &mut Faults) -> Result<(), AllocError>
     requires { lines.number + length lines.text.now < 2 ^ 31 }
-    ensures { OnOk result (Tells faults.old faults.new (wrong_turns 0 (lines_that_count (numbered lines.entry)))) }
+    ensures { OnOk result (Reports faults.old faults.new (invalid_turns 0 (lines_that_count (numbered lines.entry)))) }
 {
     let mut text = Vec::new(alloc);
     let mut before: u32 = 0;
     let mut rest = lines;
     while let Some((line, following)) = next_line(rest) {
-        tell_turn(alloc, before, line, &mut text, faults)?;
+        report_turn(alloc, before, line, &mut text, faults)?;
         before += 1;
         rest = following;
     }
     Ok(())
 }
 
-// Whether the second word of a line is the text `/init`.
+// Returns whether the second word of a line is the text `/init`.
 fn names_init(words: &[u8]) -> bool
     ensures { result ≡ is_init (second_text (words_from words.now between)) }
 {
@@ -214,19 +218,21 @@ fn names_init(words: &[u8]) -> bool
     path.as_slice() == b"/init".as_slice()
 }
 
-/// Tells the lines that belong to a block and are at fault, after those that were told.
+/// Reports the lines with errors that belong to a block.
 ///
-/// `Err` says that memory was refused.
-pub fn tell_lines(alloc: Global, block: &Block, faults: &mut Faults) -> Result<(), AllocError>
+/// # Errors
+///
+/// Returns `AllocError` if memory cannot be allocated.
+pub fn report_lines(alloc: Global, block: &Block, faults: &mut Faults) -> Result<(), AllocError>
     requires { block.now.number + 1 + length block.now.body.now < 2 ^ 31 }
-    ensures { OnOk result (Tells faults.old faults.new (faults_in (block_of block.now))) }
+    ensures { OnOk result (Reports faults.old faults.new (faults_in (block_of block.now))) }
 {
     match block.kind {
-        Kind::Program => tell_program(alloc, block.lines(), faults),
-        Kind::Schedule => tell_turns(alloc, block.lines(), faults),
+        Kind::Program => report_program(alloc, block.lines(), faults),
+        Kind::Schedule => report_turns(alloc, block.lines(), faults),
         Kind::Taken => {
             if names_init(block.words) {
-                tell_taken(alloc, block.lines(), faults)
+                report_taken(alloc, block.lines(), faults)
             } else {
                 Ok(())
             }

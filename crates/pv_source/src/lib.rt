@@ -1,10 +1,11 @@
-//! Sources: texts with comments, blanks and labels, and the manifests and bundles that they stand for.
+//! Sources: manifests and bundles with comments, free use of blanks, and labels in programs. A source is checked and
+//! translated to a plain manifest or bundle.
 //!
-//! A source is read line by line: `words` and `lines` read what counts, `blocks` each line with those that belong to it,
-//! `programs` labels and instructions, `entries` the entry that a block makes. `judging` tells the lines of programs and of the
-//! schedule that are at fault, `standing` judges the lines of the manifest with the tree that they make, and `whole` a source
-//! from its first line to its last. `texts` has what is written, `explaining` what a fault says, of which it is proved that it
-//! stands in one line, and `source` reads and writes.
+//! A source is read line by line: `words` and `lines` find the words of each line, and `blocks` groups a line with
+//! those that belong to it. `programs` handles labels and instructions, and `entries` the entry of a block. `judging`
+//! checks the lines of programs and of the schedule, `so_far` the lines of the manifest with the tree that they build,
+//! and `whole` the whole source. `faults` collects the errors, and `explaining` writes their messages, each proved to
+//! be one printable line. `texts` produces the translated text, and `source` reads a source and writes the result.
 #![tactic(auto)]
 
 mod blocks;
@@ -14,14 +15,14 @@ mod faults;
 mod judging;
 mod lines;
 mod programs;
+mod so_far;
 mod source;
-mod standing;
 mod texts;
 mod whole;
 mod words;
 
 pub use explaining::Saying;
-pub use faults::{Fault, Faults, TOLD};
+pub use faults::{Fault, Faults, REPORTED};
 pub use source::{SourceStop, write_source};
 pub use texts::text_of;
 pub use whole::faults_of;

@@ -8,27 +8,27 @@ ghost use Rattle.pv_model.specs.Source.Words.{between, words_from};
 use crate::words::{content, is_alone, next_word};
 use pv_text::lines::split_line;
 
-/// Lines that are still to be read: their text, and the number of the first.
+/// The lines that remain: their text, and the number of the first.
 #[derive(Clone, Copy)]
 pub struct Lines<'a> {
-    /// The text that the lines are.
+    /// The text of the lines.
     pub text: &'a [u8],
-    /// The number of the first, counted from 1 where the source begins.
+    /// The number of the first line, counted from 1 at the start of the source.
     pub number: u32,
 }
 
-/// A line that counts: its number, and its bytes without a CR at the end.
+/// A line that has a word: its number, and its bytes without a carriage return at the end.
 #[derive(Clone, Copy)]
 pub struct Line<'a> {
     /// Its number in the source, counted from 1.
     pub number: u32,
-    /// The first of its words.
+    /// Its first word.
     pub first: &'a [u8],
-    /// What its words are read of.
+    /// The text of its words.
     pub words: &'a [u8],
 }
 
-/// The first line that has a word, and the lines after it; nothing where no line has one.
+/// Returns the first line that has a word, with the lines after it, or `None` if no line has one.
 pub fn next_line<'a>(lines: Lines<'a>) -> Option<(Line<'a>, Lines<'a>)>
     requires { lines.number + length lines.text.now < 2 ^ 32 }
     ensures counts { first_that_counts (numbered lines.entry) ≡ option_map (λ p. (worded p.0, numbered p.1)) result }
@@ -59,7 +59,8 @@ pub fn next_line<'a>(lines: Lines<'a>) -> Option<(Line<'a>, Lines<'a>)>
     None
 }
 
-/// The text of the lines before the first that is a mark alone, and the lines after that one; nothing where there is none.
+/// Returns the text of the lines before the first that consists of `mark` alone, with the lines after that one. Returns
+/// `None` if there is no such line.
 pub fn lines_before_mark<'a>(mark: &[u8], lines: Lines<'a>) -> Option<(&'a [u8], Lines<'a>)>
     requires { lines.number + length lines.text.now < 2 ^ 32 }
     ensures found { MatchOption result (lines_up_to mark.now (numbered lines.entry) ≡ None) (λ p. Ends mark.now lines.entry p.0.now p.1) }
@@ -84,7 +85,7 @@ pub fn lines_before_mark<'a>(mark: &[u8], lines: Lines<'a>) -> Option<(&'a [u8],
     None
 }
 
-/// The text of the next lines, so many, and the lines after them; nothing where there are fewer.
+/// Returns the text of the next `count` lines, with the lines after them, or `None` if there are fewer.
 pub fn next_lines<'a>(count: u32, lines: Lines<'a>) -> Option<(&'a [u8], Lines<'a>)>
     requires { lines.number + length lines.text.now < 2 ^ 32 }
     ensures found { MatchOption result (length (lines_of lines.entry.text.now) < count) (λ p. Takes count lines.entry p.0.now p.1) }
@@ -105,7 +106,7 @@ pub fn next_lines<'a>(count: u32, lines: Lines<'a>) -> Option<(&'a [u8], Lines<'
     Some((body, Lines { text: rest, number }))
 }
 
-/// How many lines a text has.
+/// Returns the number of lines of a text.
 pub fn line_count(text: &[u8]) -> u32
     requires { length text.now < 2 ^ 32 }
     ensures value { result ≡ length (lines_of text.now) }

@@ -1,4 +1,4 @@
-//! Programs in a source: labels, and what stands for them.
+//! Programs in a source: labels and instructions.
 ghost use Rattle.std.specs.Prelude.{◌≡◌, ◌+◌, ◌<◌, ◌≤◌, ◌^◌, ◌++◌, [], length, map, IfOk, IfSome, OnOk, option_map};
 ghost use Rattle.std.specs.List.{list_all};
 ghost use Rattle.pv_model.specs.Answers.Lines.{spaced};
@@ -22,34 +22,34 @@ pub struct Labelled<'a> {
     pub number: u32,
     /// The label, if it sets one.
     pub label: Option<&'a [u8]>,
-    /// What the words of its instruction are read of: it may have none.
+    /// The text of the words of its instruction. There may be none.
     pub words: &'a [u8],
 }
 
-/// A label, and the number of the instruction that it stands for.
+/// A label with the number of the instruction that it refers to.
 #[derive(Clone, Copy)]
 pub struct Label<'a> {
     /// The label.
     pub name: &'a [u8],
-    /// The number, counted from 1.
+    /// The number of the instruction, counted from 1.
     pub number: u32,
 }
 
-// Whether a byte may stand in a label after its first.
+// Returns whether a label can contain a byte after its first.
 fn is_label_byte(byte: u8) -> bool
     ensures { result ≡ is_label_byte byte }
 {
     is_letter(byte) || byte.is_ascii_digit() || byte == b'_' || byte == b'-'
 }
 
-// Whether all bytes may stand in a label.
+// Returns whether a label can contain all of the bytes.
 fn are_label_bytes(bytes: &[u8]) -> bool
     ensures { result ≡ list_all is_label_byte bytes.now }
 {
     bytes.iter().all(|byte| is_label_byte(*byte))
 }
 
-// Whether a name is that of a label.
+// Returns whether a name is a valid label.
 fn is_label(name: &[u8]) -> bool
     ensures { result ≡ is_label name.now }
 {
@@ -59,7 +59,7 @@ fn is_label(name: &[u8]) -> bool
     }
 }
 
-/// The label that a word sets, if it sets one.
+/// Returns the label that a word sets, if it sets one.
 pub fn label_of(word: &[u8]) -> Option<&[u8]>
     ensures { option_map (λ name. name.now) result ≡ label_of word.now }
 {
@@ -69,7 +69,7 @@ pub fn label_of(word: &[u8]) -> Option<&[u8]>
     if is_label(name) { Some(name) } else { None }
 }
 
-// A line with its label apart.
+// Separates the label of a line from its instruction.
 fn with_label_apart<'a>(line: Line<'a>) -> Labelled<'a>
     ensures { labelled_value result ≡ labelled_words line.entry.number (words_from line.entry.words.now between) }
 {
@@ -91,7 +91,7 @@ fn with_label_apart<'a>(line: Line<'a>) -> Labelled<'a>
     }
 }
 
-// A line with an `exit 0`.
+// Replaces the instruction of a line by `exit 0`.
 fn with_exit<'a>(line: Labelled<'a>) -> Labelled<'a>
     ensures { labelled_value result ≡ record (labelled_value line.entry) { words = or_exit [] } }
 {
@@ -102,8 +102,8 @@ fn with_exit<'a>(line: Labelled<'a>) -> Labelled<'a>
     }
 }
 
-/// The first line of a program that counts, and the lines after it. The last of them has an `exit 0` where it has no
-/// instruction of its own.
+/// Returns the first line of a program that has a word, with the lines after it. If this line is the last and has no
+/// instruction, it receives an `exit 0`.
 pub fn next_labelled<'a>(lines: Lines<'a>) -> Option<(Labelled<'a>, Lines<'a>)>
     requires { lines.number + length lines.text.now < 2 ^ 31 }
     ensures line { labelled_lines (numbered lines.entry) ≡ then_labelled result }
@@ -123,7 +123,7 @@ pub fn next_labelled<'a>(lines: Lines<'a>) -> Option<(Labelled<'a>, Lines<'a>)>
     Some((line, rest))
 }
 
-/// How many instructions the words of a line are: one, or none.
+/// Returns the number of instructions of a line with these words: one or zero.
 pub fn instruction_count(words: &[u8]) -> u32
     ensures value { result ≡ count_words (words_from words.now between) }
     ensures few { result ≤ 1 }
@@ -131,7 +131,7 @@ pub fn instruction_count(words: &[u8]) -> u32
     if has_no_word(words) { 0 } else { 1 }
 }
 
-// Puts the label of a line, if it sets one, after those before it.
+// Appends the label that a line sets, if it sets one.
 fn push_label<'a>(
     labels: &mut Vec<Label<'a>>,
     label: Option<&'a [u8]>,
@@ -145,10 +145,11 @@ fn push_label<'a>(
     Ok(())
 }
 
-/// The labels of a program, each with the number of the instruction that it stands for, and how many instructions the
-/// program has.
+/// Returns the labels of a program, each with the number of its instruction, and the number of instructions.
 ///
-/// `Err` says that memory was refused.
+/// # Errors
+///
+/// Returns `AllocError` if memory cannot be allocated.
 pub fn labels_of<'a>(alloc: Global, body: Lines<'a>) -> Result<(Vec<Label<'a>>, u32), AllocError>
     requires { body.number + length body.text.now < 2 ^ 31 }
     ensures labels { IfOk result (λ p. map label_value p.0.items ≡ labels_from 1 (labelled_lines (numbered body.entry))) }
@@ -165,7 +166,7 @@ pub fn labels_of<'a>(alloc: Global, body: Lines<'a>) -> Result<(Vec<Label<'a>>, 
     Ok((labels, count))
 }
 
-// The number that a label stands for, if it is set.
+// Returns the number of the instruction that a label refers to, if the label is set.
 fn number_of(labels: &[Label], name: &[u8]) -> Option<u32>
     ensures { result ≡ number_of_label name.now (map label_value labels.now) }
 {
@@ -177,7 +178,7 @@ fn number_of(labels: &[Label], name: &[u8]) -> Option<u32>
     None
 }
 
-/// Whether a word begins with a letter.
+/// Returns whether a word begins with a letter.
 pub fn begins_with_letter(word: &[u8]) -> bool
     ensures { result ≡ begins_with_letter word.now }
 {
@@ -187,7 +188,7 @@ pub fn begins_with_letter(word: &[u8]) -> bool
     }
 }
 
-/// Whether a word is the name of a jump.
+/// Returns whether a word is the name of a jump.
 pub fn is_jump(word: &[u8]) -> bool
     ensures { result ≡ is_jump word.now }
 {
@@ -197,7 +198,7 @@ pub fn is_jump(word: &[u8]) -> bool
         || word == b"jneg".as_slice()
 }
 
-// Puts the words of a jump after its name, of which the last says where to: a label is its number.
+// Appends the words of a jump after its name. If the last word, the target, is a label, its number is appended instead.
 fn push_jump(labels: &[Label], words: &[u8], out: &mut Vec<u8>) -> Result<(), AllocError>
     ensures { OnOk result (let given = words_from words.now between in out.new.items ≡ out.old.items ++ spaced_more (with_last_word (target_word (map label_value labels.now) (last_word given)) given)) }
 {
@@ -212,9 +213,11 @@ fn push_jump(labels: &[Label], words: &[u8], out: &mut Vec<u8>) -> Result<(), Al
     push_more_with_last(words, buffer.format(number).as_bytes(), out)
 }
 
-/// Puts an instruction after what is there: its words with one space between, and for a label its number.
+/// Appends an instruction to `out`: its words separated by single spaces, with labels replaced by numbers.
 ///
-/// `Err` says that memory was refused.
+/// # Errors
+///
+/// Returns `AllocError` if memory cannot be allocated.
 pub fn push_instruction(labels: &[Label], words: &[u8], out: &mut Vec<u8>) -> Result<(), AllocError>
     ensures { OnOk result (out.new.items ≡ out.old.items ++ spaced (without_labels (map label_value labels.now) (words_from words.now between))) }
 {
@@ -228,9 +231,11 @@ pub fn push_instruction(labels: &[Label], words: &[u8], out: &mut Vec<u8>) -> Re
     push_jump(labels, rest, out)
 }
 
-/// Puts the instructions of a program after what is there, each with its LF.
+/// Appends the instructions of a program to `out`, each with a line feed.
 ///
-/// `Err` says that memory was refused.
+/// # Errors
+///
+/// Returns `AllocError` if memory cannot be allocated.
 pub fn push_program(labels: &[Label], body: Lines, out: &mut Vec<u8>) -> Result<(), AllocError>
     requires few { body.number + length body.text.now < 2 ^ 31 }
     requires labels { map label_value labels.now ≡ labels_from 1 (labelled_lines (numbered body)) }

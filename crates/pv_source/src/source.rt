@@ -1,7 +1,7 @@
-//! A source read whole, and what it stands for written.
+//! Reading a source to its end and writing its translation.
 ghost use Rattle.std.specs.Prelude.{◌≡◌, ◌≢◌, ◌⊎◌, ◌++◌, ◌≤◌, length, map, IfOk, IfErr, IfSome, OnOk, Err};
 ghost use Rattle.pv_model.specs.Stream.{Rose};
-ghost use Rattle.pv_source.specs.Outcome.{told_of, fault_line, fault_lines, AreLines, WritesText, TellsFaults, BeginsText, BeginsFaults, IsBefore, stop_of};
+ghost use Rattle.pv_source.specs.Outcome.{reported_of, fault_line, fault_lines, AreLines, WritesText, ReportsFaults, BeginsText, BeginsFaults, IsBefore, stop_of};
 ghost use Rattle.pv_source.specs.Saying.{IsPrintable};
 ghost use Rattle.pv_source.specs.declared.source.SourceStop.TheVariants.{Memory as MemoryStop, Write as WriteStop};
 ghost use Rattle.pv_streams.specs.Sources.{FailsToGive};
@@ -14,16 +14,16 @@ use pv_model::{Failed, ManifestFault, RunFault};
 use pv_streams::{SOURCE_BYTES, Sink, Source, read_whole, write_through};
 use std::alloc::{AllocError, Global};
 
-/// Why what a source stands for is not written.
+/// Why the translation of a source was not written.
 #[derive(Clone, Copy, Debug, PartialEq, Eq)]
 pub enum SourceStop {
-    /// The source could not be read, or gave more than 67,108,864 bytes.
+    /// The source cannot be read, or has more than 67,108,864 bytes.
     Read,
-    /// Memory was refused.
+    /// Memory cannot be allocated.
     Memory,
-    /// Lines are at fault, and were told.
+    /// Lines have errors, which were reported.
     Refused,
-    /// A write failed, of the text or of the faults.
+    /// A write of the translation or of the errors failed.
     Write,
 }
 
@@ -62,9 +62,9 @@ impl From<Failed> for SourceStop {
     }
 }
 
-// Puts the line of a fault after what is there.
+// Appends the line of an error.
 fn push_fault(name: &[u8], fault: &Fault, out: &mut Vec<u8>) -> Result<(), AllocError>
-    ensures text { OnOk result (out.new.items ≡ out.old.items ++ fault_line name.now (told_of fault.now)) }
+    ensures text { OnOk result (out.new.items ≡ out.old.items ++ fault_line name.now (reported_of fault.now)) }
     ensures line { OnOk result (IsPrintable fault.now.what) }
 {
     let mut buffer = Buffer::new();
@@ -77,36 +77,36 @@ fn push_fault(name: &[u8], fault: &Fault, out: &mut Vec<u8>) -> Result<(), Alloc
     out.extend_from_slice(b"\n")
 }
 
-// The text that tells faults: a line each.
-fn faults_text(alloc: Global, name: &[u8], told: &[Fault]) -> Result<Vec<u8>, AllocError>
-    ensures text { IfOk result (λ text. text.items ≡ fault_lines name.now (map told_of told.now)) }
-    ensures lines { OnOk result (AreLines (map told_of told.now)) }
+// Returns the text that reports errors, one line each.
+fn faults_text(alloc: Global, name: &[u8], reported: &[Fault]) -> Result<Vec<u8>, AllocError>
+    ensures text { IfOk result (λ text. text.items ≡ fault_lines name.now (map reported_of reported.now)) }
+    ensures lines { OnOk result (AreLines (map reported_of reported.now)) }
 {
     let mut text = Vec::new(alloc);
-    for fault in told {
+    for fault in reported {
         push_fault(name, fault, &mut text)?;
     }
     Ok(text)
 }
 
-// Writes what the bytes of a source stand for, or tells the lines at fault.
+// Writes the translation of a source, or reports the lines with errors.
 fn write_bytes<W: Sink, E: Sink>(
     alloc: Global,
     name: &[u8],
     source: &[u8],
     out: &mut W,
-    told: &mut E,
+    reported: &mut E,
 ) -> Result<(), SourceStop>
     requires { length source.now ≤ SOURCE_BYTES }
     ensures written { OnOk result (WritesText source.now (W.written out.old) (W.written out.new)) }
-    ensures refused { result ≡ Err SourceStop.Refused → TellsFaults name.now source.now (E.written told.old) (E.written told.new) }
+    ensures refused { result ≡ Err SourceStop.Refused → ReportsFaults name.now source.now (E.written reported.old) (E.written reported.new) }
     ensures empty { OnOk result (W.buffered out.new ≡ 0) }
     ensures unwritten { result ≡ Err SourceStop.Refused → out.new ≡ out.old }
-    ensures untold { OnOk result (told.new ≡ told.old) }
+    ensures unreported { OnOk result (reported.new ≡ reported.old) }
     ensures unread { result ≢ Err SourceStop.Read }
-    ensures stopped { result ≡ Err SourceStop.Memory → (out.new ≡ out.old) × (told.new ≡ told.old) }
-    ensures write { result ≡ Err SourceStop.Write → Rose (W.failures out.old) (W.failures out.new) ⊎ Rose (E.failures told.old) (E.failures told.new) }
-    ensures begun { result ≡ Err SourceStop.Write → BeginsText source.now (W.written out.old) (W.written out.new) ⊎ BeginsFaults name.now source.now (E.written told.old) (E.written told.new) }
+    ensures stopped { result ≡ Err SourceStop.Memory → (out.new ≡ out.old) × (reported.new ≡ reported.old) }
+    ensures write { result ≡ Err SourceStop.Write → Rose (W.failures out.old) (W.failures out.new) ⊎ Rose (E.failures reported.old) (E.failures reported.new) }
+    ensures begun { result ≡ Err SourceStop.Write → BeginsText source.now (W.written out.old) (W.written out.new) ⊎ BeginsFaults name.now source.now (E.written reported.old) (E.written reported.new) }
 {
     let faults = faults_of(alloc, source)?;
     if faults.is_empty() {
@@ -114,42 +114,42 @@ fn write_bytes<W: Sink, E: Sink>(
         write_through(out, &text)?;
         return Ok(());
     }
-    let text = faults_text(alloc, name, faults.told())?;
-    write_through(told, &text)?;
+    let text = faults_text(alloc, name, faults.reported())?;
+    write_through(reported, &text)?;
     Err(SourceStop::Refused)
 }
 
-/// Reads a source whole, and writes the manifest or bundle that it stands for to `out`. Where lines are at fault, nothing is
-/// written there, and at most twenty of them are told to `told`, in their order: for each a line `pvsim: NAME:LINE: WHAT`.
-/// What was written was flushed.
+/// Reads a source to its end, and writes the manifest or bundle that it translates to, to `out`. If lines have errors,
+/// nothing is written to `out`, and the first twenty of them are reported in order on `reported`, each in a line
+/// `pvsim: NAME:LINE: WHAT`. The sink that was written to is flushed.
 ///
 /// # Errors
 ///
-/// - `Read`: a read failed, or the source gave more than 67,108,864 bytes.
-/// - `Refused`: lines are at fault, and were told.
-/// - `Memory`: memory was refused.
-/// - `Write`: a write failed, of the text or of the faults: a beginning of it was written.
+/// - `Read`: a read failed, or the source has more than 67,108,864 bytes.
+/// - `Refused`: lines have errors, which were reported.
+/// - `Memory`: memory cannot be allocated.
+/// - `Write`: a write of the translation or of the errors failed. The sink has received a prefix of it.
 ///
-/// After `Read` and `Memory` nothing was written.
+/// If the error is `Read` or `Memory`, nothing was written.
 pub fn write_source<S: Source, W: Sink, E: Sink>(
     alloc: Global,
     name: &[u8],
     source: &mut S,
     out: &mut W,
-    told: &mut E,
+    reported: &mut E,
 ) -> Result<(), SourceStop>
     ensures written { OnOk result (IfSome (S.remaining source.old) (λ bytes. WritesText bytes (W.written out.old) (W.written out.new))) }
-    ensures refused { result ≡ Err SourceStop.Refused → IfSome (S.remaining source.old) (λ bytes. TellsFaults name.now bytes (E.written told.old) (E.written told.new)) }
+    ensures refused { result ≡ Err SourceStop.Refused → IfSome (S.remaining source.old) (λ bytes. ReportsFaults name.now bytes (E.written reported.old) (E.written reported.new)) }
     ensures empty { OnOk result (W.buffered out.new ≡ 0) }
 
-    // Nothing is written where lines are at fault, and nothing told where none is.
+    // If lines have errors, nothing is written to `out`. If no line has one, nothing is written to `reported`.
     ensures unwritten { result ≡ Err SourceStop.Refused → out.new ≡ out.old }
-    ensures untold { OnOk result (told.new ≡ told.old) }
+    ensures unreported { OnOk result (reported.new ≡ reported.old) }
     ensures read { result ≡ Err SourceStop.Read → FailsToGive S.Source source.old source.new }
-    ensures stopped { IfErr result (λ stop. IsBefore stop → (out.new ≡ out.old) × (told.new ≡ told.old)) }
-    ensures write { result ≡ Err SourceStop.Write → Rose (W.failures out.old) (W.failures out.new) ⊎ Rose (E.failures told.old) (E.failures told.new) }
-    ensures begun { result ≡ Err SourceStop.Write → IfSome (S.remaining source.old) (λ bytes. BeginsText bytes (W.written out.old) (W.written out.new) ⊎ BeginsFaults name.now bytes (E.written told.old) (E.written told.new)) }
+    ensures stopped { IfErr result (λ stop. IsBefore stop → (out.new ≡ out.old) × (reported.new ≡ reported.old)) }
+    ensures write { result ≡ Err SourceStop.Write → Rose (W.failures out.old) (W.failures out.new) ⊎ Rose (E.failures reported.old) (E.failures reported.new) }
+    ensures begun { result ≡ Err SourceStop.Write → IfSome (S.remaining source.old) (λ bytes. BeginsText bytes (W.written out.old) (W.written out.new) ⊎ BeginsFaults name.now bytes (E.written reported.old) (E.written reported.new)) }
 {
     let bytes = read_whole(alloc, source)?;
-    write_bytes(alloc, name, &bytes, out, told)
+    write_bytes(alloc, name, &bytes, out, reported)
 }

@@ -1,4 +1,4 @@
-//! What is written of a source.
+//! The text of a translated source.
 ghost use Rattle.std.specs.Prelude.{◌≡◌, ◌+◌, ◌<◌, ◌^◌, ◌∷◌, ◌++◌, [], length, map, IfOk, OnOk};
 ghost use Rattle.pv_model.specs.Answers.Lines.{spaced};
 ghost use Rattle.pv_model.specs.Grammar.Lines.{lines_of};
@@ -18,7 +18,7 @@ use itoa::Buffer;
 use pv_text::lines::split_line;
 use std::alloc::{AllocError, Global};
 
-// Puts words as a line after what is there.
+// Appends words as a line.
 fn push_line(words: &[u8], out: &mut Vec<u8>) -> Result<(), AllocError>
     ensures { OnOk result (out.new.items ≡ out.old.items ++ ended (spaced (words_from words.now between) ∷ [])) }
 {
@@ -27,9 +27,11 @@ fn push_line(words: &[u8], out: &mut Vec<u8>) -> Result<(), AllocError>
     Ok(())
 }
 
-/// Puts the lines of a text after what is there, each with its LF.
+/// Appends the lines of a text to `out`, each with a line feed.
 ///
-/// `Err` says that memory was refused.
+/// # Errors
+///
+/// Returns `AllocError` if memory cannot be allocated.
 pub fn push_lines(text: &[u8], out: &mut Vec<u8>) -> Result<(), AllocError>
     ensures { OnOk result (out.new.items ≡ out.old.items ++ ended (lines_of text.now)) }
 {
@@ -42,7 +44,7 @@ pub fn push_lines(text: &[u8], out: &mut Vec<u8>) -> Result<(), AllocError>
     Ok(())
 }
 
-// Puts the lines that count after what is there.
+// Appends the lines that have words.
 fn push_turns(lines: Lines, out: &mut Vec<u8>) -> Result<(), AllocError>
     requires { lines.number + length lines.text.now < 2 ^ 31 }
     ensures { OnOk result (out.new.items ≡ out.old.items ++ ended (map (λ line. spaced line.1) (lines_that_count (numbered lines.entry)))) }
@@ -55,7 +57,7 @@ fn push_turns(lines: Lines, out: &mut Vec<u8>) -> Result<(), AllocError>
     Ok(())
 }
 
-// Puts the line of a program with the number of its instructions, and these, after what is there.
+// Appends the line of a program with its number of instructions, and then the instructions.
 fn push_counted(
     alloc: Global,
     words: &[u8],
@@ -72,7 +74,7 @@ fn push_counted(
     push_program(&labels, body, out)
 }
 
-// Puts the line of an executable file, and the lines that it takes, after what is there.
+// Appends the line of an executable file, and the lines that it takes.
 #[tactic(auto, using(crate::proofs::WrittenTexts::ended_both))]
 fn push_taken(words: &[u8], text: &[u8], out: &mut Vec<u8>) -> Result<(), AllocError>
     ensures { OnOk result (out.new.items ≡ out.old.items ++ ended (spaced (words_from words.now between) ∷ lines_of text.now)) }
@@ -82,7 +84,7 @@ fn push_taken(words: &[u8], text: &[u8], out: &mut Vec<u8>) -> Result<(), AllocE
     Ok(())
 }
 
-// Puts what is written of a block after what is there.
+// Appends the translation of a block.
 #[tactic(auto, using(crate::proofs::WrittenTexts::bytes_counted))]
 fn push_block(alloc: Global, block: &Block, out: &mut Vec<u8>) -> Result<(), AllocError>
     requires { block.now.number + 1 + length block.now.body.now < 2 ^ 31 }
@@ -100,9 +102,11 @@ fn push_block(alloc: Global, block: &Block, out: &mut Vec<u8>) -> Result<(), All
     }
 }
 
-/// The text that is written of a source: the manifest or bundle that it stands for, where no line is at fault.
+/// Returns the translation of a source. If no line has an error, it is a manifest or bundle.
 ///
-/// `Err` says that memory was refused.
+/// # Errors
+///
+/// Returns `AllocError` if memory cannot be allocated.
 pub fn text_of(alloc: Global, source: &[u8]) -> Result<Vec<u8>, AllocError>
     requires { length source.now + 1 < 2 ^ 31 }
     ensures { IfOk result (λ text. text.items ≡ text_of_blocks (blocks_of source.now)) }

@@ -1,4 +1,4 @@
-//! The words of a source's line.
+//! The words of a line of a source.
 ghost use Rattle.std.specs.Prelude.{◌≡◌, ◌≢◌, ◌==◌, ◌<◌, ◌≤◌, ◌∷◌, ◌++◌, [], true, false, length, take, drop, MatchOption, MatchBool, IfSome, OnOk, option_map};
 ghost use Rattle.std.specs.List.{list_all, list_any, position, position_or_len};
 ghost use Rattle.pv_model.specs.Answers.Lines.{spaced};
@@ -9,21 +9,21 @@ ghost use Rattle.pv_source.specs.Reading.{BeginsNoBlank, spaced_more};
 use pv_text::lines::first_of;
 use std::alloc::AllocError;
 
-// Whether a byte is a blank or a tab.
+// Returns whether a byte is a space or a tab.
 fn is_blank(byte: u8) -> bool
     ensures { result ≡ is_blank byte }
 {
     byte == b' ' || byte == b'\t'
 }
 
-/// Whether a byte is a letter, of either case.
+/// Returns whether a byte is a letter of either case.
 pub fn is_letter(byte: u8) -> bool
     ensures { result ≡ is_letter byte }
 {
     matches!(byte, b'A'..=b'Z' | b'a'..=b'z')
 }
 
-/// What stands before a byte that is the last of some.
+/// Returns the bytes before a last byte that is `last`, or `None` if they do not end with it.
 #[tactic(auto, using(crate::proofs::SourceWords::last_here, crate::proofs::SourceWords::last_other, crate::proofs::SourceWords::no_last))]
 pub fn before_last(last: u8, bytes: &[u8]) -> Option<&[u8]>
     ensures { option_map (λ front. front.now) result ≡ before_last last bytes.now }
@@ -34,7 +34,7 @@ pub fn before_last(last: u8, bytes: &[u8]) -> Option<&[u8]>
     if *byte == last { Some(front) } else { None }
 }
 
-/// A line without the CR before its LF: its words are those that are left.
+/// Returns a line without a carriage return at its end. Its words are those of the result.
 #[tactic(auto, unfolding(pv_model::specs::Source::Words::words_of))]
 pub fn content(line: &[u8]) -> &[u8]
     ensures { words_from result.now between ≡ words_of line.now }
@@ -42,14 +42,14 @@ pub fn content(line: &[u8]) -> &[u8]
     before_last(b'\r', line).unwrap_or(line)
 }
 
-// Where the first blank stands, if there is one.
+// Returns the index of the first blank, if there is one.
 fn blank_at(bytes: &[u8]) -> Option<usize>
     ensures { result ≡ position is_blank bytes.now }
 {
     bytes.iter().position(|byte| is_blank(*byte))
 }
 
-// Where the first blank stands, or how many bytes there are.
+// Returns the index of the first blank, or the number of bytes if there is none.
 fn first_blank(bytes: &[u8]) -> usize
     ensures within { result ≤ length bytes.now }
     ensures first { result ≡ position_or_len is_blank bytes.now }
@@ -57,7 +57,7 @@ fn first_blank(bytes: &[u8]) -> usize
     blank_at(bytes).unwrap_or(bytes.len())
 }
 
-// The bytes from the first on that is no blank.
+// Returns the bytes from the first that is not a blank.
 fn after_blanks(bytes: &[u8]) -> &[u8]
     ensures same { words_from result.now between ≡ words_from bytes.now between }
     ensures begins { BeginsNoBlank result.now }
@@ -73,8 +73,8 @@ fn after_blanks(bytes: &[u8]) -> &[u8]
     rest
 }
 
-// How many bytes there are of a text, after its first quotation mark, and of what stands right after it: nothing where no
-// quotation mark ends it.
+// Returns the length of a text after its opening quotation mark, including any bytes directly after the closing one.
+// Returns `None` if there is no closing quotation mark.
 #[tactic(auto, using(crate::proofs::SourceWords::no_quote, crate::proofs::SourceWords::a_quote))]
 fn text_length(bytes: &[u8]) -> Option<usize>
     ensures some { MatchOption result (list_any (λ c. c == 34) bytes.now ≡ false) (λ n. list_any (λ c. c == 34) bytes.now ≡ true) }
@@ -89,7 +89,7 @@ fn text_length(bytes: &[u8]) -> Option<usize>
     Some(quote + 1 + first_blank(after))
 }
 
-// How many bytes a word has after its first. A text goes on to its quotation mark, if there is one.
+// Returns the length of a word after its first byte. A text extends to its closing quotation mark, if there is one.
 fn rest_length(first: u8, bytes: &[u8]) -> usize
     ensures within { result ≤ length bytes.now }
     ensures word { words_from bytes.now (begun first bytes.now) ≡ take result bytes.now ∷ words_from (drop result bytes.now) between }
@@ -103,7 +103,7 @@ fn rest_length(first: u8, bytes: &[u8]) -> usize
     }
 }
 
-/// The first of the words that bytes have, and what follows it; nothing where no word stands, but blanks or a comment.
+/// Returns the first word, with the bytes after it, or `None` if there are only blanks and a comment.
 pub fn next_word(words: &[u8]) -> Option<(&[u8], &[u8])>
     ensures word { MatchOption result (words_from words.now between ≡ []) (λ p. words_from words.now between ≡ p.0.now ∷ words_from p.1.now between) }
     ensures shorter { IfSome result (λ p. length p.1.now < length words.now) }
@@ -118,14 +118,14 @@ pub fn next_word(words: &[u8]) -> Option<(&[u8], &[u8])>
     Some(bytes.split_at(1 + rest_length(*first, following)))
 }
 
-/// Whether no word stands there.
+/// Returns whether there is no word.
 pub fn has_no_word(words: &[u8]) -> bool
     ensures { MatchBool result (words_from words.now between ≡ []) (words_from words.now between ≢ []) }
 {
     next_word(words).is_none()
 }
 
-/// The last of the words, which is empty where there is none.
+/// Returns the last word, or an empty slice if there is none.
 pub fn last_word(words: &[u8]) -> &[u8]
     ensures { result.now ≡ last_word (words_from words.now between) }
 {
@@ -141,7 +141,7 @@ pub fn last_word(words: &[u8]) -> &[u8]
     last
 }
 
-/// Whether a word stands alone.
+/// Returns whether `word` is the only word.
 pub fn is_alone(word: &[u8], words: &[u8]) -> bool
     ensures { result ≡ is_alone word.now (words_from words.now between) }
 {
@@ -151,7 +151,7 @@ pub fn is_alone(word: &[u8], words: &[u8]) -> bool
     has_no_word(rest) && first == word
 }
 
-// Puts further words after what is there, with a space before each.
+// Appends further words, with a space before each.
 fn push_more(words: &[u8], out: &mut Vec<u8>) -> Result<(), AllocError>
     ensures { OnOk result (out.new.items ≡ out.old.items ++ spaced_more (words_from words.now between)) }
 {
@@ -164,9 +164,11 @@ fn push_more(words: &[u8], out: &mut Vec<u8>) -> Result<(), AllocError>
     Ok(())
 }
 
-/// Puts words after what is there, with one space between.
+/// Appends words to `out`, separated by single spaces.
 ///
-/// `Err` says that memory was refused.
+/// # Errors
+///
+/// Returns `AllocError` if memory cannot be allocated.
 pub fn push_words(words: &[u8], out: &mut Vec<u8>) -> Result<(), AllocError>
     ensures { OnOk result (out.new.items ≡ out.old.items ++ spaced (words_from words.now between)) }
 {
@@ -177,9 +179,11 @@ pub fn push_words(words: &[u8], out: &mut Vec<u8>) -> Result<(), AllocError>
     push_more(rest, out)
 }
 
-/// Puts further words after what is there, with a space before each, and another word for the last.
+/// Appends further words to `out`, with a space before each, and `last` instead of the last word.
 ///
-/// `Err` says that memory was refused.
+/// # Errors
+///
+/// Returns `AllocError` if memory cannot be allocated.
 pub fn push_more_with_last(words: &[u8], last: &[u8], out: &mut Vec<u8>) -> Result<(), AllocError>
     ensures { OnOk result (out.new.items ≡ out.old.items ++ spaced_more (with_last_word last.now (words_from words.now between))) }
 {
@@ -195,9 +199,11 @@ pub fn push_more_with_last(words: &[u8], last: &[u8], out: &mut Vec<u8>) -> Resu
     Ok(())
 }
 
-/// Puts words after what is there, with one space between, and another word for the last.
+/// Appends words to `out`, separated by single spaces, and `last` instead of the last word.
 ///
-/// `Err` says that memory was refused.
+/// # Errors
+///
+/// Returns `AllocError` if memory cannot be allocated.
 pub fn push_with_last(words: &[u8], last: &[u8], out: &mut Vec<u8>) -> Result<(), AllocError>
     ensures { OnOk result (out.new.items ≡ out.old.items ++ spaced (with_last_word last.now (words_from words.now between))) }
 {
@@ -211,14 +217,14 @@ pub fn push_with_last(words: &[u8], last: &[u8], out: &mut Vec<u8>) -> Result<()
     push_more_with_last(rest, last, out)
 }
 
-// Whether each byte is a letter.
+// Returns whether each byte is a letter.
 fn are_letters(bytes: &[u8]) -> bool
     ensures { result ≡ list_all is_letter bytes.now }
 {
     bytes.iter().all(|byte| is_letter(*byte))
 }
 
-/// The END of a word `<<END`, which is one or more letters.
+/// Returns the end mark of a word `<<END`: one or more letters.
 pub fn mark_of(word: &[u8]) -> Option<&[u8]>
     ensures { option_map (λ mark. mark.now) result ≡ mark_of word.now }
 {

@@ -1,4 +1,4 @@
--- Lemmas of streams: Sinks (what they are given, write by write), Telling (text by text), Sources (what they give, read by read).
+-- Lemmas of streams: Sinks (output, write by write), Reporting (output, text by text), Sources (input, read by read).
 pub mod Sinks
 pub mod Sources
-pub mod Telling
+pub mod Reporting

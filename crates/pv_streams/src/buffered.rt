@@ -1,4 +1,4 @@
-//! Bytes that are buffered, and written in large parts.
+//! A sink that buffers bytes and writes them in large blocks.
 ghost use Rattle.std.specs.Prelude.{◌≡◌, ◌+◌, ◌++◌, ◌≤◌, [], drop, length, vec_len, OnOk, OnErr};
 ghost use Rattle.pv_model.specs.Stream.{Rose};
 ghost use Rattle.pv_streams.specs.Sinks.{and_all};
@@ -8,13 +8,13 @@ use crate::writing::write_some;
 use pv_model::{Failed, Sink};
 use std::alloc::Global;
 
-/// How many bytes may be buffered.
+/// The capacity of the buffer, in bytes.
 pub const CHUNK: usize = 65_536;
 
-/// A sink that buffers what it is given, and writes it to another when it is full, or by `flush`. Where it has no
-/// memory for more, it flushes at once.
+/// A sink that buffers bytes and writes them to another sink when the buffer is full or `flush` is called. If memory
+/// for the buffer cannot be allocated, it flushes at once.
 ///
-/// Nothing is flushed when it is dropped: its owner calls `flush` at the end.
+/// Dropping the buffer does not flush it: the owner calls `flush` at the end.
 #[derive(Drop)]
 pub struct Buffered<W: Sink + Drop> {
     sink: W,
@@ -23,12 +23,12 @@ pub struct Buffered<W: Sink + Drop> {
 }
 
 impl<W: Sink + Drop> Buffered<W> {
-    /// A sink that flushes to this one, and that was given nothing yet.
+    /// Creates an empty buffer that flushes to `sink`.
     pub fn new(alloc: Global, sink: W) -> Buffered<W>
         ensures sink { result.sink ≡ sink }
         ensures empty { result.waiting.items ≡ [] }
     {
-        // Room that is not written takes no page.
+        // The capacity that is not written uses no page of memory.
         let waiting = match Vec::with_capacity(alloc, CHUNK) {
             Ok(waiting) => waiting,
             Err(_) => Vec::new(alloc),
@@ -36,14 +36,14 @@ impl<W: Sink + Drop> Buffered<W> {
         Buffered { sink, waiting }
     }
 
-    /// The sink that is flushed to.
+    /// Returns the sink that the buffer flushes to.
     pub fn sink(&self) -> &W
         ensures { result.now ≡ self.now.sink }
     {
         &self.sink
     }
 
-    // Forgets so many bytes at the front, which were flushed.
+    // Removes the first `count` bytes of the buffer, which are flushed.
     fn forget(&mut self, count: usize)
         requires { count ≤ length self.old.waiting.items }
         ensures waiting { self.new.waiting.items ≡ drop count self.old.waiting.items }
@@ -54,9 +54,9 @@ impl<W: Sink + Drop> Buffered<W> {
         self.waiting.truncate(left);
     }
 
-    // Flushes all that is buffered here: where that fails, what was not taken is still buffered.
+    // Flushes the whole buffer. If a write fails, the bytes that were not written stay in the buffer.
     #[tactic(auto, using(crate::proofs::Sinks::flushed_part, crate::proofs::Sinks::flushed_all, crate::proofs::Sinks::written_more))]
-    fn hand_on(&mut self) -> Result<(), Failed>
+    fn flush_buffer(&mut self) -> Result<(), Failed>
         ensures written { and_all (W.written self.new.sink) self.new.waiting.items ≡ and_all (W.written self.old.sink) self.old.waiting.items }
         ensures empty { OnOk result (self.new.waiting.items ≡ []) }
         ensures quiet { OnOk result (W.failures self.new.sink ≡ W.failures self.old.sink) }
@@ -88,20 +88,20 @@ impl<W: Sink + Drop> Sink for Buffered<W> {
     fn write(&mut self, buffer: &[u8]) -> Result<usize, Failed> {
         let mut bytes = buffer;
         if bytes.len() > CHUNK - self.waiting.len() {
-            self.hand_on()?;
+            self.flush_buffer()?;
             bytes = &buffer[..buffer.len().min(CHUNK)];
         }
         match self.waiting.extend_from_slice(bytes) {
             Ok(()) => Ok(bytes.len()),
             Err(_) => {
-                self.hand_on()?;
+                self.flush_buffer()?;
                 self.sink.write(bytes)
             }
         }
     }
 
     fn flush(&mut self) -> Result<(), Failed> {
-        self.hand_on()?;
+        self.flush_buffer()?;
         self.sink.flush()
     }
 }

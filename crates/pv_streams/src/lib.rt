@@ -1,10 +1,11 @@
-//! Streams: where bytes come from and where they go.
+//! Input and output streams.
 //!
-//! `Source` and `Sink` are `pv_model`'s, as the specification speaks of them. `reading` reads a source whole, `writing`
-//! writes bytes whole, `buffered` gathers what goes to a sink, and `memory` has a source and a sink over bytes in memory.
+//! `Source` and `Sink` are the traits of `pv_model`, because the specification refers to them. `reading` reads a source
+//! to its end, `writing` writes a slice of bytes in full, `buffered` buffers the output to a sink, and `memory`
+//! implements a source and a sink over bytes in memory.
 //!
-//! A clause sees of a source what it will give, where that is known, and of a sink what was written to it and how many bytes
-//! are buffered; of both how often they failed.
+//! Contracts describe a source by the bytes that remain, if they are known, and a sink by the bytes that were written
+//! to it and the number of bytes that are buffered. They describe both by the number of failures.
 #![tactic(auto)]
 
 pub mod buffered;

@@ -4,7 +4,7 @@ ghost use Rattle.std.specs.Prelude.{◌≡◌, [], Some};
 use pv_model::{Failed, Sink, Source};
 use std::alloc::Global;
 
-/// A source over bytes in memory.
+/// A source that reads from a slice of bytes.
 #[derive(Drop)]
 pub struct Bytes<'a> {
     rest: &'a [u8],
@@ -12,7 +12,7 @@ pub struct Bytes<'a> {
 }
 
 impl<'a> Bytes<'a> {
-    /// A source that gives these bytes.
+    /// Creates a source of `bytes`.
     pub fn new(bytes: &'a [u8]) -> Bytes<'a>
         ensures bytes { result.rest.now ≡ bytes.now }
         ensures count { result.given ≡ 0 }
@@ -41,16 +41,16 @@ impl<'a> Source for Bytes<'a> {
     }
 }
 
-/// A sink that gathers bytes in memory. Where memory is refused, a write fails.
+/// A sink that collects bytes in memory. If memory cannot be allocated, a write fails.
 #[derive(Drop)]
 pub struct Gathered {
-    /// The bytes that it was given so far.
+    /// The bytes that were written so far.
     pub bytes: Vec<u8>,
     failures: u64,
 }
 
 impl Gathered {
-    /// A sink that was given nothing yet.
+    /// Creates an empty sink.
     pub fn new(alloc: Global) -> Gathered
         ensures bytes { result.bytes.items ≡ [] }
         ensures failures { result.failures ≡ 0 }

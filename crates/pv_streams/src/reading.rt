@@ -1,4 +1,4 @@
-//! Sources that are read whole.
+//! Reading a source to its end.
 ghost use Rattle.std.specs.Prelude.{◌≡◌, ◌<◌, ◌≤◌, [], length, vec_len, IfOk, IfErr, IfSome, OnOk, OnErr, Err};
 ghost use Rattle.pv_model.specs.Stream.{Rose, RoseBy, front_and};
 ghost use Rattle.pv_streams.specs.Sources.{FailsToGive, IsReadOrMemory};
@@ -7,14 +7,14 @@ use pv_model::limits::SOURCE_BYTES;
 use pv_model::{Failed, RunFault, Source};
 use std::alloc::Global;
 
-// How many bytes a source is asked for at a time.
+// The number of bytes that are requested from a source at a time.
 const CHUNK: usize = 65_536;
 
-// Room that is asked for before a source is read: more than most give, so that it seldom grows. It costs nothing until
-// it is written.
+// The initial capacity, which exceeds the length of most sources, so that the vector seldom grows. Capacity that is not
+// written costs nothing.
 const ROOM: usize = 8_388_608;
 
-// Reads some bytes: none at the end.
+// Reads at least one byte, or zero bytes at the end of the source.
 fn read_some<S: Source>(source: &mut S, chunk: &mut [u8]) -> Result<usize, RunFault>
     requires { 0 < length chunk.old }
     ensures bound { IfOk result (λ n. n ≤ length chunk.new) }
@@ -31,11 +31,12 @@ fn read_some<S: Source>(source: &mut S, chunk: &mut [u8]) -> Result<usize, RunFa
     }
 }
 
-/// Reads all that a source gives, in as many reads as it takes.
+/// Reads a source to its end.
 ///
 /// # Errors
 ///
-/// `Read` where a read failed, or the source gave more than 67,108,864 bytes; `Memory` where memory was refused.
+/// Returns `Read` if a read fails, or if the source has more than 67,108,864 bytes. Returns `Memory` if memory cannot
+/// be allocated.
 #[tactic(auto, using(crate::proofs::Sources::read_more, crate::proofs::Sources::read_all, crate::proofs::Sources::gave_more))]
 pub fn read_whole<S: Source>(alloc: Global, source: &mut S) -> Result<Vec<u8>, RunFault>
     ensures whole { IfOk result (λ bytes. IfSome (S.remaining source.old) (λ all. all ≡ bytes.items)) }

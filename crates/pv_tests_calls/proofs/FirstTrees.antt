@@ -1,4 +1,4 @@
--- The tree that a manifest makes is one that a machine may start on.
+-- A machine can boot on the tree that a manifest makes.
 use Rattle.std.proofs.Common.{◌≡◌, ◌⊎◌, inl, true, [], Result, Ok, Err, subst}
 use Rattle.std.specs.Prelude.{IfOk}
 use Rattle.pv_image_manifest.specs.declared.manifest.Manifest.{Manifest}
@@ -10,7 +10,7 @@ use Rattle.pv_model.specs.Bytes.{Bytes}
 use Rattle.pv_model.specs.Grammar.Manifests.{read_manifest, tree_of}
 use Rattle.pv_model.specs.Tree.{Tree}
 use Rattle.pv_laws_runs.specs.Starts.{MakesTree, ManifestsMakeFirstTrees}
-use Rattle.pv_laws_trees.specs.Spelled.{are_bytes}
+use Rattle.pv_laws_trees.specs.Encoded.{are_bytes}
 
 pub made : (bytes text : Bytes) → bytes ≡ text → (m : Manifest) (store : Result Tree ManifestFault) → are_bytes bytes ≡ true → read_manifest bytes ≡ Ok (manifest_before m [])
     → GivesStore store (tree_of (manifest_before m [])) → IfOk store (MakesTree text)

@@ -1,4 +1,4 @@
-//! Each call once, as two lookups answer it, what comes next, and memory that is refused.
+//! Each call once, under two lookups; the next instruction of a process; and out of memory.
 use crate::store_of;
 use pv_calls::Kernel;
 use pv_model::{CallRef, Cause, Errno, Outcome, StepFault, Taken, Why};
@@ -10,11 +10,11 @@ use std::alloc::Global;
 use std::process::Abort;
 use std::test::Fail;
 
-// Each call once; the child that line 28 makes runs the file "/p".
+// Each call once. The child that line 28 makes runs the file "/p".
 const CALLS: &[u8] =
     b"image 64 32\ndir \"/d\"\nbytes \"/d/f\" \"hello\"\nlink \"/l\" \"d/f\"\nexec \"/p\" 1\nexit 7\nexec \"/init\" 30\ngetpid\ngetppid\nopen \"/l\" rw\nread 0 3\nlseek 0 -1 cur\nwrite 0 2\nfstat 0\nftruncate 0 4\ndup 0\ndup2 1 5\nclose 0\nopen \"/d\" r\ngetdents 0\nfchdir 0\nopenat 0 \"f\" r\nstat \"f\"\nlstat \"/l\"\nreadlink \"/l\"\nmkdir \"n\"\nsymlink \"x\" \"s\"\nlink \"f\" \"g\"\nrename \"g\" \"h\"\nunlink \"h\"\nrmdir \"n\"\nchdir \"/\"\nunveil \"/\" \"rx\"\npledge \"stdio proc exec\" null\nfork\nwait\nexecve \"/p\"\n";
 
-// Whose step it is, and what it answers, until both processes are gone.
+// The process and the outcome of each step, until both processes have ended.
 const WANTED: &[(u32, Outcome)] = &[
     (1, Outcome::Value(1)),
     (1, Outcome::Value(0)),
@@ -55,7 +55,7 @@ const WANTED: &[(u32, Outcome)] = &[
     (1, Outcome::Gone),
 ];
 
-// A lookup that asks the tree each time, and counts how often.
+// A lookup that searches the tree each time, and counts the searches.
 #[derive(Drop)]
 struct Counting {
     looks: u32,
@@ -90,7 +90,7 @@ fn step<L: Lookup + Drop>(
     }
 }
 
-// Makes the instruction on registers that comes next in a process, if one does.
+// Carries out the next instruction of a process if it is on registers.
 fn register<L: Lookup + Drop>(kernel: &mut Kernel<L>, pid: u32) {
     let mut texts = CallTexts::new();
     if let Fetched::Register = kernel.fetch(pid, &mut texts) {
@@ -98,7 +98,7 @@ fn register<L: Lookup + Drop>(kernel: &mut Kernel<L>, pid: u32) {
     }
 }
 
-// Checks the line of a live process, and its register r1.
+// Checks the line and the register r1 of a live process.
 fn expect_line<L: Lookup + Drop>(
     rt: &impl Abort,
     kernel: &Kernel<L>,
@@ -115,7 +115,8 @@ fn expect_line<L: Lookup + Drop>(
     }
 }
 
-// Why a process is not closed to a file, and whether it is kept from writing it: None where it is not live.
+// Returns why a process is not closed to a file and whether it can never write it, or `None` if the process is not
+// live.
 fn leak_and_frozen<L: Lookup + Drop>(
     kernel: &Kernel<L>,
     pid: u32,
@@ -127,7 +128,7 @@ fn leak_and_frozen<L: Lookup + Drop>(
     }
 }
 
-// Checks what a step of a process answers.
+// Checks the outcome of a step of a process.
 fn expect<L: Lookup + Drop>(
     rt: &impl Abort,
     alloc: Global,
@@ -138,7 +139,7 @@ fn expect<L: Lookup + Drop>(
     assert_eq!(rt; step(kernel, alloc, pid), Ok(wanted));
 }
 
-// Checks that a step of a process on two kernels answers this on both, after as many walks, with the same buffer.
+// Checks that a step of a process has this outcome on two kernels, with the same number of walks and the same buffer.
 fn expect_both<L: Lookup + Drop, M: Lookup + Drop>(
     rt: &impl Abort,
     alloc: Global,
@@ -170,7 +171,7 @@ fn each_call_as_two_lookups_answer(rt: HostRuntime) -> Result<(), Fail> {
 }
 
 #[test]
-fn execve_comes_after_want_of_memory(rt: HostRuntime) -> Result<(), Fail> {
+fn execve_comes_after_out_of_memory(rt: HostRuntime) -> Result<(), Fail> {
     let alloc = rt.alloc();
     let store = store_of(
         alloc,

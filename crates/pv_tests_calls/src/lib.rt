@@ -1,18 +1,25 @@
-//! The kernel tried as a whole: machines that start on manifests, what their calls answer, and what is found of their files.
+//! Tests of the kernel: calls, processes, promises and audits.
 //!
-//! `store_of` makes a tree that a machine may start on. `calls` boots kernels on such trees: each call once, as two lookups
-//! answer it, what a process does next, and an execve whose memory is refused. `reports` audits all files of a session, and
-//! `verdicts` writes the line of each verdict, to the sinks of `streams`. One audit, and that runs tell nothing of a sealed
-//! file, the program is asked for: `cases/words.txt`.
+//! `store_of` makes the tree of a manifest. The other modules are tests: `calls` boots kernels on such trees and makes
+//! each call once under two lookups, and an execve without memory; `procs` tests fork, wait, exit, execve and full
+//! tables; `promises` tests the parsing and narrowing of promises; `reports` audits all files of a session; `verdicts`
+//! writes the line of each verdict. `streams` has sinks that fail, and `answers` compares results. `cases/command_lines/`
+//! tests audits with the program.
 #![tactic(auto)]
 
 ghost use Rattle.std.specs.Prelude.{◌≡◌, ◌<◌, ◌+◌, ◌^◌, IfOk, IsTrue, length};
 ghost use Rattle.pv_laws_states.specs.States.{IsFirstTree};
 ghost use Rattle.pv_laws_runs.specs.Starts.{MakesTree};
-ghost use Rattle.pv_laws_trees.specs.Spelled.{are_bytes};
+ghost use Rattle.pv_laws_trees.specs.Encoded.{are_bytes};
 
 #[cfg(test)]
+mod answers;
+#[cfg(test)]
 mod calls;
+#[cfg(test)]
+mod procs;
+#[cfg(test)]
+mod promises;
 #[cfg(test)]
 mod reports;
 #[cfg(test)]
@@ -26,7 +33,7 @@ use pv_model::ManifestFault;
 use pv_tree::Store;
 use std::alloc::Global;
 
-// Bytes as they are read: each number in them is a byte.
+// Returns the same bytes. The contract states that each number in them is a byte.
 fn as_read(bytes: &[u8]) -> &[u8]
     ensures same { result.now ≡ bytes.now }
     ensures bytes { IsTrue (are_bytes result.now) }
@@ -34,12 +41,11 @@ fn as_read(bytes: &[u8]) -> &[u8]
     bytes
 }
 
-/// The tree that the bytes of a manifest make, on which a machine may start.
+/// Returns the tree that a manifest makes. A machine can boot on it.
 ///
 /// # Errors
 ///
-/// The fault of the least line that has not the form of a manifest's line, or cannot be applied; `Memory` where memory
-/// was refused.
+/// The first line of the manifest that has the wrong form or cannot be applied. `Memory`, if there is no memory.
 pub fn store_of(alloc: Global, bytes: &[u8]) -> Result<Store, ManifestFault>
     requires { length bytes.now + 1 < 2 ^ 32 }
     ensures made { IfOk result (MakesTree bytes.now) }

@@ -1,4 +1,4 @@
-//! Reports of small machines, to sinks of all sizes.
+//! Reports on small machines, with sinks of all sizes.
 ghost use Rattle.std.specs.Prelude.{◌<◌, ◌+◌, ◌^◌, length};
 
 use crate::store_of;
@@ -11,14 +11,14 @@ use std::alloc::Global;
 use std::process::Abort;
 use std::test::Fail;
 
-// Makes so many steps of process 1.
+// Makes `count` steps of process 1.
 fn make_steps(rt: &impl Abort, alloc: Global, session: &mut Session, count: u32) {
     for _step in 0..count {
         assert!(rt; session.step(alloc, 1).is_ok());
     }
 }
 
-// A session on the tree of a manifest, after so many steps of process 1.
+// Returns a session on the tree of a manifest, after `steps` steps of process 1.
 fn session_after(
     rt: &impl Abort,
     alloc: Global,
@@ -32,7 +32,7 @@ fn session_after(
     Ok(session)
 }
 
-// A sink of so much room has this report, or what of it there is room for.
+// Checks that a sink with this room receives the report, or its prefix of that length.
 fn expect_report<R: Abort + AllocGlobal>(rt: &R, session: &Session, room: usize, report: &[u8]) {
     let mut out = sink_of(rt, room);
     let as_written = write_report(rt.alloc(), session, &mut out);
@@ -51,7 +51,7 @@ fn expect_audit(
     assert_eq!(rt; session.audit_node(node), wanted);
 }
 
-// A file that is shut out, one that is not, and one that has a name in either place.
+// A sealed file, a file that is not sealed, and a file with names in both directories.
 const SHUT_OUT: &[u8] =
     b"image 64 32\ndir \"/pub\"\nbytes \"/pub/motd\" \"hi\"\nlink \"/pub/at\" \"../secret\"\nbytes \"/secret\" \"k1\"\nbytes \"/two\" \"\"\nname \"/pub/two\" \"/two\"\nexec \"/init\" 3\nunveil \"/pub\" \"r\"\nunveil null null\npledge \"stdio rpath\" null\n";
 
@@ -71,7 +71,7 @@ fn each_name_of_a_file_has_its_line(rt: HostRuntime) -> Result<(), Fail> {
 }
 
 #[test]
-fn a_full_sink_has_a_beginning_of_the_report(rt: HostRuntime) -> Result<(), Fail> {
+fn a_full_sink_has_a_prefix_of_the_report(rt: HostRuntime) -> Result<(), Fail> {
     let session = session_after(&rt, rt.alloc(), SHUT_OUT, 3)?;
     for room in 0..AT_LAST.len() + 1 {
         expect_report(&rt, &session, room, AT_LAST);
@@ -93,7 +93,7 @@ fn a_file_is_audited_by_its_number(rt: HostRuntime) -> Result<(), Fail> {
     Ok(())
 }
 
-// A file whose names are gone, and that a descriptor holds.
+// A file without a name that a descriptor references.
 const UNNAMED: &[u8] =
     b"image 64 32\nbytes \"/secret\" \"k1\"\nexec \"/init\" 2\nopen \"/secret\" r\nunlink \"/secret\"\n";
 
@@ -106,8 +106,8 @@ fn a_file_without_a_name_has_no_line(rt: HostRuntime) -> Result<(), Fail> {
     Ok(())
 }
 
-// An allocation that is refused while a report is written, if any, is one for a path.
-fn expect_beginning(
+// Checks that out of memory leaves a prefix of the report. Only the allocation of a path can fail here.
+fn expect_prefix(
     rt: &impl Abort,
     alloc: Global,
     session: &Session,
@@ -122,10 +122,10 @@ fn expect_beginning(
 }
 
 #[test]
-fn want_of_memory_leaves_a_beginning(rt: HostRuntime) -> Result<(), Fail> {
+fn out_of_memory_leaves_a_prefix(rt: HostRuntime) -> Result<(), Fail> {
     let session = session_after(&rt, rt.alloc(), SHUT_OUT, 0)?;
     let mut out = sink_of(&rt, 1_000);
     out.bytes.reserve(1_000)?;
-    expect_beginning(&rt, rt.alloc(), &session, &mut out, AT_FIRST);
+    expect_prefix(&rt, rt.alloc(), &session, &mut out, AT_FIRST);
     Ok(())
 }

@@ -1,9 +1,9 @@
-//! Streams that fail.
+//! Sinks that fail.
 ghost use Rattle.std.specs.Prelude.{None};
 
 use pv_streams::{Failed, Sink};
 
-// A sink that takes so many bytes.
+// A sink with room for a number of bytes.
 #[derive(Drop)]
 pub(crate) struct Narrow {
     pub(crate) bytes: Vec<u8>,

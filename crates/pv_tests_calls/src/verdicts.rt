@@ -1,11 +1,11 @@
-//! Lines of audits, written to sinks of all sizes.
+//! Lines of audits, with sinks of all sizes.
 
 use crate::streams::sink_of;
 use pv_listing::write_verdict;
 use pv_model::{Leak, Verdict, Why};
 use std::process::Abort;
 
-// Writes a verdict to a sink of each size: a beginning of the line stands in each.
+// Writes a verdict to a sink of each size, and checks that each receives a prefix of the line.
 fn expect_line<R: AllocGlobal + Abort>(rt: &R, verdict: Verdict, line: &[u8]) {
     for room in 0..line.len() + 1 {
         let mut out = sink_of(rt, room);

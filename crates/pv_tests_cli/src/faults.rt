@@ -1,4 +1,4 @@
-//! Faults that no command ends with, since each tells its want of memory as its own.
+//! Errors that no command returns, because each reports out of memory as its own.
 use pv_cli_commands::Fault;
 use pv_model::{ImageFault, ListFault, ManifestFault, MigrateFault, RunFault};
 use pv_run::MigrateStop;
@@ -13,7 +13,7 @@ const OF_MEMORY: &[Fault] = &[
 ];
 
 #[test]
-fn want_of_memory_has_one_text(rt: HostRuntime) -> Result<(), Fail> {
+fn out_of_memory_has_one_text(rt: HostRuntime) -> Result<(), Fail> {
     for fault in OF_MEMORY {
         let text = format!(in rt.alloc(); "{fault}")?;
         assert!(rt; text.as_str() == "pvsim: memory\n");

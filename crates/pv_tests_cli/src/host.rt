@@ -1,11 +1,11 @@
-//! The streams of the system over a reader and a writer that fail.
+//! The streams of the operating system over a reader and a writer that fail.
 use pv_cli_commands::Progress;
 use pv_cli_host::{Input, Output, Screen, ScreenWriter, Shown};
 use pv_streams::{Failed, Sink, Source};
 use std::io;
 use std::io::{ErrorKind, Read, Write};
 
-// A reader that gives one byte and then fails, and a writer that takes one and then no more.
+// A reader that gives one byte and then fails, and a writer that takes one byte and then none.
 #[derive(Drop)]
 struct Once {
     is_used: bool,

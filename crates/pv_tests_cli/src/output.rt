@@ -1,4 +1,4 @@
-//! Runs of the whole program over an output that takes nothing, also before it is flushed.
+//! Runs of the whole program over an output that takes nothing, even before it is flushed.
 ghost use Rattle.std.specs.Prelude.{[], None};
 
 use pv_cli_commands::{Directories, Files, HostSystem, Unshown};
@@ -30,7 +30,7 @@ impl Sink for Broken {
     }
 }
 
-// Files of which none is there, and none can be made.
+// Files, none of which exists or can be created.
 #[derive(Drop)]
 struct NoFiles;
 
@@ -68,7 +68,7 @@ impl HostFile for Broken {
     }
 }
 
-// A directory that has nothing.
+// An empty directory.
 #[derive(Drop)]
 struct Empty;
 
@@ -139,7 +139,7 @@ impl Directories for NoFiles {
     }
 }
 
-// Words that ask for something that is written: without any, for the trace of the bundle on the standard input.
+// Words that make the program write something: without arguments, the trace of the bundle on the standard input.
 const WORDS: &[&[&str]] = &[&["pvsim", "--help"], &["pvsim", "--version"], &["pvsim"]];
 
 #[test]

@@ -1,14 +1,17 @@
-//! Images tried as bytes: listings of trees, and images that are written, judged and migrated.
+//! Tests of images as bytes, and of copies between images and host directories.
 //!
-//! It has tests alone: `listing` tells of trees, `writer` writes their images, `mount` judges images, and `migrate` makes new ones
-//! of old. `trees` and `bytes` have what they begin with, `sinks` where they write, and `answers` what they compare by. Which
-//! manifests make which trees the program is asked for: `cases/words.txt`.
+//! `listing` tests the listings of trees, `writer` the images that are written, `mount` the check of images, and
+//! `migrate` migration. `trees` and `bytes` create the inputs of these tests, `sinks` has the sinks that they write to,
+//! and `answers` the assertions. `tests` imports and exports host directories in memory: `directory` is a synthetic
+//! directory whose entries are known to contracts, and `target` records the nodes that are created. `cases/command_lines/`
+//! tests which manifest builds which tree.
 #![tactic(auto)]
 
 #[cfg(test)]
 mod answers;
 #[cfg(test)]
 mod bytes;
+pub mod directory;
 #[cfg(test)]
 mod listing;
 #[cfg(test)]
@@ -17,6 +20,9 @@ mod migrate;
 mod mount;
 #[cfg(test)]
 mod sinks;
+pub mod target;
+#[cfg(test)]
+mod tests;
 #[cfg(test)]
 mod trees;
 #[cfg(test)]

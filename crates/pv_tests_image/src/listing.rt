@@ -1,4 +1,4 @@
-//! Listings and other remarks, to sinks that take little too.
+//! Tests of listings and other lines about a tree, also with sinks of limited capacity.
 ghost use Rattle.std.specs.Prelude.{◌≤◌, [], ◌∷◌};
 
 use crate::answers::{expect, expect_equal, expect_same};
@@ -13,7 +13,8 @@ use pv_tree::{Store, Tree};
 use std::alloc::{AllocError, Global};
 use std::process::Abort;
 
-// A sink of so much room, at most so many bytes a write, to which a tree was listed, and what that answered.
+// Writes the listing of a tree to a sink that accepts at most `room` bytes in total and `width` per write, and returns
+// the sink and the result.
 fn listed<R: AllocGlobal>(
     rt: &R,
     tree: &Tree,
@@ -25,14 +26,14 @@ fn listed<R: AllocGlobal>(
     (out, answer)
 }
 
-// The listing of a tree is this, written at most so many bytes at a time.
+// Checks the listing of a tree, written at most `width` bytes at a time.
 fn expect_listing<R: Abort + AllocGlobal>(rt: &R, tree: &Tree, width: usize, wanted: &[u8]) {
     let (out, answer) = listed(rt, tree, 1_000, width);
     expect_same(rt, answer, Ok(()));
     expect_equal(rt, out.bytes.as_slice(), wanted);
 }
 
-// Two directories with a file of two names, an executable file and a link.
+// Two directories with a file of two names, an executable file and a symbolic link.
 const SOME: &[Step] = &[
     Make(1, b"d", Kind::Directory, 2),
     Make(2, b"f", Kind::File, 3),
@@ -44,14 +45,14 @@ const SOME: &[Step] = &[
     Link(1, b"d.", 3),
 ];
 
-// A directory is followed by all that is in it.
+// All entries of a directory follow its line.
 const SOME_LISTED: &[u8] =
     b"d 1 4 \"/\"\nd 2 2 \"/d\"\nd 6 1 \"/d/e\"\nf 7 0 \"/d/e/g\"\nf 3 5 \"/d/f\"\nf 3 5 \"/d.\"\nl 5 3 \"/l\"\nx 4 0 \"/x\"\n";
 
 // A name that is quoted.
 const QUOTED: &[Step] = &[Make(1, b"\"\\ ~\x01\x7f\xff", Kind::File, 2)];
 
-// What is put into a tree, and its listing.
+// The steps that create a tree, and its listing.
 const LISTINGS: &[(&[Step], &[u8])] = &[
     (&[], b"d 1 0 \"/\"\n"),
     (SOME, SOME_LISTED),
@@ -61,7 +62,7 @@ const LISTINGS: &[(&[Step], &[u8])] = &[
     ),
 ];
 
-// A tree in which this was put is listed so, however many bytes a sink takes at a time.
+// Checks the listing of a tree that is created by these steps, for several widths of the sink.
 fn expect_listings<R: Abort + AllocGlobal>(
     rt: &R,
     steps: &[Step],
@@ -82,8 +83,8 @@ fn trees_have_their_listings(rt: HostRuntime) -> Result<(), AllocError> {
     Ok(())
 }
 
-// A sink of less room than a listing wants has just the beginning of it, and failed once.
-fn expect_beginning<R: Abort + AllocGlobal>(
+// Checks that a sink with insufficient room receives a prefix of the listing, and fails once.
+fn expect_prefix<R: Abort + AllocGlobal>(
     rt: &R,
     tree: &Tree,
     room: usize,
@@ -96,23 +97,23 @@ fn expect_beginning<R: Abort + AllocGlobal>(
     expect_same(rt, out.failures, 1);
 }
 
-// The same in sinks of all sizes that are too small.
-fn expect_beginnings<R: Abort + AllocGlobal>(rt: &R, tree: &Tree, width: usize, listing: &[u8]) {
+// Checks it for all insufficient sizes of a sink.
+fn expect_prefixes<R: Abort + AllocGlobal>(rt: &R, tree: &Tree, width: usize, listing: &[u8]) {
     for room in 0..listing.len() {
-        expect_beginning(rt, tree, room, width, listing);
+        expect_prefix(rt, tree, room, width, listing);
     }
 }
 
 #[test]
-fn a_full_sink_has_a_beginning_of_the_listing(rt: HostRuntime) -> Result<(), AllocError> {
+fn a_full_sink_has_a_prefix_of_the_listing(rt: HostRuntime) -> Result<(), AllocError> {
     let tree = tree_of(&rt, rt.alloc(), 30, SOME)?;
     for width in [1, 7, 1_000] {
-        expect_beginnings(&rt, &tree, width, SOME_LISTED);
+        expect_prefixes(&rt, &tree, width, SOME_LISTED);
     }
     Ok(())
 }
 
-// Says a dot of each name.
+// Writes a dot for each name.
 struct Dots;
 
 impl Remarks for Dots {
@@ -123,7 +124,7 @@ impl Remarks for Dots {
     }
 }
 
-// A sink of so much room is given this of the names, with this answer.
+// Checks the bytes that a sink of this size receives, and the result.
 fn expect_dots<R: Abort + AllocGlobal>(
     rt: &R,
     tree: &Tree,
@@ -144,7 +145,7 @@ fn each_name_is_written_as_the_remarks_say(rt: HostRuntime) -> Result<(), AllocE
     Ok(())
 }
 
-// A path is written so, and an end of line after it.
+// Checks the encoding of a path, followed by a line feed.
 fn expect_path<R: Abort + AllocGlobal>(rt: &R, path: &[u8], wanted: &[u8]) {
     let mut out = sink_of(rt.alloc(), 100_000, 100_000);
     expect(rt, write_path(&mut out, path).is_ok());
@@ -152,7 +153,7 @@ fn expect_path<R: Abort + AllocGlobal>(rt: &R, path: &[u8], wanted: &[u8]) {
     expect_equal(rt, out.bytes.as_slice(), wanted);
 }
 
-// So many equal components in quotation marks, and an end of line.
+// Returns equal components in quotation marks, followed by a line feed.
 fn quoted(alloc: Global, count: usize, component: &[u8]) -> Result<Vec<u8>, AllocError> {
     let mut path = Vec::from_slice(alloc, b"\"")?;
     for _component in 0..count {
@@ -162,7 +163,7 @@ fn quoted(alloc: Global, count: usize, component: &[u8]) -> Result<Vec<u8>, Allo
     Ok(path)
 }
 
-// So many bytes of 255 are written as so many components.
+// Checks that a path of `count` bytes 255 is written with `count` escapes.
 fn expect_long_path<R: Abort + AllocGlobal>(rt: &R, count: usize) -> Result<(), AllocError> {
     let path = vec![in rt.alloc(); 255; count]?;
     let wanted = quoted(rt.alloc(), count, b"\\xff")?;
@@ -179,7 +180,7 @@ fn a_path_of_any_length_is_quoted(rt: HostRuntime) -> Result<(), AllocError> {
     Ok(())
 }
 
-// A tree of the root alone, in an image of 4,096 inodes and so many data blocks.
+// Creates a tree with only a root, in an image with 4,096 inodes and `count` data blocks.
 fn great_tree(alloc: Global, count: u16) -> Result<Tree, AllocError>
     requires { count ≤ 7000 }
 {
@@ -188,7 +189,7 @@ fn great_tree(alloc: Global, count: u16) -> Result<Tree, AllocError>
     Ok(Box::into_inner(store.into_tree()))
 }
 
-// A chain of so many directories below the root, each with this name.
+// Creates a chain of `count` directories below the root, each with this name.
 fn chain(rt: &impl Abort, alloc: Global, count: u16, name: &[u8]) -> Result<Tree, AllocError> {
     let mut tree = great_tree(alloc, 1_100)?;
     let mut directory = 1;
@@ -198,7 +199,7 @@ fn chain(rt: &impl Abort, alloc: Global, count: u16, name: &[u8]) -> Result<Tree
     Ok(tree)
 }
 
-// The listing of a tree, all of it.
+// Returns the listing of a tree.
 fn listing_of<R: Abort + AllocGlobal>(rt: &R, tree: &Tree) -> Vec<u8> {
     let (out, answer) = listed(rt, tree, 100_000_000, 100_000_000);
     expect_same(rt, answer, Ok(()));
@@ -206,8 +207,8 @@ fn listing_of<R: Abort + AllocGlobal>(rt: &R, tree: &Tree) -> Vec<u8> {
     bytes
 }
 
-// A chain of so many directories with one name, and its listing: the first lines, the component of the last line's path for
-// each directory, and how many bytes that path has with its end of line.
+// A chain of directories with one name, and its listing: the first lines, the component of the last line's path for
+// each directory, and the length of that path with its line feed.
 struct ChainListed {
     count: u16,
     name: &'static [u8],
@@ -216,7 +217,7 @@ struct ChainListed {
     length: usize,
 }
 
-// A path may be longer than one that is walked.
+// A path in a listing can be longer than one that can be walked.
 const LONG: ChainListed = ChainListed {
     count: 20,
     name: &[255; 60],
@@ -225,7 +226,7 @@ const LONG: ChainListed = ChainListed {
     length: 4_823,
 };
 
-// A name of 60 bytes as it is written.
+// The encoding of a name of 60 bytes.
 const LONG_PIECE: &[u8] =
     b"/\\xff\\xff\\xff\\xff\\xff\\xff\\xff\\xff\\xff\\xff\\xff\\xff\\xff\\xff\\xff\\xff\\xff\\xff\\xff\\xff\\xff\\xff\\xff\\xff\\xff\\xff\\xff\\xff\\xff\\xff\\xff\\xff\\xff\\xff\\xff\\xff\\xff\\xff\\xff\\xff\\xff\\xff\\xff\\xff\\xff\\xff\\xff\\xff\\xff\\xff\\xff\\xff\\xff\\xff\\xff\\xff\\xff\\xff\\xff\\xff";
 
@@ -237,14 +238,14 @@ const DEEP: ChainListed = ChainListed {
     length: 2_003,
 };
 
-// A listing begins with these lines, and has so many.
+// Checks the first lines of a listing, and the number of lines.
 fn expect_lines(rt: &impl Abort, listing: &[u8], first: &[u8], count: usize) {
     expect(rt, listing.starts_with(first));
     let lines = listing.iter().filter(|byte| **byte == b'\n').count();
     expect_same(rt, lines, count);
 }
 
-// A listing ends with a path of so many equal components, which is written in so many bytes.
+// Checks that a listing ends with a path of `count` equal components with this encoded length.
 fn expect_last_path(
     rt: &impl Abort,
     alloc: Global,
@@ -280,7 +281,7 @@ fn chains_of_directories_are_listed(rt: HostRuntime) -> Result<(), AllocError> {
     expect_chain(&rt, &DEEP)
 }
 
-// A chain of 20 directories, whose names have 60 bytes of which each is written as four.
+// Creates a chain of 20 directories whose names have 60 bytes. Each byte has an encoding of four.
 fn long_chain<R: Abort + AllocGlobal>(rt: &R) -> Result<Tree, AllocError> {
     chain(rt, rt.alloc(), 20, &[255; 60])
 }
@@ -290,19 +291,20 @@ fn a_full_sink_may_end_within_a_long_path(rt: HostRuntime) -> Result<(), AllocEr
     let tree = long_chain(&rt)?;
     let whole = listing_of(&rt, &tree);
     for room in [0, 4_095, 4_096, 4_097, 20_000] {
-        expect_beginning(&rt, &tree, room, 1_000_000, &whole);
+        expect_prefix(&rt, &tree, room, 1_000_000, &whole);
     }
     Ok(())
 }
 
-// A sink with memory for all that it is given.
+// Creates a sink whose memory is already allocated.
 fn ready_sink<R: AllocGlobal>(rt: &R) -> Result<Narrow, AllocError> {
     let mut out = sink_of(rt.alloc(), 1_000_000, 1_000_000);
     out.bytes.reserve(100_000)?;
     Ok(out)
 }
 
-// What a sink has where memory may have been refused is a beginning of the whole listing, and all of it with `Ok`.
+// Checks that the output of a listing that can fail to allocate memory is a prefix of the whole listing, and is all of
+// it if the result is `Ok`.
 fn expect_part(rt: &impl Abort, listed: Result<(), ListStop>, first: &Narrow, whole: &Narrow) {
     expect(rt, listed != Err(ListStop::Write));
     expect_same(rt, first.failures, 0);
@@ -311,8 +313,8 @@ fn expect_part(rt: &impl Abort, listed: Result<(), ListStop>, first: &Narrow, wh
     expect_same(rt, listed.is_err(), is_short);
 }
 
-// An allocation that is refused once both sinks are ready, if any, is one for the first path.
-fn expect_want_of_memory<R: Abort + AllocGlobal>(rt: &R, tree: &Tree) -> Result<(), AllocError> {
+// Checks a listing in which an allocation can fail. Both sinks are already allocated, so it is one for the first path.
+fn expect_out_of_memory<R: Abort + AllocGlobal>(rt: &R, tree: &Tree) -> Result<(), AllocError> {
     let mut first = ready_sink(rt)?;
     let mut whole = ready_sink(rt)?;
     let listed = write_listing(rt.alloc(), tree, &mut first);
@@ -322,7 +324,7 @@ fn expect_want_of_memory<R: Abort + AllocGlobal>(rt: &R, tree: &Tree) -> Result<
 }
 
 #[test]
-fn want_of_memory_leaves_a_beginning(rt: HostRuntime) -> Result<(), AllocError> {
+fn out_of_memory_leaves_a_prefix(rt: HostRuntime) -> Result<(), AllocError> {
     let tree = long_chain(&rt)?;
-    expect_want_of_memory(&rt, &tree)
+    expect_out_of_memory(&rt, &tree)
 }

@@ -1,4 +1,4 @@
-//! Images of version 1, and what they become.
+//! Tests of migrating images of version 1.
 use crate::answers::{expect_equal, expect_same};
 use crate::bytes::{expect_components, front, put_all};
 use crate::sinks::{sink_of, wide_sink};
@@ -7,7 +7,8 @@ use pv_model::{ImageFault, MigrateFault};
 use std::alloc::{AllocError, Global};
 use std::process::Abort;
 
-// What stands in an image of 16 blocks and 16 inodes: `/etc` is node 2, `/etc/motd` 3, and the program `/init` 4.
+// The contents of an image with 16 blocks and 16 inodes: `/etc` is node 2, `/etc/motd` node 3, and the program `/init`
+// node 4.
 const MOTD: &[(usize, &[u8])] = &[
     (0, b"PVIMAGE1\x10\x00\x10\x00"),
     (512, b"\x01\x00\x00\x00\x80\x00\x00\x00\x02"),
@@ -21,7 +22,7 @@ const MOTD: &[(usize, &[u8])] = &[
     (2_560, b"exit 0\n"),
 ];
 
-// The image with some bytes changed.
+// Returns the image with some bytes changed.
 fn motd_image(alloc: Global, changes: &[(usize, &[u8])]) -> Result<Vec<u8>, AllocError> {
     let mut bytes = vec![in alloc; 0; 8_192]?;
     put_all(&mut bytes, MOTD);
@@ -29,7 +30,7 @@ fn motd_image(alloc: Global, changes: &[(usize, &[u8])]) -> Result<Vec<u8>, Allo
     Ok(bytes)
 }
 
-// The image of version 2 of these sizes.
+// Returns the image of version 2 with these sizes.
 fn migrated<R: Abort + AllocGlobal>(
     rt: &R,
     blocks: u32,
@@ -53,7 +54,7 @@ const SMALLEST: &[(usize, &[u8])] = &[
 
 const GREATEST: &[(usize, &[u8])] = &[(0, b"PVIMAGE2\xff\xff\x00\x10")];
 
-// Blocks and inodes that are asked for, how many bytes the image has then, and some of them.
+// The requested numbers of blocks and inodes, the length of the resulting image, and some of its bytes.
 const MIGRATED: &[(u32, u32, usize, &[(usize, &[u8])])] = &[
     (8, 16, 4_096, SMALLEST),
     (65_535, 4_096, 512 * 65_535, GREATEST),
@@ -68,7 +69,7 @@ fn nodes_keep_their_numbers_in_the_sizes_asked_for(rt: HostRuntime) -> Result<()
     Ok(())
 }
 
-// The image is not migrated to these sizes, for this reason.
+// Checks that migrating the image to these sizes fails with this error.
 fn expect_fault(
     rt: &impl Abort,
     alloc: Global,
@@ -83,13 +84,13 @@ fn expect_fault(
 }
 
 const TOO_SMALL: &[(u32, u32)] = &[
-    // Without room for the image's tree.
+    // Sizes without room for the tree of the image.
     (7, 16),
     (8, 17),
     (87, 15),
     (0, 16),
     (2, 16),
-    // Sizes that no image has.
+    // Sizes that no image can have.
     (8, 0),
     (65_535, 4_097),
     (65_536, 16),
@@ -107,7 +108,7 @@ fn sizes_without_room_or_that_no_image_has(rt: HostRuntime) -> Result<(), AllocE
     Ok(())
 }
 
-// Bytes are no image of version 1, for this reason, whatever the sizes.
+// Checks that bytes are not an image of version 1, with this error for all sizes.
 fn expect_no_image(rt: &impl Abort, alloc: Global, bytes: Vec<u8>, fault: ImageFault) {
     expect_fault(rt, alloc, bytes, (0, 0), MigrateFault::Image(fault));
 }
@@ -136,7 +137,7 @@ fn a_migrated_image_is_not_migrated_again(rt: HostRuntime) -> Result<(), AllocEr
 }
 
 #[test]
-fn a_sink_without_room_is_written_a_beginning(rt: HostRuntime) -> Result<(), AllocError> {
+fn a_sink_without_room_gets_a_prefix(rt: HostRuntime) -> Result<(), AllocError> {
     let whole = migrated(&rt, 400, 16)?;
     let bytes = motd_image(rt.alloc(), &[])?;
     let mut image = sink_of(rt.alloc(), 100_000, 1_000);

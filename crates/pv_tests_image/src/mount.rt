@@ -1,4 +1,4 @@
-//! Images that are judged, and mounted.
+//! Tests of checking and mounting images.
 use crate::answers::{expect, expect_same_of};
 use crate::bytes::{front, put_all};
 use pv_image_mount::{check, mount};
@@ -7,7 +7,7 @@ use pv_tree::Tree;
 use std::alloc::{AllocError, AllocGlobal, Global};
 use std::process::Abort;
 
-// Bytes of an image, so many, in which some were changed, and how they are judged.
+// An image of some length with changed bytes, and the expected result of the check.
 struct Case {
     name: &'static str,
     length: usize,
@@ -15,7 +15,7 @@ struct Case {
     verdict: Result<Version, ImageFault>,
 }
 
-// Judges the bytes of a case, whose image has these components among zeros.
+// Checks the image of a case. The image has these components among zeros.
 fn expect_verdict(rt: &impl Abort, alloc: Global, image: &[(usize, &[u8])], case: &Case) {
     let mut bytes = [0; 2_048];
     put_all(&mut bytes, image);
@@ -24,7 +24,7 @@ fn expect_verdict(rt: &impl Abort, alloc: Global, image: &[(usize, &[u8])], case
     expect_same_of(rt, verdict, case.verdict, case.name);
 }
 
-// The smallest image: the root alone.
+// The smallest image, with only a root.
 const SMALLEST: &[(usize, &[u8])] = &[(0, b"PVIMAGE1\x02\x00\x01\x00"), (512, &[1])];
 
 const SMALLEST_CASES: &[Case] = &[
@@ -79,7 +79,7 @@ fn smallest_images_are_judged(rt: HostRuntime) {
     }
 }
 
-// An image with two directories, each of which contains the other, and not the root.
+// An image with two directories that contain each other and are not reachable from the root.
 const LOOPED: &[(usize, &[u8])] = &[
     (0, b"PVIMAGE1\x04\x00\x03\x00"),
     (512, &[1]),
@@ -168,7 +168,7 @@ const THREE_FILES: &[(usize, &[u8])] = &[
     (608, &[2, 0, 1]),
 ];
 
-// What stands in the three slots, and the entries in the order of their names.
+// The contents of the three slots, and the entries in the order of their names.
 struct Slots {
     name: &'static str,
     slots: &'static [(usize, &'static [u8])],
@@ -205,7 +205,7 @@ const SLOTS: &[Slots] = &[
     },
 ];
 
-// The root has these entries, in this order, and no others.
+// Checks that the root has exactly these entries, in this order.
 fn expect_entries(rt: &impl Abort, tree: &Tree, entries: &[(&[u8], u16)], case: &str) {
     let mut last: Option<Name> = None;
     for &(name, node) in entries {

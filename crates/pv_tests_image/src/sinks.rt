@@ -1,17 +1,17 @@
-//! Sinks that take little, or all.
+//! Sinks of limited and of unlimited capacity.
 ghost use Rattle.std.specs.Prelude.{None};
 
 use pv_streams::{Failed, Sink};
 use std::alloc::Global;
 
-/// A sink that takes so many bytes, at most so many a write.
+/// A sink that accepts at most `room` bytes in total and `width` bytes per write.
 #[derive(Drop)]
 pub(crate) struct Narrow {
-    /// Those that it took.
+    /// The bytes that it accepted.
     pub(crate) bytes: Vec<u8>,
     room: usize,
     width: usize,
-    /// How often it failed.
+    /// The number of its failures.
     pub(crate) failures: u64,
 }
 
@@ -37,7 +37,7 @@ impl Sink for Narrow {
     }
 }
 
-/// A sink of so much room, which takes at most so many bytes a write.
+/// Creates a sink that accepts at most `room` bytes in total and `width` bytes per write.
 pub(crate) fn sink_of(alloc: Global, room: usize, width: usize) -> Narrow {
     Narrow {
         bytes: Vec::new(alloc),
@@ -47,7 +47,7 @@ pub(crate) fn sink_of(alloc: Global, room: usize, width: usize) -> Narrow {
     }
 }
 
-/// A sink that takes all.
+/// Creates a sink that accepts all bytes.
 pub(crate) fn wide_sink(alloc: Global) -> Narrow {
     sink_of(alloc, usize::MAX, usize::MAX)
 }

@@ -1,4 +1,4 @@
-//! Trees that tests begin with, and what they put there.
+//! Creating trees for tests.
 ghost use Rattle.std.specs.Prelude.{◌≡◌, ◌≤◌, IsTrue, IsFalse, None};
 ghost use Rattle.pv_model.specs.declared.version.Version.{Version};
 ghost use Rattle.pv_model.specs.Tree.{find_entry, is_directory_at, is_name, is_node, is_removed};
@@ -10,7 +10,7 @@ use pv_tree::{Store, Tree};
 use std::alloc::{AllocError, Global};
 use std::process::Abort;
 
-// A tree of the root alone, in an image of 16 inodes and so many data blocks.
+// Creates a tree with only a root, in an image with 16 inodes and `count` data blocks.
 fn small_tree(alloc: Global, count: u16) -> Result<Tree, AllocError>
     requires { count ≤ 7000 }
 {
@@ -19,10 +19,10 @@ fn small_tree(alloc: Global, count: u16) -> Result<Tree, AllocError>
     Ok(Box::into_inner(store.into_tree()))
 }
 
-// A name that a directory has not.
+// Checks that a directory does not have a name.
 fn expect_new(rt: &impl Abort, tree: &Tree, directory: u16, name: &[u8])
     ensures directory { IsTrue (is_directory_at tree.now.tree directory) }
-    ensures standing { IsFalse (is_removed tree.now.tree directory) }
+    ensures present { IsFalse (is_removed tree.now.tree directory) }
     ensures name { IsTrue (is_name tree.now.tree.version name.now) }
     ensures absent { find_entry tree.now.tree directory name.now ≡ None }
 {
@@ -32,7 +32,7 @@ fn expect_new(rt: &impl Abort, tree: &Tree, directory: u16, name: &[u8])
     assert!(rt; tree.find(directory, name).is_none());
 }
 
-// A new node of a sort; a link has the text `d/f`.
+// Returns a new node of this kind. A symbolic link has the target `d/f`.
 fn kind_of(sort: Kind) -> NewNode<'static>
     ensures { (v : Version) → IsTrue (is_node v (new_node result)) }
 {
@@ -44,7 +44,7 @@ fn kind_of(sort: Kind) -> NewNode<'static>
     }
 }
 
-// Puts a new node under a name of a directory.
+// Creates a node under a name of a directory.
 pub(crate) fn make(
     rt: &impl Abort,
     tree: &mut Tree,
@@ -57,14 +57,14 @@ pub(crate) fn make(
     made.expect(rt, "there is room")
 }
 
-// Puts bytes into a file, from a place on.
+// Writes bytes to a file at an offset.
 fn write(rt: &impl Abort, tree: &mut Tree, node: u16, at: u32, bytes: &[u8]) {
     assert!(rt; tree.is_used(node));
     assert!(rt; tree.kind(node) == Kind::File);
     expect_same(rt, tree.write_at(node, at, bytes), Ok(()));
 }
 
-// Puts a node that is no directory under one more name.
+// Adds a name to a node that is not a directory.
 fn link(rt: &impl Abort, tree: &mut Tree, directory: u16, name: &[u8], node: u16) {
     expect_new(rt, tree, directory, name);
     assert!(rt; tree.is_used(node));
@@ -72,20 +72,20 @@ fn link(rt: &impl Abort, tree: &mut Tree, directory: u16, name: &[u8], node: u16
     expect_same(rt, tree.link(directory, name, node), Ok(()));
 }
 
-// What is put into a tree.
+// A step that changes a tree.
 #[derive(Clone, Copy)]
 pub(crate) enum Step<'a> {
-    // A new node under a name of a directory, with this number.
+    // Creates a node under a name of a directory, with this number.
     Make(u16, &'a [u8], Kind, u16),
-    // Bytes in a file, from a place on.
+    // Writes bytes to a file at an offset.
     Write(u16, u32, &'a [u8]),
-    // A node under one more name of a directory.
+    // Adds a name of a directory to a node.
     Link(u16, &'a [u8], u16),
 }
 
 use Step::{Link, Make, Write};
 
-// Puts it there.
+// Runs the step.
 fn take(rt: &impl Abort, tree: &mut Tree, step: Step) {
     match step {
         Make(directory, name, sort, node) => {
@@ -96,7 +96,7 @@ fn take(rt: &impl Abort, tree: &mut Tree, step: Step) {
     }
 }
 
-// A tree in an image of 16 inodes and so many data blocks, once all this was put there.
+// Creates a tree in an image with 16 inodes and `count` data blocks, and runs the steps.
 pub(crate) fn tree_of(
     rt: &impl Abort,
     alloc: Global,

@@ -1,4 +1,4 @@
-//! Images byte for byte.
+//! Tests of the bytes of images.
 ghost use Rattle.std.specs.Prelude.{◌≤◌};
 
 use crate::answers::{expect, expect_equal, expect_same};
@@ -12,7 +12,7 @@ use pv_tree::{Store, Tree};
 use std::alloc::{AllocError, Global};
 use std::process::Abort;
 
-// A tree of the root alone, in an image of one inode and so many blocks.
+// Creates a tree with only a root, in an image with one inode and this number of blocks.
 fn tree_of_one_inode(alloc: Global, blocks: u16) -> Result<Tree, AllocError>
     requires some { 2 ≤ blocks }
     requires few { blocks ≤ 7000 }
@@ -22,14 +22,14 @@ fn tree_of_one_inode(alloc: Global, blocks: u16) -> Result<Tree, AllocError>
     Ok(Box::into_inner(store.into_tree()))
 }
 
-// The bytes of the image of a tree.
+// Returns the bytes of the image of a tree.
 fn image_of(rt: &impl Abort, alloc: Global, tree: &Tree) -> Vec<u8> {
     let mut image = wide_sink(alloc);
     expect_same(rt, write_tree(alloc, tree, &mut image), Ok(()));
     image.bytes
 }
 
-// The image of a tree has so many bytes, with these components among zeros.
+// Checks the length of the image of a tree, and these components among zeros.
 fn expect_whole(
     rt: &impl Abort,
     alloc: Global,
@@ -51,14 +51,14 @@ fn the_smallest_image_has_a_root(rt: HostRuntime) -> Result<(), AllocError> {
     expect_whole(&rt, rt.alloc(), &tree, 1_024, SMALLEST)
 }
 
-// Holds a node that nothing has held.
+// Adds a reference to a node that has none.
 fn hold(rt: &impl Abort, tree: &mut Tree, node: u16) {
     assert!(rt; tree.is_used(node));
     assert!(rt; tree.holds(node) == 0);
     tree.hold(node);
 }
 
-// Takes the name of a directory away.
+// Removes the name of a directory.
 fn unlink(rt: &impl Abort, tree: &mut Tree, directory: u16, name: &[u8]) {
     assert!(rt; tree.is_directory(directory));
     let node = tree.find(directory, name).expect(rt, "the name is there");
@@ -79,8 +79,8 @@ fn a_held_node_without_a_name_is_not_written(rt: HostRuntime) -> Result<(), Allo
     expect_whole(&rt, rt.alloc(), &tree, 512 * 8, ROOT)
 }
 
-// What is put into a tree of version 1 with so many data blocks, how many it needs in an image of a version, and the
-// image.
+// The steps that create a tree of version 1 with this number of data blocks, the number of blocks that it needs in an
+// image of a version, and the image.
 #[derive(Clone, Copy)]
 struct Image {
     count: u16,
@@ -125,7 +125,7 @@ const TEN_BLOCKS: Image = Image {
     ],
 };
 
-// The eleventh block has its number in another.
+// The number of the eleventh block is in an index block.
 const ELEVEN_BLOCKS: Image = Image {
     count: 21,
     steps: &[
@@ -144,8 +144,8 @@ const ELEVEN_BLOCKS: Image = Image {
     ],
 };
 
-// An image that is written in parts: the first ends with the blocks of one file, the next begins with another's,
-// and there are zeros alone in the last.
+// An image that is written in parts. The first part ends with the blocks of one file, the next starts with those of
+// another, and the last has only zeros.
 const LARGE: Image = Image {
     count: 400,
     steps: &[
@@ -189,15 +189,15 @@ const SECOND: Image = Image {
     ],
 };
 
-// The bytes of the image of a tree, which needs so many blocks.
+// Returns the bytes of the image of a tree, and checks the number of blocks that it needs.
 fn as_written(rt: &impl Abort, alloc: Global, tree: &Tree, need: u32) -> Vec<u8> {
     assert!(rt; tree.sizes().version == Version::V1);
     expect_same(rt, needed_blocks(tree, Version::V1), need);
     image_of(rt, alloc, tree)
 }
 
-// The bytes of an image of version 2 of 30 blocks and 17 inodes, of a tree of the first version, which needs so many
-// blocks in it.
+// Returns the bytes of an image of version 2 with 30 blocks and 17 inodes of a tree of version 1, and checks the number
+// of blocks that it needs.
 fn rewritten(rt: &impl Abort, alloc: Global, tree: &Tree, need: u32) -> Vec<u8> {
     let sizes = tree.sizes();
     assert!(rt; sizes.version == Version::V1);
@@ -226,7 +226,7 @@ fn expect_image(rt: &impl Abort, alloc: Global, image: &Image) -> Result<(), All
 }
 
 #[test]
-fn nodes_and_blocks_stand_in_their_places(rt: HostRuntime) -> Result<(), AllocError> {
+fn nodes_and_blocks_appear_in_their_places(rt: HostRuntime) -> Result<(), AllocError> {
     for image in &[
         A_DIRECTORY_AND_A_FILE,
         TEN_BLOCKS,
@@ -239,8 +239,8 @@ fn nodes_and_blocks_stand_in_their_places(rt: HostRuntime) -> Result<(), AllocEr
     Ok(())
 }
 
-// A sink of less room than an image wants has just the beginning of it, and failed once.
-fn expect_beginning(rt: &impl Abort, alloc: Global, tree: &Tree, room: usize, image: &[u8]) {
+// Checks that a sink with insufficient room receives a prefix of the image, and fails once.
+fn expect_prefix(rt: &impl Abort, alloc: Global, tree: &Tree, room: usize, image: &[u8]) {
     let mut sink = sink_of(alloc, room, 1_000);
     expect_same(
         rt,
@@ -251,15 +251,15 @@ fn expect_beginning(rt: &impl Abort, alloc: Global, tree: &Tree, room: usize, im
     expect_same(rt, sink.failures, 1);
 }
 
-// In the first block, in the first component, in a later one, and before the last byte.
+// In the first block, in the first part, in a later part, and before the last byte.
 const ROOMS: &[usize] = &[0, 10, 60_000, 100_000, 512 * 402 - 1];
 
 #[test]
-fn a_sink_without_room_is_written_a_beginning(rt: HostRuntime) -> Result<(), AllocError> {
+fn a_sink_without_room_gets_a_prefix(rt: HostRuntime) -> Result<(), AllocError> {
     let tree = tree_of(&rt, rt.alloc(), LARGE.count, LARGE.steps)?;
     let image = image_of(&rt, rt.alloc(), &tree);
     for &room in ROOMS {
-        expect_beginning(&rt, rt.alloc(), &tree, room, &image);
+        expect_prefix(&rt, rt.alloc(), &tree, room, &image);
     }
     Ok(())
 }

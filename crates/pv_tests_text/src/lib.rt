@@ -1,7 +1,7 @@
-//! Texts and their readers tried, and what writes traces: programs, lines and words.
+//! Tests of the text and trace crates: parsers of programs, lines and words, and formatters of traces.
 //!
-//! It has tests alone, a module for each crate that they try (`text`, `script`, `trace`); `answers` has what they compare
-//! by, and `streams` the sinks that they write to.
+//! Each test module tests one crate: `text`, `script` and `trace`. `answers` has assertions, and `streams` the sinks
+//! that tests write to.
 #![tactic(auto)]
 
 #[cfg(test)]

@@ -1,10 +1,11 @@
-//! Programs from their texts: why one is refused, and the limit of its lines. What a program's lines do the program is asked for.
+//! Tests of parsing programs: errors, and the limit on the number of lines. The effect of a program's lines is tested
+//! by cases that run the program.
 use crate::answers::expect_same;
 use pv_model::{ParseFault, What};
 use pv_script::{Program, Schedule};
 use std::process::Abort;
 
-// The same bytes over and over.
+// Returns bytes repeated `count` times.
 fn repeated<R: Abort + AllocGlobal>(rt: &R, bytes: &[u8], count: u32) -> Vec<u8> {
     let mut all = Vec::new(rt.alloc());
     for _ in 0..count {
@@ -13,17 +14,17 @@ fn repeated<R: Abort + AllocGlobal>(rt: &R, bytes: &[u8], count: u32) -> Vec<u8>
     all
 }
 
-// The program of these bytes.
+// Parses a program.
 fn read<R: Abort + AllocGlobal>(rt: &R, bytes: &[u8]) -> Program {
     Program::parse(rt.alloc(), bytes).expect(rt, "a program")
 }
 
-// Bytes are a program of so many lines.
+// Checks that bytes are a program with this number of lines.
 fn expect_length<R: Abort + AllocGlobal>(rt: &R, bytes: &[u8], length: usize) {
     expect_same(rt, read(rt, bytes).len(), length);
 }
 
-// Bytes are refused as a program: this line, for this reason.
+// Checks that bytes are not a program, because of this error in this line.
 fn expect_fault<R: Abort + AllocGlobal>(rt: &R, bytes: &[u8], line: u16, what: What) {
     let fault = Program::parse(rt.alloc(), bytes).err();
     expect_same(rt, fault, Some(ParseFault::Line(line, what)));
@@ -76,7 +77,7 @@ fn more_lines_than_a_program_has(rt: HostRuntime) {
     expect_fault(&rt, &many, 257, What::TooMany);
 }
 
-// Bytes, and others after them.
+// Returns the concatenation of two slices.
 fn joined<R: Abort + AllocGlobal>(rt: &R, front: &[u8], following: &[u8]) -> Vec<u8> {
     let mut all = Vec::new(rt.alloc());
     assert!(rt; all.extend_from_slice(front).is_ok());
@@ -84,7 +85,7 @@ fn joined<R: Abort + AllocGlobal>(rt: &R, front: &[u8], following: &[u8]) -> Vec
     all
 }
 
-// A jump leads to one of the first 256 lines, also where there are more.
+// A jump must lead to one of the first 256 lines, even if there are more.
 #[test]
 fn jumps_past_the_last_line_that_a_program_has(rt: HostRuntime) {
     let front = joined(&rt, &repeated(&rt, b"wait\n", 8), b"jmp 257\n");

@@ -1,9 +1,9 @@
-//! Sinks that take little.
+//! Sinks of limited capacity.
 ghost use Rattle.std.specs.Prelude.{None};
 
 use pv_streams::{Failed, Sink};
 
-// A sink that takes so many bytes, at most so many a write, and counts its writes.
+// A sink that accepts at most `room` bytes in total and `width` bytes per write, and counts its writes.
 #[derive(Drop)]
 pub(crate) struct Narrow {
     pub(crate) bytes: Vec<u8>,
@@ -36,7 +36,7 @@ impl Sink for Narrow {
     }
 }
 
-// A sink with room for so many bytes, at most so many a write.
+// Creates a sink that accepts at most `room` bytes in total and `width` bytes per write.
 pub(crate) fn sink_of<R: AllocGlobal>(rt: &R, room: usize, width: usize) -> Narrow {
     Narrow {
         bytes: Vec::new(rt.alloc()),

@@ -1,4 +1,4 @@
-//! Lines, words, texts and arguments, and what is none.
+//! Tests of parsing lines, words, texts and arguments, valid and invalid ones.
 use crate::answers::{expect, expect_equal, expect_same};
 use pv_model::{Mode, Operand, Origin, Whence};
 use pv_text::arguments::{
@@ -12,7 +12,7 @@ use pv_text::words::{decimal, flags, number, operand, origin, register};
 use std::alloc::{AllocError, Global};
 use std::process::Abort;
 
-// A text of the same byte over and over, in quotation marks.
+// Returns a text in quotation marks that repeats one byte.
 fn quoted(alloc: Global, byte: &[u8], count: u32) -> Result<Vec<u8>, AllocError> {
     let mut all = b"\"".to_vec(alloc)?;
     for _ in 0..count {
@@ -22,7 +22,7 @@ fn quoted(alloc: Global, byte: &[u8], count: u32) -> Result<Vec<u8>, AllocError>
     Ok(all)
 }
 
-// A text begins with this line, and this stands after it.
+// Checks that a text starts with this line, and the text after it.
 fn expect_line(rt: &impl Abort, text: &[u8], line: &[u8], following: &[u8]) {
     let (first, rest) = split_line(text).expect(rt, "a line");
     expect_equal(rt, first, line);
@@ -33,7 +33,7 @@ fn expect_no_line(rt: &impl Abort, text: &[u8]) {
     assert!(rt; split_line(text).is_none());
 }
 
-// A text has so many lines, or as many as are counted.
+// Checks the number of lines of a text, which is limited.
 fn expect_count(rt: &impl Abort, text: &[u8], limit: u16, count: u16) {
     expect_same(rt, count_lines(text, limit), count);
 }
@@ -48,14 +48,14 @@ fn lines_with_their_ends_or_without(rt: HostRuntime) {
     expect_count(&rt, b"a b\n\nc\n", 2, 2);
 }
 
-// A line begins with this word, and this stands after it.
+// Checks that a line starts with this word, and the bytes after it.
 fn expect_word(rt: &impl Abort, line: &[u8], word: &[u8], following: &[u8]) {
     let (first, rest) = split_word(line);
     expect_equal(rt, first, word);
     expect_equal(rt, rest, following);
 }
 
-// A byte stands first at this place.
+// Checks the index of the first occurrence of a byte.
 fn expect_first(rt: &impl Abort, bytes: &[u8], byte: u8, place: usize) {
     expect_same(rt, first_of(bytes, byte), place);
 }
@@ -67,14 +67,14 @@ fn words_with_what_is_after(rt: HostRuntime) {
     expect_first(&rt, b"abc", b'd', 3);
 }
 
-// A path begins with this component, and this stands after its slash.
+// Checks that a path starts with this component, and the bytes after its slash.
 fn expect_component(rt: &impl Abort, path: &[u8], component: &[u8], following: &[u8]) {
     let (first, rest) = split_component(path);
     expect_equal(rt, first, component);
     expect_equal(rt, rest.expect(rt, "a slash"), following);
 }
 
-// A path is one component.
+// Checks that a path is one component.
 fn expect_one_component(rt: &impl Abort, path: &[u8]) {
     let (first, rest) = split_component(path);
     expect_equal(rt, first, path);
@@ -88,12 +88,12 @@ fn components_of_a_path(rt: HostRuntime) {
     expect_one_component(&rt, b"b");
 }
 
-// A word is read as this number, or as none.
+// Checks that a word is parsed as this number, or is not a number.
 fn expect_decimal(rt: &impl Abort, digits: &[u8], wanted: Option<u32>) {
     expect_same(rt, decimal(digits), wanted);
 }
 
-// Bytes begin with this number, and this stands after it.
+// Checks that bytes start with this number, and the bytes after it.
 fn expect_number(rt: &impl Abort, bytes: &[u8], wanted: i32, following: &[u8]) {
     let (value, rest) = number(bytes).expect(rt, "a number");
     expect_same(rt, value, wanted);
@@ -168,7 +168,7 @@ fn texts_with_escapes(rt: HostRuntime) {
     expect_equal(&rt, rest, b" b");
 }
 
-// Bytes begin with no text.
+// Checks that bytes do not start with a text.
 fn expect_no_text(rt: &impl Abort, bytes: &[u8]) {
     assert!(rt; text(bytes).is_none());
 }
@@ -183,7 +183,7 @@ fn bytes_that_are_no_texts(rt: HostRuntime) {
     assert!(rt; text_or_null(b"nul").is_none());
 }
 
-// Bytes are a text of so many bytes.
+// Checks that bytes are a text of this length.
 fn expect_text_of(rt: &impl Abort, bytes: &[u8], length: usize) {
     let (read, _) = text(bytes).expect(rt, "the longest text");
     expect_same(rt, read.len(), length);
@@ -199,7 +199,7 @@ fn texts_up_to_their_limit(rt: HostRuntime) {
     }
 }
 
-// Bytes are not one space and a text.
+// Checks that bytes are not a space followed by a text.
 fn expect_not_one_text(rt: &impl Abort, bytes: &[u8]) {
     assert!(rt; one_text(bytes).is_none());
 }

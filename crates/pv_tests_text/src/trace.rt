@@ -1,4 +1,4 @@
-//! Each kind of line, and sinks that take little.
+//! Tests of each kind of line, and of sinks of limited capacity.
 ghost use Rattle.pv_trace.specs.Words.{HasFewBytes};
 
 use crate::answers::expect_equal;
@@ -9,7 +9,7 @@ use pv_model::{
 };
 use pv_streams::{Buffered, CHUNK, Failed, Sink, write_through, write_whole};
 use pv_trace::{
-    Line, LineBuffer, PromiseVerdict, Returned, UnveilVerdict, Way, Word, write_call_lines,
+    Direction, Line, LineBuffer, PromiseVerdict, Returned, UnveilVerdict, Word, write_call_lines,
     write_gone_line, write_line,
 };
 use std::process::Abort;
@@ -25,12 +25,12 @@ const FOR_READING: OpenFlags = OpenFlags {
     close_on_exec: false,
 };
 
-// A text of these bytes.
+// Returns a text of these bytes.
 fn text<R: Abort>(rt: &R, bytes: &[u8]) -> Text {
     Text::new(bytes).expect(rt, "a text")
 }
 
-// Checks that a word of process 1 is written so.
+// Checks the line of a word of process 1.
 fn expect_line<R: Abort + AllocGlobal>(rt: &R, word: Word, wanted: &[u8])
     requires { HasFewBytes word }
 {
@@ -78,7 +78,7 @@ fn each_word_has_its_text(rt: HostRuntime) {
     );
 }
 
-// Checks that what a close returns is written so.
+// Checks the line of a result of close.
 fn expect_return<R: Abort + AllocGlobal>(rt: &R, returned: Returned, wanted: &[u8]) {
     expect_line(rt, Word::Ret(CallRef::Close(3), returned), wanted);
 }
@@ -87,10 +87,14 @@ fn expect_return<R: Abort + AllocGlobal>(rt: &R, returned: Returned, wanted: &[u
 fn words_of_answers_have_their_texts(rt: HostRuntime) {
     expect_line(
         &rt,
-        Word::Gio(Way::Gave, b"\x00k"),
+        Word::Gio(Direction::Gave, b"\x00k"),
         b"    1 GIO   read 2 006b\n",
     );
-    expect_line(&rt, Word::Gio(Way::Took, b""), b"    1 GIO   wrote 0\n");
+    expect_line(
+        &rt,
+        Word::Gio(Direction::Took, b""),
+        b"    1 GIO   wrote 0\n",
+    );
     expect_return(
         &rt,
         Returned::Value(4_294_967_295),
@@ -157,7 +161,7 @@ fn longest_bytes_are_written_at_once(rt: HostRuntime) {
     let mut out = sink_of(&rt, 20_000, 20_000);
     let line = Line {
         pid: 1,
-        word: Word::Gio(Way::Took, &[171; 4_096]),
+        word: Word::Gio(Direction::Took, &[171; 4_096]),
     };
     assert!(rt; write_line(&mut out, &line).is_ok());
     assert!(rt; out.writes == 1);
@@ -168,7 +172,7 @@ fn longest_bytes_are_written_at_once(rt: HostRuntime) {
 const HIDDEN: &[u8] =
     b"    1 CALL  open(\"/a\\x22\\x01\", r)\n    1 NAMI  \"/a\\x22\\x01\"\n    1 UNVL  none, needs r\n    1 RET   open -1 errno 2 ENOENT\n";
 
-// A sink of so much room, at most so many a write, once it was given of the open, and what that answered.
+// Writes the lines of an open that is hidden to a sink with these limits, and returns the sink and the result.
 fn written_of_hidden<R: Abort + AllocGlobal>(
     rt: &R,
     room: usize,
@@ -197,7 +201,7 @@ fn hidden_open_is_written_byte_by_byte(rt: HostRuntime) {
     expect_equal(&rt, out.bytes.as_slice(), HIDDEN);
 }
 
-// The bytes up to a place.
+// Returns the first `room` bytes.
 fn front(bytes: &[u8], room: usize) -> &[u8] {
     if room < bytes.len() {
         &bytes[..room]
@@ -206,8 +210,8 @@ fn front(bytes: &[u8], room: usize) -> &[u8] {
     }
 }
 
-// A sink of less room than the lines want has a beginning of them, and failed once.
-fn expect_beginning<R: Abort + AllocGlobal>(rt: &R, room: usize, width: usize) {
+// Checks that a sink with insufficient room receives a prefix of the lines, and fails once.
+fn expect_prefix<R: Abort + AllocGlobal>(rt: &R, room: usize, width: usize) {
     let (out, lines) = written_of_hidden(rt, room, width);
     assert!(rt; lines.is_err());
     expect_equal(rt, out.bytes.as_slice(), front(HIDDEN, room));
@@ -215,27 +219,27 @@ fn expect_beginning<R: Abort + AllocGlobal>(rt: &R, room: usize, width: usize) {
 }
 
 #[test]
-fn full_sink_has_a_beginning_of_the_text(rt: HostRuntime) {
+fn full_sink_has_a_prefix_of_the_text(rt: HostRuntime) {
     for room in 0..HIDDEN.len() {
         for width in [1, 7, 1_000] {
-            expect_beginning(&rt, room, width);
+            expect_prefix(&rt, room, width);
         }
     }
 }
 
-// What a call did, and how it is given.
+// The outcome of a call, and how it is passed.
 #[derive(Clone, Copy)]
 struct Written<'a> {
     pid: u32,
-    // What its buffer begins with.
+    // The first bytes of its buffer.
     buffer: &'a [u8],
     outcome: Outcome,
     walks: u8,
-    // How many lines it has.
+    // Its number of lines.
     count: u8,
 }
 
-// The lines of a call, in one write.
+// Returns the lines of a call, written at once.
 fn lines_of<R: Abort + AllocGlobal>(rt: &R, call: CallRef, written: &Written) -> Vec<u8> {
     assert!(rt; written.buffer.len() <= 4_096);
     let mut out = sink_of(rt, 1_000, 1_000);
@@ -306,7 +310,7 @@ fn rename_call<R: Abort>(rt: &R) -> Call {
 }
 
 #[test]
-fn rename_tells_the_walks_that_it_began(rt: HostRuntime) {
+fn rename_reports_the_walks_that_it_began(rt: HostRuntime) {
     let call = rename_call(&rt);
     let written = Written {
         pid: 1,
@@ -321,7 +325,7 @@ fn rename_tells_the_walks_that_it_began(rt: HostRuntime) {
 }
 
 #[test]
-fn rename_that_began_one_walk_tells_one(rt: HostRuntime) {
+fn rename_that_began_one_walk_reports_one(rt: HostRuntime) {
     let call = rename_call(&rt);
     let written = Written {
         pid: 1,
@@ -345,7 +349,7 @@ fn exit_has_its_call_alone(rt: HostRuntime) {
     expect_written(&rt, CallRef::Exit(0), &written, b"    1 CALL  exit(0)\n");
 }
 
-// A sink of so much room, at most so many a write, once it was given of the step, and whether it took it.
+// Writes the lines of the step to a sink with these limits, and returns the sink and whether the write succeeded.
 fn written_of_gone<R: Abort + AllocGlobal>(rt: &R, room: usize, width: usize) -> (Narrow, bool) {
     let mut out = sink_of(rt, room, width);
     let as_written = write_gone_line(&mut out, &mut LineBuffer::new(), 2).is_ok();
@@ -366,30 +370,30 @@ fn step_of_a_process_that_is_gone_has_one_line(rt: HostRuntime) {
     );
 }
 
-// How many bytes more than one component.
+// The capacity of the buffer plus 9.
 const MORE: usize = CHUNK + 9;
 
 fn expect_whole<R: Abort>(rt: &R, out: &mut Buffered<Narrow>, bytes: &[u8]) {
     assert!(rt; write_whole(out, bytes).is_ok());
 }
 
-// What is buffered is flushed, or not.
+// Checks whether a flush succeeds.
 fn expect_flush<R: Abort>(rt: &R, out: &mut Buffered<Narrow>, flushed: bool) {
     assert!(rt; out.flush().is_ok() == flushed);
 }
 
-// A sink was written to so many times.
+// Checks the number of writes to a sink.
 fn expect_writes<R: Abort>(rt: &R, out: &Buffered<Narrow>, writes: u64) {
     assert!(rt; out.sink().writes == writes);
 }
 
-// A sink has so many bytes, and these are its last.
+// Checks the number of bytes of a sink, and its last bytes.
 fn expect_bytes<R: Abort>(rt: &R, out: &Buffered<Narrow>, count: usize, last: &[u8]) {
     assert!(rt; out.sink().bytes.len() == count);
     assert!(rt; out.sink().bytes.ends_with(last));
 }
 
-// A sink after five bytes, with which nothing was flushed, and a whole component.
+// Creates a sink that was written five bytes, which are still buffered, and then a whole chunk.
 fn with_a_component<R: Abort + AllocGlobal>(rt: &R) -> Buffered<Narrow> {
     let mut out = Buffered::new(rt.alloc(), sink_of(rt, 2 * MORE, 2 * MORE));
     expect_whole(rt, &mut out, b"abc");
@@ -409,7 +413,7 @@ fn chunks_are_flushed_when_they_are_full(rt: HostRuntime) {
     expect_bytes(&rt, &out, CHUNK + 5, b"");
 }
 
-// Bytes are written, and what is buffered is flushed after them, or not.
+// Writes bytes and flushes them, and checks whether this succeeds.
 fn expect_through<R: Abort>(rt: &R, out: &mut Buffered<Narrow>, bytes: &[u8], flushed: bool) {
     assert!(rt; write_through(out, bytes).is_ok() == flushed);
 }
@@ -427,7 +431,7 @@ fn more_than_a_component_is_written_through(rt: HostRuntime) {
     expect_failures(&rt, &out, 0);
 }
 
-// A sink has what it has room for, and no more comes of another flush.
+// Checks that a sink receives the bytes that it has room for, and that another flush adds none.
 fn expect_room<R: Abort + AllocGlobal>(rt: &R, room: usize) {
     let mut out = Buffered::new(rt.alloc(), sink_of(rt, room, 2));
     expect_whole(rt, &mut out, b"abcde");

@@ -1,4 +1,4 @@
-//! What the cache keeps and what it forgets.
+//! Tests of the name cache: the answers that it keeps and those that it discards.
 ghost use Rattle.pv_namei.specs.Cached.{FitsMap};
 ghost use Rattle.pv_model.specs.Tree.{find_entry};
 
@@ -10,7 +10,7 @@ use pv_tree::Tree;
 use std::alloc::{AllocError, Global};
 use std::process::Abort;
 
-// What is looked up in the root.
+// Checks a lookup in the root.
 fn expect_look(
     rt: &impl Abort,
     tree: &Tree,
@@ -25,32 +25,32 @@ fn expect_look(
     expect_same(rt, lookup.look(tree, 1, name), answer);
 }
 
-// What is kept of a directory and a name.
-fn expect_kept(
+// Checks the cached answer for a directory and a name.
+fn expect_preserved(
     rt: &impl Abort,
     lookup: &CachedLookup,
     directory: u16,
     name: &[u8],
     expected: Option<Option<u16>>,
 ) {
-    expect_same(rt, lookup.kept(directory, name), expected);
+    expect_same(rt, lookup.preserved(directory, name), expected);
 }
 
-// A lookup is told that a name of the root has changed.
-fn tell_changed(lookup: &mut CachedLookup, name: &[u8]) {
+// Reports to a lookup that a name of the root has changed.
+fn report_changed(lookup: &mut CachedLookup, name: &[u8]) {
     lookup.changed(1, name);
 }
 
-// What is asked of a lookup, and what that answers.
+// An operation on a lookup, with the expected result.
 #[derive(Clone, Copy)]
 enum Step<'a> {
-    // A name is looked up in the root.
+    // Looks up a name in the root.
     Look(&'a [u8], Option<u16>),
-    // This or nothing is kept of a directory and a name.
-    Kept(u16, &'a [u8], Option<Option<u16>>),
+    // Checks the cached answer for a directory and a name, or that there is none.
+    Preserved(u16, &'a [u8], Option<Option<u16>>),
 }
 
-use Step::{Kept, Look};
+use Step::{Look, Preserved};
 
 fn expect_step(rt: &impl Abort, tree: &Tree, lookup: &mut CachedLookup, step: Step)
     requires { FitsMap lookup.old.answers (find_entry tree.now.tree) }
@@ -58,11 +58,13 @@ fn expect_step(rt: &impl Abort, tree: &Tree, lookup: &mut CachedLookup, step: St
 {
     match step {
         Look(name, answer) => expect_look(rt, tree, lookup, name, answer),
-        Kept(directory, name, expected) => expect_kept(rt, lookup, directory, name, expected),
+        Preserved(directory, name, expected) => expect_preserved(
+            rt, lookup, directory, name, expected,
+        ),
     }
 }
 
-// Steps are taken in turn.
+// Runs steps in order.
 fn expect_steps(rt: &impl Abort, tree: &Tree, lookup: &mut CachedLookup, steps: &[Step])
     requires agrees { FitsMap lookup.old.answers (find_entry tree.now.tree) }
 {
@@ -71,7 +73,7 @@ fn expect_steps(rt: &impl Abort, tree: &Tree, lookup: &mut CachedLookup, steps: 
     }
 }
 
-// Looks up names that the root has not, once each: n and a number below 600.
+// Looks up absent names in the root, once each: n and a number below 600.
 fn look_for_absent(
     rt: &impl Abort,
     alloc: Global,
@@ -87,8 +89,8 @@ fn look_for_absent(
     Ok(())
 }
 
-// The last 512 of these names are kept, and no others.
-fn expect_512_kept(
+// Checks that exactly the last 512 of these names are cached.
+fn expect_512_preserved(
     rt: &impl Abort,
     alloc: Global,
     lookup: &CachedLookup,
@@ -96,7 +98,7 @@ fn expect_512_kept(
     for number in 0..600 {
         let name = format!(in alloc; "n{number}")?;
         let expected = if number < 88 { None } else { Some(None) };
-        expect_kept(rt, lookup, 1, name.as_bytes(), expected);
+        expect_preserved(rt, lookup, 1, name.as_bytes(), expected);
     }
     Ok(())
 }
@@ -106,10 +108,10 @@ fn a_cached_lookup_keeps_512_answers(rt: HostRuntime) -> Result<(), AllocError> 
     let tree = with_64_inodes(rt.alloc())?;
     let mut lookup = CachedLookup::new(rt.alloc())?;
     look_for_absent(&rt, rt.alloc(), &tree, &mut lookup)?;
-    expect_512_kept(&rt, rt.alloc(), &lookup)
+    expect_512_preserved(&rt, rt.alloc(), &lookup)
 }
 
-// A walk from the root to /f.
+// Checks a walk from the root to /f.
 fn expect_resolved(rt: &impl Abort, tree: &Tree, lookup: &mut CachedLookup, f: u16)
     requires { FitsMap lookup.old.answers (find_entry tree.now.tree) }
     ensures { FitsMap lookup.new.answers (find_entry tree.now.tree) }
@@ -119,14 +121,14 @@ fn expect_resolved(rt: &impl Abort, tree: &Tree, lookup: &mut CachedLookup, f: u
     assert!(rt; matches!(walked, Ok(Place::At { node: Some(node), .. }) if node == f));
 }
 
-// What is asked once /f, which is 2, was walked to.
+// The steps after a walk to /f, which is node 2.
 const WALKED: &[Step] = &[
-    Kept(1, b"f", Some(Some(2))),
+    Preserved(1, b"f", Some(Some(2))),
     Look(b"f", Some(2)),
     Look(b"g", None),
-    Kept(1, b"f", Some(Some(2))),
-    Kept(1, b"g", Some(None)),
-    Kept(2, b"f", None),
+    Preserved(1, b"f", Some(Some(2))),
+    Preserved(1, b"g", Some(None)),
+    Preserved(2, b"f", None),
 ];
 
 #[test]
@@ -136,13 +138,13 @@ fn a_cached_lookup_forgets_what_changed(rt: HostRuntime) -> Result<(), AllocErro
     let mut lookup = CachedLookup::new(rt.alloc())?;
     expect_resolved(&rt, &tree, &mut lookup, 2);
     expect_steps(&rt, &tree, &mut lookup, WALKED);
-    tell_changed(&mut lookup, b"f");
-    expect_kept(&rt, &lookup, 1, b"f", None);
-    expect_kept(&rt, &lookup, 1, b"g", Some(None));
+    report_changed(&mut lookup, b"f");
+    expect_preserved(&rt, &lookup, 1, b"f", None);
+    expect_preserved(&rt, &lookup, 1, b"g", Some(None));
     Ok(())
 }
 
-// The longest name that is kept, and one that is longer.
+// The longest name that is cached, and a longer one.
 const LONG: &[u8] = &[b'a'; 255];
 
 const LONGER: &[u8] = &[b'a'; 256];
@@ -150,11 +152,11 @@ const LONGER: &[u8] = &[b'a'; 256];
 const LONG_NAMES: &[Step] = &[
     Look(LONGER, None),
     Look(LONG, None),
-    Kept(1, LONGER, None),
-    Kept(1, LONG, Some(None)),
+    Preserved(1, LONGER, None),
+    Preserved(1, LONG, Some(None)),
     Look(b"a", None),
-    Kept(1, b"a", Some(None)),
-    Kept(1, b"aa", None),
+    Preserved(1, b"a", Some(None)),
+    Preserved(1, b"aa", None),
 ];
 
 #[test]
@@ -162,7 +164,7 @@ fn a_long_name_goes_past_the_cache(rt: HostRuntime) -> Result<(), AllocError> {
     let tree = with_64_inodes(rt.alloc())?;
     let mut lookup = CachedLookup::new(rt.alloc())?;
     expect_steps(&rt, &tree, &mut lookup, LONG_NAMES);
-    tell_changed(&mut lookup, LONGER);
-    expect_kept(&rt, &lookup, 1, LONG, Some(None));
+    report_changed(&mut lookup, LONGER);
+    expect_preserved(&rt, &lookup, 1, LONG, Some(None));
     Ok(())
 }

@@ -1,11 +1,11 @@
-//! Open files with several users, and the numbers of descriptors.
+//! Tests of open files with several users, and of descriptor numbers.
 use crate::answers::{expect_name, expect_same};
 use pv_files::{Descriptors, OpenFiles};
 use pv_model::{Errno, Mode, Name};
 use std::alloc::{AllocError, AllocGlobal};
 use std::process::Abort;
 
-// What it answers that a file is opened.
+// Checks the result of opening a file.
 fn expect_add(
     rt: &impl Abort,
     files: &mut OpenFiles,
@@ -17,13 +17,13 @@ fn expect_add(
     expect_same(rt, files.add(node, mode, append), answer);
 }
 
-// What it answers that a user of an open file goes.
+// Checks the result of removing a user of an open file.
 fn expect_release(rt: &impl Abort, files: &mut OpenFiles, file: usize, answer: Option<u16>) {
     assert!(rt; files.is_open(file));
     expect_same(rt, files.release(file), answer);
 }
 
-// An open file that has so many users gets one more.
+// Adds a user to an open file that has `users` users.
 fn expect_dup(rt: &impl Abort, files: &mut OpenFiles, file: usize, users: u16) {
     assert!(rt; files.users(file) == users);
     assert!(rt; users < 9);
@@ -31,7 +31,7 @@ fn expect_dup(rt: &impl Abort, files: &mut OpenFiles, file: usize, users: u16) {
     files.dup(file);
 }
 
-// What an open file is of, how it is used, and where it stands.
+// Checks the node, the mode, the append flag and the offset of an open file.
 fn expect_opened(
     rt: &impl Abort,
     files: &OpenFiles,
@@ -61,35 +61,35 @@ fn expect_last_name(rt: &impl Abort, files: &OpenFiles, file: usize, text: Optio
     expect_name(rt, files.last_name(file), text);
 }
 
-// What is done to open files or asked of them, and what that answers.
+// An operation on open files, with the expected result.
 #[derive(Clone, Copy)]
 enum Step<'a> {
-    // There is room for one more, or none.
+    // Checks whether there is room for one more.
     Room(bool),
-    // A file is opened: its node, its mode, and whether it appends.
+    // Opens a file: its node, its mode, and whether it appends.
     Add(u16, Mode, bool, Result<usize, Errno>),
-    // A file is open, or not.
+    // Checks whether a file is open.
     Open(usize, bool),
-    // A number has so many users.
+    // Checks the number of users.
     Users(usize, u16),
-    // A file that has so many users gets one more.
+    // Adds a user to a file with this number of users.
     Dup(usize, u16),
-    // A user of a file goes, and the last one gives its node.
+    // Removes a user of a file. Removing the last one returns the node.
     Release(usize, Option<u16>),
-    // What is changed of a file or seen of it.
+    // Changes or checks a part of a file.
     Of(usize, Part<'a>),
 }
 
-// What is changed of an open file or seen of it.
+// A change or a check of an open file.
 #[derive(Clone, Copy)]
 enum Part<'a> {
-    // Its node, its mode, whether it appends, and its offset.
+    // Checks its node, its mode, whether it appends, and its offset.
     Opened(u16, Mode, bool, u32),
-    // It gets an offset.
+    // Sets its offset.
     SetOffset(u32),
-    // It gets a name that was listed last.
+    // Sets the last name listed.
     SetLastName(&'a [u8]),
-    // It has this one, or none.
+    // Checks the last name listed, or that there is none.
     LastName(Option<&'a [u8]>),
 }
 
@@ -119,14 +119,14 @@ fn expect_step(rt: &impl Abort, files: &mut OpenFiles, step: Step) {
     }
 }
 
-// Steps are taken in turn.
+// Runs steps in order.
 fn expect_steps(rt: &impl Abort, files: &mut OpenFiles, steps: &[Step]) {
     for &step in steps {
         expect_step(rt, files, step);
     }
 }
 
-// Steps are taken where no file is open yet.
+// Runs steps from a state without open files.
 fn expect_run<R: Abort + AllocGlobal>(rt: &R, steps: &[Step]) -> Result<(), AllocError> {
     let mut files = OpenFiles::new(rt.alloc())?;
     expect_steps(rt, &mut files, steps);
@@ -134,7 +134,7 @@ fn expect_run<R: Abort + AllocGlobal>(rt: &R, steps: &[Step]) -> Result<(), Allo
     Ok(())
 }
 
-// Opens as many files as may be.
+// Opens the maximum number of files.
 fn open_128(rt: &impl Abort, files: &mut OpenFiles) {
     for number in 0..128 {
         assert!(rt; files.has_room());
@@ -200,22 +200,22 @@ fn keeps_what_its_users_share(rt: HostRuntime) -> Result<(), AllocError> {
     expect_run(&rt, SHARED)
 }
 
-// What is done to the numbers of descriptors or asked of them, and what that answers.
+// An operation on descriptors, with the expected result.
 #[derive(Clone, Copy)]
 enum Asked {
-    // There is room for one more, or none.
+    // Checks whether there is room for one more.
     Left(bool),
-    // An open file gets a number, which execve closes or not.
+    // Creates a descriptor of an open file; the flag is whether execve closes it.
     Give(usize, bool, Result<u8, Errno>),
-    // A number is made an open file's.
+    // Makes a number a descriptor of an open file.
     Set(u8, usize),
-    // A number's open file.
+    // Checks the open file of a number.
     At(i32, Result<usize, Errno>),
-    // A number goes, and was this open file's.
+    // Closes a number, and checks its open file.
     Close(i32, Result<usize, Errno>),
-    // Execve closes a number, or not.
+    // Checks whether execve closes a number.
     Marked(u8, bool),
-    // Execve has closed what it closes.
+    // Closes the descriptors that execve closes.
     AfterExec,
 }
 
@@ -246,7 +246,7 @@ fn expect_all_asked(rt: &impl Abort, descriptors: &mut Descriptors, all: &[Asked
     }
 }
 
-// Gives an open file as many numbers as there are.
+// Creates the maximum number of descriptors of an open file.
 fn give_16(rt: &impl Abort, descriptors: &mut Descriptors) {
     for number in 0..16u8 {
         assert!(rt; descriptors.has_room());
@@ -288,7 +288,7 @@ const TWO: &[Asked] = &[
     Marked(16, false),
 ];
 
-// What is done to a copy of the two.
+// The steps on a copy of the two descriptors.
 const COPIED: &[Asked] = &[
     Set(0, 7),
     Set(15, 8),
@@ -300,7 +300,7 @@ const COPIED: &[Asked] = &[
     At(2, Err(Errno::EBADF)),
 ];
 
-// What the two are afterwards, which execve makes one.
+// The two descriptors afterwards. execve closes one.
 const STILL_TWO: &[Asked] = &[
     Marked(0, true),
     At(0, Ok(6)),

@@ -1,17 +1,26 @@
-//! The tree of an image tried, with what stands on it: unveiled tables, walks, the cache of names, and open files.
+//! Tests of the storage crates and of the crates on top of them.
 //!
-//! It has tests alone, a module for each crate that they try: `tree`, `unveil`, `namei`, `cache` and `files`.
-//! `trees` has what they make their trees by, and `answers` what they compare by.
+//! Each test module tests one crate or type: `blocks`, `inodes`, `directories` and `tree` the storage of an image,
+//! `unveil` unveil tables, `namei` path walks, `cache` the name cache, and `files` open files and descriptors. `trees`
+//! creates the trees that tests use. `answers` and `store_answers` have assertions.
 #![tactic(auto)]
 
 #[cfg(test)]
 mod answers;
 #[cfg(test)]
+mod blocks;
+#[cfg(test)]
 mod cache;
+#[cfg(test)]
+mod directories;
 #[cfg(test)]
 mod files;
 #[cfg(test)]
+mod inodes;
+#[cfg(test)]
 mod namei;
+#[cfg(test)]
+mod store_answers;
 #[cfg(test)]
 mod tree;
 #[cfg(test)]

@@ -1,4 +1,4 @@
-//! Walks in small trees.
+//! Tests of walks in small trees.
 ghost use Rattle.std.specs.Prelude.{◌≤◌};
 
 use crate::answers::expect_same;
@@ -9,7 +9,7 @@ use pv_tree::Tree;
 use std::alloc::{AllocError, AllocGlobal, Global};
 use std::process::Abort;
 
-// What a walk is to answer.
+// The expected result of a walk.
 #[derive(Clone, Copy)]
 enum Expected<'a> {
     // An entry of a directory, and its node.
@@ -22,7 +22,7 @@ enum Expected<'a> {
 
 use Expected::{At, Fault, Node};
 
-// Whether a walk ended so.
+// Returns whether a walk has the expected result.
 fn is_expected(walked: &Result<Place, Errno>, expected: Expected) -> bool {
     match (walked, expected) {
         (Ok(Place::At { dir, name, node }), At(directory, text, there)) => {
@@ -34,7 +34,7 @@ fn is_expected(walked: &Result<Place, Errno>, expected: Expected) -> bool {
     }
 }
 
-// Walks a path, and compares.
+// Walks a path, and checks the result.
 fn expect_walk(
     rt: &impl Abort,
     tree: &Tree,
@@ -48,14 +48,14 @@ fn expect_walk(
     assert!(rt; is_expected(&walked, expected));
 }
 
-// Walks from one place, each compared.
+// Walks paths from one directory, and checks the results.
 fn expect_walks(rt: &impl Abort, tree: &Tree, start: u16, walks: &[(&[u8], Follow, Expected)]) {
     for &(path, follow, expected) in walks {
         expect_walk(rt, tree, start, path, follow, expected);
     }
 }
 
-// Walks from one place of a tree of these nodes.
+// Walks paths from a directory of a tree with these nodes, and checks the results.
 fn expect_paths<R: Abort + AllocGlobal>(
     rt: &R,
     nodes: &[(u16, &[u8], NewNode, u16)],
@@ -95,7 +95,8 @@ fn ends_of_paths(rt: HostRuntime) -> Result<(), AllocError> {
     expect_paths(&rt, FOUR_NODES, 1, ENDS)
 }
 
-// A link in the root: its name, its number, and its text, which is a component so many times and then an end.
+// A symbolic link in the root: its name, its number, and its target, which repeats a component `count` times before an
+// end.
 #[derive(Clone, Copy)]
 struct LongLink<'a> {
     name: &'a [u8],
@@ -124,7 +125,7 @@ fn make_long_link(
     Ok(())
 }
 
-// Walks from the root of a tree that has these links alone.
+// Walks paths from the root of a tree with only these links, and checks the results.
 fn expect_long_links<R: Abort + AllocGlobal>(
     rt: &R,
     links: &[LongLink],
@@ -138,7 +139,7 @@ fn expect_long_links<R: Abort + AllocGlobal>(
     Ok(())
 }
 
-// A link of 975 bytes: 60 of them stand before, between and after 15 slashes.
+// A link of 975 bytes: 16 names of 60 bytes with 15 slashes between them.
 const LINK_OF_975: &[LongLink] = &[LongLink {
     name: b"k",
     node: 2,
@@ -147,7 +148,7 @@ const LINK_OF_975: &[LongLink] = &[LongLink {
     end: &[b'n'; 60],
 }];
 
-// After the link stand 48 bytes with their slash, and then 49.
+// After the link, 48 bytes remain with their slash, and then 49.
 const LEFT: &[(&[u8], Follow, Expected)] = &[
     (
         b"/k/aaaaaaaaaabbbbbbbbbbccccccccccddddddddddeeeeeee",
@@ -166,7 +167,7 @@ fn a_link_leaves_1024_bytes_to_walk(rt: HostRuntime) -> Result<(), AllocError> {
     expect_long_links(&rt, LINK_OF_975, LEFT)
 }
 
-// Links of 978 and of 977 bytes, of which every other one is a dot.
+// Links of 978 and 977 bytes. Every second byte is a dot.
 const DOTTED_LINKS: &[LongLink] = &[
     LongLink {
         name: b"k",
@@ -184,7 +185,7 @@ const DOTTED_LINKS: &[LongLink] = &[
     },
 ];
 
-// After each link stand 45 bytes, and then 46.
+// After each link, 45 bytes remain, and then 46.
 const WEIGHED: &[(&[u8], Follow, Expected)] = &[
     (
         b"k/aaaaaaaaaabbbbbbbbbbccccccccccddddddddddeeeee",
@@ -221,7 +222,7 @@ const SHORT_LINKS: &[(u16, &[u8], NewNode, u16)] = &[
     (1, b"u", NewNode::Symlink(b"bc"), 5),
 ];
 
-// After a link stand 511 dots, with 510 slashes between them.
+// After a link, 511 dots remain with 510 slashes between them.
 #[test]
 fn dots_after_a_link_weigh_too(rt: HostRuntime) -> Result<(), AllocError> {
     let mut tree = with_64_inodes(rt.alloc())?;
@@ -262,7 +263,7 @@ fn dots_and_links_lead_through_the_tree(rt: HostRuntime) -> Result<(), AllocErro
     expect_paths(&rt, DOTTED_NODES, 2, DOTTED_FROM_TMP)
 }
 
-// The name of a link of a chain.
+// Returns the name of a link of a chain.
 fn link_name(k: u8) -> [u8; 3]
     requires { k ≤ 32 }
 {
@@ -274,7 +275,7 @@ const CHAIN_ENDS: &[(u16, &[u8], NewNode, u16)] = &[
     (1, b"l32", NewNode::Symlink(b"f"), 3),
 ];
 
-// Each link leads to the next, and the last one to /f.
+// Creates a chain of links: each leads to the next, and the last one to /f.
 fn make_chain(rt: &impl Abort, tree: &mut Tree) {
     make_all(rt, tree, CHAIN_ENDS);
     for k in 0..32u8 {
@@ -290,7 +291,7 @@ fn make_chain(rt: &impl Abort, tree: &mut Tree) {
     }
 }
 
-// A link that leads to itself, and one to where it is.
+// A link that leads to itself, and one that leads to its directory.
 const TO_ITSELF: &[(u16, &[u8], NewNode, u16)] = &[
     (1, b"s", NewNode::Symlink(b"s"), 36),
     (1, b"e", NewNode::Symlink(b"."), 37),
@@ -327,7 +328,7 @@ const TURNING_NODES: &[(u16, &[u8], NewNode, u16)] = &[
     (2, b"v", NewNode::Symlink(b"./../d/.."), 4),
 ];
 
-// Paths that go over u and v in turn: over 32 links, and over 33.
+// Paths that follow u and v in turn: 32 links, and 33.
 const TURNS: &[(&[u8], Follow, Expected)] = &[
     (
         b"/u/v/u/v/u/v/u/v/u/v/u/v/u/v/u/v/u/v/u/v/u/v/u/v/u/v/u/v/u/v/u/v",
@@ -372,7 +373,7 @@ const SLASHED: &[(&[u8], Follow, Expected)] = &[
 ];
 
 #[test]
-fn links_stand_between_slashes(rt: HostRuntime) -> Result<(), AllocError> {
+fn links_appear_between_slashes(rt: HostRuntime) -> Result<(), AllocError> {
     expect_paths(&rt, SLASHED_NODES, 1, SLASHED)
 }
 
@@ -399,7 +400,7 @@ fn links_lead_from_the_root(rt: HostRuntime) -> Result<(), AllocError> {
     expect_paths(&rt, ROOTED_NODES, 3, ROOTED)
 }
 
-// A path has 1,023 bytes at most, and a name of version 1 has 60.
+// A path has at most 1,023 bytes, and a name of version 1 has at most 60.
 const LONGEST: &[(&[u8], Follow, Expected)] = &[
     (&[b'/'; 1_023], Follow::Last, Node(1)),
     (&[b'/'; 1_024], Follow::Last, Fault(Errno::ENAMETOOLONG)),
@@ -429,7 +430,7 @@ fn a_removed_directory_has_no_names(rt: HostRuntime) -> Result<(), AllocError> {
     Ok(())
 }
 
-// What is looked up in the root.
+// Checks a lookup in the root.
 fn expect_look(
     rt: &impl Abort,
     tree: &Tree,

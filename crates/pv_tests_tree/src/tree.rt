@@ -1,4 +1,4 @@
-//! Whole runs of calls on a tree.
+//! Tests of sequences of operations on a tree.
 ghost use Rattle.std.specs.Prelude.{◌≤◌};
 
 use crate::answers::{expect_equal, expect_name, expect_same};
@@ -10,7 +10,7 @@ use pv_tree::{Space, Tree};
 use std::alloc::{AllocError, AllocGlobal};
 use std::process::Abort;
 
-// What it answers that a node gets a name that is new.
+// Checks the result of adding a name to a node.
 fn expect_link(
     rt: &impl Abort,
     tree: &mut Tree,
@@ -25,7 +25,7 @@ fn expect_link(
     expect_same(rt, tree.link(directory, name, node), answer);
 }
 
-// Gives a node a name that no node has.
+// Moves an entry to a name that no node has.
 fn expect_rename(
     rt: &impl Abort,
     tree: &mut Tree,
@@ -42,7 +42,7 @@ fn expect_rename(
     expect_same(rt, tree.rename(from, name, to, other), answer);
 }
 
-// Gives a node a name that another node without entries has.
+// Moves an entry to a name of another node without entries.
 fn expect_rename_over(
     rt: &impl Abort,
     tree: &mut Tree,
@@ -84,14 +84,14 @@ fn expect_cut(rt: &impl Abort, tree: &mut Tree, node: u16, size: u32, answer: Re
     expect_same(rt, tree.cut(node, size), answer);
 }
 
-// Lets go of a node that is held once.
-fn let_go(rt: &impl Abort, tree: &mut Tree, node: u16) {
+// Releases a node that has one reference.
+fn unreference(rt: &impl Abort, tree: &mut Tree, node: u16) {
     assert!(rt; tree.is_used(node));
     assert!(rt; tree.holds(node) == 1);
-    tree.let_go(node);
+    tree.unreference(node);
 }
 
-// A name of a directory is this one, if any, and stands after another.
+// Checks the name of a directory that follows another, or that there is none.
 fn expect_next(
     rt: &impl Abort,
     tree: &Tree,
@@ -104,7 +104,7 @@ fn expect_next(
     expect_name(rt, next.as_ref(), name);
 }
 
-// The names of a directory are these, in this order, and all of them.
+// Checks that a directory has exactly these names, in this order.
 fn expect_lists(rt: &impl Abort, tree: &Tree, directory: u16, names: &[&[u8]]) {
     let mut last = None;
     for &name in names {
@@ -139,24 +139,24 @@ fn expect_empty(rt: &impl Abort, tree: &Tree, directory: u16) {
     assert!(rt; tree.is_empty(directory));
 }
 
-// What holds of a tree.
+// A property of a tree.
 #[derive(Clone, Copy)]
 enum Fact<'a> {
-    // A directory has these names, in this order, and no others.
+    // A directory has exactly these names, in this order.
     Lists(u16, &'a [&'a [u8]]),
     // A name in a directory has this node.
     Find(u16, &'a [u8], u16),
-    // A directory stands in this one, or in none.
+    // A directory has this parent, or none.
     Parent(u16, Option<u16>),
-    // A node has so many bytes or entries.
+    // A node has this number of bytes or entries.
     Size(u16, u32),
-    // A node has so many names.
+    // A node has this number of names.
     Names(u16, u32),
-    // A node is held so many times.
+    // A node has this number of references.
     Holds(u16, u16),
     // A directory has no entries.
     Empty(u16),
-    // A number is no node's.
+    // No node has a number.
     Unused(u16),
 }
 
@@ -175,32 +175,32 @@ fn expect_fact(rt: &impl Abort, tree: &Tree, fact: Fact) {
     }
 }
 
-// What is done to a tree, and what that answers, or what is to hold of it then.
+// An operation on a tree with the expected result, or a property that must hold.
 #[derive(Clone, Copy)]
 enum Step<'a> {
-    // A node is made under a name that is new.
+    // Creates a node under a new name.
     Make(u16, &'a [u8], NewNode<'a>, Result<u16, Space>),
-    // A node gets a name that is new.
+    // Adds a new name to a node.
     Link(u16, &'a [u8], u16, Result<(), Space>),
-    // A name gives its node to one that is new.
+    // Moves an entry to a new name.
     Rename(u16, &'a [u8], u16, &'a [u8], Result<(), Space>),
-    // A name gives its node to one that has an empty directory.
+    // Moves an entry to the name of an empty directory.
     RenameOver(u16, &'a [u8], u16, &'a [u8], Result<(), Space>),
-    // Bytes are written to a file at a place.
+    // Writes bytes to a file at an offset.
     Write(u16, u32, &'a [u8], Result<(), Space>),
-    // A file is cut to a length.
+    // Truncates a file to a length.
     Cut(u16, u32, Result<(), Space>),
-    // A node is held that nothing has held.
+    // Adds a reference to a node that has none.
     Hold(u16),
-    // A node is let go that is held once.
-    LetGo(u16),
-    // The name of an empty directory goes.
+    // Releases a node that has one reference.
+    Released(u16),
+    // Removes the name of an empty directory.
     Remove(u16, &'a [u8]),
-    // This holds.
+    // Checks a property.
     That(Fact<'a>),
 }
 
-use Step::{Cut, Hold, LetGo, Link, Make, Remove, Rename, RenameOver, That, Write};
+use Step::{Cut, Hold, Link, Make, Released, Remove, Rename, RenameOver, That, Write};
 
 fn expect_step(rt: &impl Abort, tree: &mut Tree, step: Step) {
     match step {
@@ -215,20 +215,20 @@ fn expect_step(rt: &impl Abort, tree: &mut Tree, step: Step) {
         Write(node, at, bytes, answer) => expect_write(rt, tree, node, at, bytes, answer),
         Cut(node, size, answer) => expect_cut(rt, tree, node, size, answer),
         Hold(node) => hold(rt, tree, node),
-        LetGo(node) => let_go(rt, tree, node),
+        Released(node) => unreference(rt, tree, node),
         Remove(directory, name) => remove_directory(rt, tree, directory, name),
         That(fact) => expect_fact(rt, tree, fact),
     }
 }
 
-// Steps are taken in turn.
+// Runs steps in order.
 fn expect_steps(rt: &impl Abort, tree: &mut Tree, steps: &[Step]) {
     for &step in steps {
         expect_step(rt, tree, step);
     }
 }
 
-// Steps are taken with a tree of so many data blocks, that has the root alone.
+// Runs steps on a tree with only a root and this number of data blocks.
 fn expect_run<R: Abort + AllocGlobal>(rt: &R, count: u16, steps: &[Step]) -> Result<(), AllocError>
     requires { count ≤ 8000 }
 {
@@ -253,7 +253,7 @@ fn a_file_grows_as_far_as_there_are_blocks(rt: HostRuntime) -> Result<(), AllocE
     expect_run(&rt, 3, GROWN)
 }
 
-// In the end the directories use no block, two and one: a name more needs a block in the first alone.
+// At the end, the directories use no block, two blocks and one. Only in the first does another name need a block.
 const GIVEN_BACK: &[Step] = &[
     Make(1, b"a", NewNode::Directory, Ok(2)),
     Make(1, b"b", NewNode::Directory, Ok(3)),
@@ -290,7 +290,7 @@ const HELD: &[Step] = &[
     Remove(1, b"d"),
     Make(1, b"d", NewNode::Directory, Ok(3)),
     That(Parent(2, None)),
-    LetGo(2),
+    Released(2),
     That(Unused(2)),
     Make(1, b"e", NewNode::Symlink(b"d"), Ok(2)),
 ];
@@ -329,12 +329,12 @@ const REPLACED: &[Step] = &[
     That(Lists(2, &[])),
     That(Find(1, b"e", 3)),
     That(Parent(3, Some(1))),
-    // The other one is held, so it stays, removed.
+    // The other one has a reference, so it stays, without a name.
     That(Parent(4, None)),
     That(Names(4, 0)),
-    LetGo(4),
+    Released(4),
     That(Unused(4)),
-    // Where nothing holds it, it goes at once.
+    // A node without a reference is removed at once.
     RenameOver(1, b"e", 1, b"a", Ok(())),
     That(Unused(2)),
     That(Lists(1, &[b"a"])),
@@ -345,7 +345,7 @@ fn a_rename_takes_the_place_of_another_node(rt: HostRuntime) -> Result<(), Alloc
     expect_run(&rt, 4, REPLACED)
 }
 
-// Makes 15 files, of which each has one byte as its name.
+// Creates 15 files whose names have one byte.
 fn make_15(rt: &impl Abort, tree: &mut Tree) {
     for k in 0..15u8 {
         expect_make(rt, tree, 1, &[128 + k], NewNode::File, Ok(2 + u16::from(k)));
@@ -366,7 +366,7 @@ fn the_last_inode_is_the_sixteenth(rt: HostRuntime) -> Result<(), AllocError> {
     Ok(())
 }
 
-// Gives the node 2 so many names of two bytes that its directory has 2,128 with its first.
+// Adds names of two bytes to node 2, so that its directory has 2,128 entries with its first.
 fn link_2127(rt: &impl Abort, tree: &mut Tree) {
     for k in 0..2_127u16 {
         let name = [128 + (k / 64) as u8, 128 + (k % 64) as u8];
@@ -389,7 +389,7 @@ fn the_last_name_is_the_2128th(rt: HostRuntime) -> Result<(), AllocError> {
     Ok(())
 }
 
-// How many bytes a read from a place on puts into five bytes, and what stands there then.
+// Checks the number of bytes that a read at an offset copies to five bytes, and the five bytes afterwards.
 fn expect_read(
     rt: &impl Abort,
     tree: &Tree,
@@ -410,7 +410,7 @@ const WRITTEN: &[Step] = &[
     Write(2, 510, b"abcd", Ok(())),
 ];
 
-// Reads into the same five bytes in turn: from where, how many, and what they are then.
+// Consecutive reads into the same five bytes: the offset, the number of bytes, and the buffer afterwards.
 const READS: &[(u32, usize, &[u8; 5])] = &[
     (509, 5, b"\0abcd"),
     (513, 1, b"dabcd"),
@@ -428,27 +428,27 @@ fn a_file_is_read_where_it_was_written(rt: HostRuntime) -> Result<(), AllocError
     Ok(())
 }
 
-const LET_GO: &[Step] = &[
+const UNREFERENCE: &[Step] = &[
     Make(1, b"f", NewNode::File, Ok(2)),
     Hold(2),
-    LetGo(2),
+    Released(2),
     That(Names(2, 1)),
     That(Holds(2, 0)),
 ];
 
 #[test]
 fn a_node_with_a_name_outlives_its_holders(rt: HostRuntime) -> Result<(), AllocError> {
-    expect_run(&rt, 3, LET_GO)
+    expect_run(&rt, 3, UNREFERENCE)
 }
 
-// The greatest names of version 2 that have only one byte.
+// The longest names of version 2 that repeat a single byte.
 const A: &[u8] = &[b'a'; 255];
 
 const B: &[u8] = &[b'b'; 255];
 
 const C: &[u8] = &[b'c'; 255];
 
-// The slot of the second name stands across two blocks.
+// The slot of the second name crosses a block boundary.
 const LONG_NAMES: &[Step] = &[
     Make(1, C, NewNode::Directory, Ok(2)),
     Make(1, A, NewNode::File, Ok(3)),

@@ -1,4 +1,4 @@
-//! Small tables, and what they say of the places of a small tree.
+//! Tests of small unveil tables, and of their answers for the places of a small tree.
 use crate::answers::expect_same;
 use crate::trees::{
     expect_find, expect_make, hold, make_all, of_version_2, remove_directory, with_data_blocks,
@@ -36,8 +36,8 @@ const SMALL_TREE: &[(u16, &[u8], NewNode, u16)] = &[
     (3, b"r", NewNode::Directory, 7),
 ];
 
-// The directories /a (2) and /a/b (3), the files /f (4), /a/x (5) and /a/b/x (6), and a directory (7) that
-// was /a/b/r and is removed.
+// Creates a tree with the directories /a (2) and /a/b (3), the files /f (4), /a/x (5) and /a/b/x (6), and a removed
+// directory (7) that was /a/b/r.
 fn small_tree(rt: &impl Abort, alloc: Global) -> Result<Tree, AllocError> {
     let mut tree = with_data_blocks(alloc, 8)?;
     make_all(rt, &mut tree, SMALL_TREE);
@@ -47,7 +47,7 @@ fn small_tree(rt: &impl Abort, alloc: Global) -> Result<Tree, AllocError> {
     Ok(tree)
 }
 
-// What is said of a name in a directory, with what is there under it.
+// Checks the answer for a name in a directory, with the node that it names.
 fn expect_by_name(
     rt: &impl Abort,
     table: &Table,
@@ -70,7 +70,7 @@ fn expect_by_name(
     );
 }
 
-// What is said of a directory without a name.
+// Checks the answer for a directory without a name.
 fn expect_by_node(
     rt: &impl Abort,
     table: &Table,
@@ -87,7 +87,7 @@ fn expect_by_node(
     );
 }
 
-// What it answers that an entry is added for a directory.
+// Checks the result of adding an entry for a directory.
 fn expect_add(
     rt: &impl Abort,
     table: &mut Table,
@@ -102,7 +102,7 @@ fn expect_add(
     );
 }
 
-// What it answers that an entry is added for a name in a directory.
+// Checks the result of adding an entry for a name in a directory.
 fn expect_add_name(
     rt: &impl Abort,
     table: &mut Table,
@@ -118,16 +118,16 @@ fn expect_add_name(
     expect_same(rt, table.add(target, permissions), answer);
 }
 
-// What is put into a table or asked of it, and what that answers.
+// An operation on a table, with the expected result.
 #[derive(Clone, Copy)]
 enum Step<'a> {
-    // An entry is added for a directory.
+    // Adds an entry for a directory.
     Add(u16, Perms, Result<u8, AddFault>),
-    // An entry is added for a name in a directory.
+    // Adds an entry for a name in a directory.
     AddName(u16, &'a [u8], Perms, Result<u8, AddFault>),
-    // What is said of a name in a directory that needs these permissions.
+    // Checks the answer for a name in a directory and the required permissions.
     ByName(u16, &'a [u8], Perms, Judgement),
-    // What is said of a directory without a name.
+    // Checks the answer for a directory without a name.
     ByNode(u16, Perms, Judgement),
 }
 
@@ -155,14 +155,14 @@ fn expect_step(rt: &impl Abort, table: &mut Table, tree: &Tree, step: Step) {
     }
 }
 
-// Steps are taken in turn.
+// Runs steps in order.
 fn expect_steps(rt: &impl Abort, table: &mut Table, tree: &Tree, steps: &[Step]) {
     for &step in steps {
         expect_step(rt, table, tree, step);
     }
 }
 
-// Steps are taken with an empty table and the small tree.
+// Runs steps with an empty table and the small tree.
 fn expect_run<R: Abort + AllocGlobal>(rt: &R, steps: &[Step]) -> Result<(), AllocError> {
     let tree = small_tree(rt, rt.alloc())?;
     expect_steps(rt, &mut Table::new(rt.alloc())?, &tree, steps);
@@ -231,7 +231,7 @@ const NAMED: &[Step] = &[
     ByName(1, b"f", RW, Denied(0)),
     ByName(1, b"foo", R, Hidden),
     ByName(2, b"f", R, Hidden),
-    // The name is not there yet; once a directory is, it goes by what is above it.
+    // The name does not exist yet. If it becomes a directory, the entry that governs its parent applies.
     ByName(2, b"new", RW, Allowed),
 ];
 
@@ -247,7 +247,7 @@ fn judges_by_a_name(rt: HostRuntime) -> Result<(), AllocError> {
     Ok(())
 }
 
-// Names of 2 bytes in the root fall on the mark of names of 1 byte in directory 2.
+// Names of 2 bytes in the root share a mark with names of 1 byte in directory 2.
 const SHARED_MARKS: &[Step] = &[
     AddName(1, b"ff", R, Ok(0)),
     ByName(1, b"gg", R, Hidden),
@@ -269,7 +269,7 @@ fn judges_by_names_that_share_a_mark(rt: HostRuntime) -> Result<(), AllocError> 
     expect_run(&rt, SHARED_MARKS)
 }
 
-// Two names of 255 bytes, of which only the last byte is another one.
+// Two names of 255 bytes that differ only in the last byte.
 const KEY: &[u8; 255] = &[b'k'; 255];
 
 const OTHER: &[u8; 255] =
@@ -297,7 +297,7 @@ fn judges_by_a_name_of_version_2(rt: HostRuntime) -> Result<(), AllocError> {
     Ok(())
 }
 
-// Adds as many entries as a table may have, for the directories 1 to 64.
+// Adds the maximum number of entries, for the directories 1 to 64.
 fn add_64(rt: &impl Abort, table: &mut Table) {
     for k in 0..64u8 {
         expect_add(rt, table, 1 + u16::from(k), RW, Ok(k));
@@ -323,14 +323,14 @@ fn adds_entries(rt: HostRuntime) -> Result<(), AllocError> {
     Ok(())
 }
 
-// A table has so many entries, and is locked or not.
+// Checks the number of entries of a table, and whether it is locked.
 fn expect_table(rt: &impl Abort, table: &Table, entries: usize, locked: bool) {
     expect_same(rt, table.len(), entries);
     expect_same(rt, table.is_locked(), locked);
     expect_same(rt, table.is_empty(), entries == 0);
 }
 
-// The permissions of a table's two entries, and of the second its directory and its name.
+// Checks the permissions of a table's two entries, and the directory and the name of the second.
 fn expect_two(
     rt: &impl Abort,
     table: &Table,

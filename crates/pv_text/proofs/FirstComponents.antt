@@ -10,7 +10,7 @@ use Rattle.pv_text.specs.Components.{components_after}
 abbrev pub end_of_component : Bytes → ℕ
 end_of_component bs = position_or_len (λ b. b == 47) bs
 
--- what is after the first component: nothing at the end
+-- the path after its first component, or None at the end
 abbrev pub rest_of : Bytes → Option Bytes
 rest_of [] = None
 rest_of (b ∷ bs) = Some bs
@@ -36,7 +36,7 @@ no_rest : (bs : Bytes) → length bs < 1 → rest_of bs ≡ None
 no_rest [] none = refl
 no_rest (b ∷ bs) none = absurd (omega arith)
 
--- the components of a path that is split where its first ends
+-- the components of a path that is split after its first component
 pub component_split : (bs component rest : Bytes) (end : ℕ) → end ≡ end_of_component bs → component ≡ take end bs → rest ≡ drop end bs → 1 ≤ length rest
     → split_slashes bs ≡ component ∷ split_slashes (take (length rest - 1) (drop 1 rest))
 component_split bs component rest end is front back some =

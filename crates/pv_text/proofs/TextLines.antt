@@ -1,4 +1,4 @@
--- Lines and words, by where their ends stand.
+-- Lines and words, by the positions of their ends.
 use Rattle.std.proofs.Common.{◌≡◌, ◌∙◌, ap, ℕ, suc, ◌+◌, ◌-◌, ◌≤◌, ◌<◌, Bool, true, false, not, cond, eqb, ltb, [], ◌∷◌, ◌++◌, length, take, drop, Option, None, Some, refl, sym, inl, inr, arith}
 use Rattle.std.specs.Prelude.{◌==◌, unwrap_or}
 use Rattle.std.specs.List.{position, position_or_len}
@@ -12,7 +12,6 @@ use Rattle.pv_model.specs.Bytes.{Bytes, onto_first}
 use Rattle.pv_model.specs.Grammar.Lines.{lines_of, word_of, after_word}
 use Rattle.pv_text.specs.Lines.{IsSplit}
 
--- the first place that passes, or the length, is at most the length
 pub position_or_len-within : (p : ℕ → Bool) (bs : Bytes) → position_or_len p bs ≤ length bs
 position_or_len-within p bs = prefix_len-le-length (λ b. not (p b)) bs
 
@@ -26,7 +25,7 @@ or_length n m le =
 pub position_or_length : (p : ℕ → Bool) (bs : Bytes) → unwrap_or (position p bs) (length bs) ≡ position_or_len p bs
 position_or_length p bs = or_length (position_or_len p bs) (length bs) (position_or_len-within p bs)
 
--- the first byte that passes stands at the first place that passes
+-- the index of the first byte that passes is its position
 pub first_is_position : (p : ℕ → Bool) (bs : Bytes) (r : Option ℕ) → IsFirstByte p bs r → r ≡ position p bs
 first_is_position p bs None none =
     elim (cases_lt (position_or_len p bs) (length bs)) [
@@ -96,13 +95,13 @@ after_word_is (b ∷ bs) =
       | false ↦ past_word b bs (after_word bs) (end_of_word bs) (after_word_is bs)
     ]
 
--- a text that is split where its first line ends
+-- a text that is split at the end of its first line
 pub lines_split : (bs line rest : Bytes) (end : ℕ) → eqb (length bs) 0 ≡ false → end ≡ end_of_line bs → line ≡ take end bs → rest ≡ drop end bs → lines_of bs ≡ line ∷ lines_of (drop 1 rest)
 lines_split [] line rest end some is front back = absurd cc
 lines_split (b ∷ bs) line rest end some is front back =
     rw (front, back, is) (first_line b bs ∙ ap (λ d. take (end_of_line (b ∷ bs)) (b ∷ bs) ∷ lines_of d) (sym (drop-drop 1 (end_of_line (b ∷ bs)) (b ∷ bs))))
 
--- the text after a line: past its end, or none
+-- the text after a line feed, or no text
 pub lines_past : (bs line rest : Bytes) (end : ℕ) → eqb (length bs) 0 ≡ false → end ≡ end_of_line bs → line ≡ take end bs → rest ≡ drop end bs → lines_of bs ≡ line ∷ lines_of (take (length rest - 1) (drop 1 rest))
 lines_past bs line rest end some is front back =
     lines_split bs line rest end some is front back ∙ ap (λ d. line ∷ lines_of d) (sym (take_all (length rest - 1) (drop 1 rest) (omega (arith, length-drop 1 rest))))
@@ -111,7 +110,7 @@ pub lines_to_end : (bs line rest : Bytes) (end : ℕ) → eqb (length bs) 0 ≡ 
 lines_to_end bs line [] end some is front back short = lines_split bs line [] end some is front back
 lines_to_end bs line (b ∷ rest) end some is front back short = absurd (omega arith)
 
--- ---- the bytes that are left after a line
+-- ---- the bytes after a line
 
 abbrev EndsAt : ℕ → Bytes → Type 0
 EndsAt end bs = end < length bs → bs ≡ take end bs ++ 10 ∷ drop (end + 1) bs

@@ -1,4 +1,4 @@
--- Arguments, as their readers meet them.
+-- Arguments, as their parsers process them.
 use Rattle.std.proofs.Common.{◌≡◌, ◌∙◌, ap, ℕ, zero, suc, ◌+◌, ◌-◌, ◌*◌, ◌≤◌, ◌<◌, Bool, true, false, not, cond, eqb, leb, min, [], ◌∷◌, ◌++◌, length, get_or, take, drop, Option, None, Some, refl, sym, inl, inr, arith, append_assoc, negsuc}
 use Rattle.std.specs.Prelude.{◌==◌, ◌&&◌, ◌||◌, nat_le, option_map}
 use Rattle.std.specs.List.{list_all, position_or_len}
@@ -19,7 +19,7 @@ no_first_digit : (o : Option ℕ) → first_digit (text_rest []) o ≡ None
 no_first_digit None = refl
 no_first_digit (Some high) = refl
 
--- what is too short for an escape is none
+-- fewer than three bytes are not an escape
 pub short_escape : (bs : Bytes) → length bs < 3 → text_rest bs after_backslash ≡ None
 short_escape [] short = refl
 short_escape (a ∷ []) short = elim (a == 120) as (λ t. cond t (text_rest [] after_x) None ≡ None) [ true ↦ refl | false ↦ refl ]
@@ -38,9 +38,9 @@ IsFront-start bytes = whole (text_rest bytes outside)
     whole (Some p) = refl
 
 pub IsFront-step : (front rest bytes after : Bytes) (b : ℕ) → text_rest rest outside ≡ onto_text b (text_rest after outside) → IsFront front rest bytes → IsFront (front ++ b ∷ []) after bytes
-IsFront-step front rest bytes after b read kept = sym (onto_more front b (text_rest after outside)) ∙ ap (onto_front front) (sym read) ∙ kept
+IsFront-step front rest bytes after b read preserved = sym (onto_more front b (text_rest after outside)) ∙ ap (onto_front front) (sym read) ∙ preserved
 
--- a byte that stands for itself is read as it is
+-- a byte that represents itself is parsed as itself
 plain_step : (b : ℕ) (bs : Bytes) → is_plain b ≡ true → text_rest (b ∷ bs) outside ≡ onto_text b (text_rest bs outside)
 plain_step b bs plain = go (b == 34) (b == 92) (is_plain b) (nat_le 32 b && nat_le b 126) refl plain
   where
@@ -57,7 +57,7 @@ onto_longer : (b : ℕ) (front : Bytes) (parsed : Parsed Bytes) → onto_front (
 onto_longer b front None = refl
 onto_longer b front (Some p) = refl
 
--- bytes that stand for themselves are read as they are
+-- bytes that represent themselves are parsed as themselves
 pub IsFront-plain : (n : ℕ) (bs : Bytes) → n ≤ length bs → ((k : ℕ) → k < n → is_plain (get_or bs k 0) ≡ true) → IsFront (take n bs) (drop n bs) bs
 IsFront-plain zero bs within plain = IsFront-start bs
 IsFront-plain (suc n) [] within plain = absurd (omega arith)
@@ -70,7 +70,7 @@ not_false : (b : Bool) → not b ≡ false → b ≡ true
 not_false true e = refl
 not_false false e = absurd cc
 
--- and so are those before the first that does not
+-- this holds for the bytes before the first that does not represent itself
 pub IsFront-split : (bs : Bytes) (end : ℕ) → end ≡ position_or_len (λ b. not (is_plain b)) bs → IsFront (take end bs) (drop end bs) bs
 IsFront-split bs end is =
     IsFront-plain end bs (omega (arith, is, position_or_len-within (λ b. not (is_plain b)) bs))
@@ -81,25 +81,25 @@ past_limit front b None full = refl
 past_limit front b (Some p) full =
     let t : leb (length (front ++ b ∷ p.0)) 1100 ≡ false = lt-leb _ _ (omega (arith, length-append front (b ∷ p.0))) in rw t refl
 
--- a text that is read past its limit is none
+-- a text that exceeds its limit is invalid
 pub IsFront-full : (front rest bytes after : Bytes) (b : ℕ) → text_rest rest outside ≡ onto_text b (text_rest after outside) → length front ≡ 1100 → IsFront front rest bytes → if_short (text_rest bytes outside) ≡ None
-IsFront-full front rest bytes after b read full kept = ap if_short (sym kept ∙ ap (onto_front front) read) ∙ past_limit front b (text_rest after outside) full
+IsFront-full front rest bytes after b read full preserved = ap if_short (sym preserved ∙ ap (onto_front front) read) ∙ past_limit front b (text_rest after outside) full
 
 too_long : (front : Bytes) (parsed : Parsed Bytes) → 1100 < length front → if_short (onto_front front parsed) ≡ None
 too_long front None long = refl
 too_long front (Some p) long = let t : leb (length (front ++ p.0)) 1100 ≡ false = lt-leb _ _ (omega (arith, length-append front p.0)) in rw t refl
 
--- nor is one whose front is longer
+-- a text whose prefix exceeds the limit is invalid
 pub IsFront-long : (front rest bytes : Bytes) → 1100 < length front → IsFront front rest bytes → if_short (text_rest bytes outside) ≡ None
-IsFront-long front rest bytes long kept = ap if_short (sym kept) ∙ too_long front (text_rest rest outside) long
+IsFront-long front rest bytes long preserved = ap if_short (sym preserved) ∙ too_long front (text_rest rest outside) long
 
 pub IsFront-ended : (front rest bytes following : Bytes) → text_rest rest outside ≡ text_end rest → text_end rest ≡ Some ([], following) → length front ≤ 1100 → IsFront front rest bytes → if_short (text_rest bytes outside) ≡ Some (front, following)
-IsFront-ended front rest bytes following read ended short kept =
+IsFront-ended front rest bytes following read ended short preserved =
     let t : leb (length front) 1100 ≡ true = le-leb _ _ short in
-    ap if_short (sym kept ∙ ap (onto_front front) (read ∙ ended) ∙ ap (λ (text : Bytes). Some (text, following)) (append-nil front)) ∙ rw t refl
+    ap if_short (sym preserved ∙ ap (onto_front front) (read ∙ ended) ∙ ap (λ (text : Bytes). Some (text, following)) (append-nil front)) ∙ rw t refl
 
 pub IsFront-none : (front rest bytes : Bytes) → text_rest rest outside ≡ text_end rest → text_end rest ≡ None → IsFront front rest bytes → if_short (text_rest bytes outside) ≡ None
-IsFront-none front rest bytes read none kept = ap if_short (sym kept ∙ ap (onto_front front) (read ∙ none))
+IsFront-none front rest bytes read none preserved = ap if_short (sym preserved ∙ ap (onto_front front) (read ∙ none))
 
 -- ---- decimals
 
@@ -107,7 +107,7 @@ value_grows : (n : ℕ) (bs : Bytes) → n ≤ value_from n bs
 value_grows n [] = omega arith
 value_grows n (b ∷ bs) = let more = value_grows (10 * n + (b - 48)) bs in omega (arith, more)
 
--- a number that is held at the greatest stays there
+-- saturation in between does not change the saturated value
 held_at_greatest : (n : ℕ) (bs : Bytes) → up_to_greatest (value_from (up_to_greatest n) bs) ≡ up_to_greatest (value_from n bs)
 held_at_greatest n bs =
     elim (cases_lt 4294967295 n) [
@@ -125,8 +125,8 @@ value_step v next d bs is =
 
 pub decimal_step : (digits : Bytes) (i v next total : ℕ) → i < length digits → next ≡ min (min (v * 10) 4294967295 + (get_or digits i 0 - 48)) 4294967295
     → up_to_greatest (value_from v (drop i digits)) ≡ total → up_to_greatest (value_from next (drop (i + 1) digits)) ≡ total
-decimal_step digits i v next total within is kept =
-    value_step v next (get_or digits i 0) (drop (i + 1) digits) is ∙ ap (λ (ds : Bytes). up_to_greatest (value_from v ds)) (sym (drop_more digits i 0 within)) ∙ kept
+decimal_step digits i v next total within is preserved =
+    value_step v next (get_or digits i 0) (drop (i + 1) digits) is ∙ ap (λ (ds : Bytes). up_to_greatest (value_from v ds)) (sym (drop_more digits i 0 within)) ∙ preserved
 
 and_rest : (a b : Bool) → a ≡ true → (a && b) ≡ b
 and_rest true b e = refl
@@ -134,8 +134,8 @@ and_rest false b e = absurd cc
 
 pub digits_step : (digits : Bytes) (i : ℕ) (all : Bool) → i < length digits → is_digit (get_or digits i 0) ≡ true
     → list_all is_digit (drop i digits) ≡ all → list_all is_digit (drop (i + 1) digits) ≡ all
-digits_step digits i all within is kept =
-    sym (ap (list_all is_digit) (drop_more digits i 0 within) ∙ and_rest (is_digit (get_or digits i 0)) (list_all is_digit (drop (i + 1) digits)) is) ∙ kept
+digits_step digits i all within is preserved =
+    sym (ap (list_all is_digit) (drop_more digits i 0 within) ∙ and_rest (is_digit (get_or digits i 0)) (list_all is_digit (drop (i + 1) digits)) is) ∙ preserved
 
 both_hold : (none all padded : Bool) → (none || padded) ≡ false → true ≡ all → (not none && all && not padded) ≡ true
 both_hold false true false e f = refl
@@ -143,7 +143,7 @@ both_hold false false false e f = absurd cc
 both_hold false all true e f = absurd cc
 both_hold true all padded e f = absurd cc
 
--- what a decimal spells, when all its digits have been read
+-- the value of a decimal after all its digits
 pub decimal_is : (digits : Bytes) (v i : ℕ) → length digits ≤ i → (is_empty digits || has_leading_zero digits) ≡ false
     → list_all is_digit (drop i digits) ≡ list_all is_digit digits → up_to_greatest (value_from v (drop i digits)) ≡ up_to_greatest (value_from 0 digits) → v ≤ 4294967295
     → option_map up_to_greatest (decimal_of digits) ≡ Some v
@@ -165,7 +165,7 @@ negative_by n (Some m) is some within =
     let other : eqb m 0 ≡ false = ne_eqb m 0 (λ e. some (omega arith)) in
     rw (fits, other, same) refl
 
--- a word that is a minus and a decimal
+-- a word that is a minus sign and a decimal
 pub negative_is : (word : Bytes) (n : ℕ) → get_or word 0 0 ≡ 45 → Some n ≡ option_map up_to_greatest (decimal_of (take (length word - 1) (drop 1 word)))
     → (n ≡ 0 → ⊥) → n ≤ 2147483648 → number_of word ≡ Some (negsuc (n - 1))
 negative_is [] n minus is some within = absurd (omega arith)
@@ -176,7 +176,7 @@ negative_is (b ∷ bs) n minus is some within =
 
 -- ---- flags
 
--- what stands after a front, by one comparison
+-- the rest after a prefix, by one comparison
 pub front_is : (front bs : Bytes) → without_front front bs ≡ cond (pointwise eqb (take (length front) bs) front) (Some (drop (length front) bs)) None
 front_is [] bs = refl
 front_is (a ∷ front) [] = refl

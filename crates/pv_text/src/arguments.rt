@@ -1,4 +1,4 @@
-//! The arguments of a line: each stands after a space, and nothing stands after the last.
+//! Parsing the arguments of a line. A space precedes each argument, and nothing follows the last.
 ghost use Rattle.std.specs.Prelude.{◌≡◌};
 ghost use Rattle.pv_model.specs.Grammar.Arguments.{text_at, text_or_null_at, operand_at, register_at, number_at, whence_at, origin_at, flags_at, word_at, no_argument, one_argument, two_arguments, three_arguments};
 ghost use Rattle.pv_text.specs.Reading.{held_of};
@@ -8,14 +8,14 @@ use crate::texts::{text, text_or_null};
 use crate::words::{flags, number, operand, origin, register, size, whence};
 use pv_model::{OpenFlags, Operand, Origin, Register, Text, Whence};
 
-/// No argument: nothing stands there.
+/// Parses an empty list of arguments.
 pub fn no_argument(bytes: &[u8]) -> Option<()>
     ensures { result ≡ no_argument bytes.now }
 {
     if bytes.is_empty() { Some(()) } else { None }
 }
 
-/// One argument, a number or a register.
+/// Parses one argument, a number or a register.
 pub fn one_operand(bytes: &[u8]) -> Option<Operand>
     ensures { result ≡ one_argument operand_at bytes.now }
 {
@@ -25,7 +25,7 @@ pub fn one_operand(bytes: &[u8]) -> Option<Operand>
     if rest.is_empty() { Some(operand) } else { None }
 }
 
-/// Two arguments, numbers or registers.
+/// Parses two arguments, each a number or a register.
 pub fn two_operands(bytes: &[u8]) -> Option<(Operand, Operand)>
     ensures { result ≡ two_arguments operand_at operand_at bytes.now }
 {
@@ -36,7 +36,7 @@ pub fn two_operands(bytes: &[u8]) -> Option<(Operand, Operand)>
     Some((first, second))
 }
 
-/// One argument, a number.
+/// Parses one argument, a number.
 pub fn one_number(bytes: &[u8]) -> Option<i32>
     ensures { result ≡ one_argument number_at bytes.now }
 {
@@ -44,7 +44,7 @@ pub fn one_number(bytes: &[u8]) -> Option<i32>
     if rest.is_empty() { Some(number) } else { None }
 }
 
-/// Two arguments, a register and a number.
+/// Parses two arguments, a register and a number.
 pub fn register_and_number(bytes: &[u8]) -> Option<(Register, i32)>
     ensures { result ≡ two_arguments register_at number_at bytes.now }
 {
@@ -55,7 +55,7 @@ pub fn register_and_number(bytes: &[u8]) -> Option<(Register, i32)>
     Some((first, second))
 }
 
-// One argument, from where lseek counts.
+// Parses one argument, the `whence` of lseek.
 fn one_whence(bytes: &[u8]) -> Option<Whence>
     ensures { result ≡ one_argument whence_at bytes.now }
 {
@@ -63,7 +63,7 @@ fn one_whence(bytes: &[u8]) -> Option<Whence>
     if rest.is_empty() { Some(first) } else { None }
 }
 
-// Two arguments, a number or register, and from where lseek counts.
+// Parses two arguments, a number or register and the `whence` of lseek.
 fn operand_and_whence(bytes: &[u8]) -> Option<(Operand, Whence)>
     ensures { result ≡ two_arguments operand_at whence_at bytes.now }
 {
@@ -74,7 +74,7 @@ fn operand_and_whence(bytes: &[u8]) -> Option<(Operand, Whence)>
     Some((first, second))
 }
 
-/// Three arguments: two numbers or registers, and from where lseek counts.
+/// Parses three arguments: two numbers or registers, and the `whence` of lseek.
 pub fn two_operands_and_whence(bytes: &[u8]) -> Option<(Operand, Operand, Whence)>
     ensures { result ≡ three_arguments operand_at operand_at whence_at bytes.now }
 {
@@ -85,7 +85,7 @@ pub fn two_operands_and_whence(bytes: &[u8]) -> Option<(Operand, Operand, Whence
     Some((first, second, third))
 }
 
-/// One argument, a text: None where the bytes are not a space and a text.
+/// Parses one argument, a text.
 pub fn one_text(bytes: &[u8]) -> Option<Text>
     ensures { result ≡ one_argument text_at bytes.now }
 {
@@ -93,7 +93,7 @@ pub fn one_text(bytes: &[u8]) -> Option<Text>
     if rest.is_empty() { Some(text) } else { None }
 }
 
-/// Two arguments, texts: None where the bytes are not that.
+/// Parses two arguments, both texts.
 pub fn two_texts(bytes: &[u8]) -> Option<(Text, Text)>
     ensures { result ≡ two_arguments text_at text_at bytes.now }
 {
@@ -102,7 +102,7 @@ pub fn two_texts(bytes: &[u8]) -> Option<(Text, Text)>
     Some((first, second))
 }
 
-// One argument, a text or nothing.
+// Parses one argument, a text or `null`.
 fn one_text_or_null(bytes: &[u8]) -> Option<Option<Text>>
     ensures { result ≡ one_argument text_or_null_at bytes.now }
 {
@@ -110,7 +110,7 @@ fn one_text_or_null(bytes: &[u8]) -> Option<Option<Text>>
     if rest.is_empty() { Some(first) } else { None }
 }
 
-/// Two arguments, each a text or nothing.
+/// Parses two arguments, each a text or `null`.
 pub fn two_texts_or_null(bytes: &[u8]) -> Option<(Option<Text>, Option<Text>)>
     ensures { result ≡ two_arguments text_or_null_at text_or_null_at bytes.now }
 {
@@ -119,7 +119,7 @@ pub fn two_texts_or_null(bytes: &[u8]) -> Option<(Option<Text>, Option<Text>)>
     Some((first, second))
 }
 
-// One argument, the flags of an open.
+// Parses one argument, the flags of open.
 fn one_flags(bytes: &[u8]) -> Option<OpenFlags>
     ensures { result ≡ one_argument flags_at bytes.now }
 {
@@ -127,7 +127,7 @@ fn one_flags(bytes: &[u8]) -> Option<OpenFlags>
     if rest.is_empty() { Some(first) } else { None }
 }
 
-/// Two arguments, a text and the flags of an open.
+/// Parses two arguments, a text and the flags of open.
 pub fn text_and_flags(bytes: &[u8]) -> Option<(Text, OpenFlags)>
     ensures { result ≡ two_arguments text_at flags_at bytes.now }
 {
@@ -136,7 +136,7 @@ pub fn text_and_flags(bytes: &[u8]) -> Option<(Text, OpenFlags)>
     Some((first, second))
 }
 
-/// Three arguments: where an openat starts, a text, and the flags of an open.
+/// Parses three arguments: the start of openat, a text, and the flags of open.
 pub fn origin_text_and_flags(bytes: &[u8]) -> Option<(Origin, Text, OpenFlags)>
     ensures { result ≡ three_arguments origin_at text_at flags_at bytes.now }
 {
@@ -147,7 +147,7 @@ pub fn origin_text_and_flags(bytes: &[u8]) -> Option<(Origin, Text, OpenFlags)>
     Some((first, second, third))
 }
 
-// One argument, a decimal number.
+// Parses one argument, a decimal number.
 fn one_size(bytes: &[u8]) -> Option<u32>
     ensures { result ≡ one_argument (word_at held_of) bytes.now }
 {
@@ -155,8 +155,8 @@ fn one_size(bytes: &[u8]) -> Option<u32>
     if rest.is_empty() { Some(first) } else { None }
 }
 
-/// Two arguments, decimal numbers without leading zeros: None where the bytes are not that. A number above
-/// 4,294,967,295 is read as that.
+/// Parses two arguments, decimal numbers without leading zeros. A number greater than 4,294,967,295 is parsed as
+/// 4,294,967,295.
 pub fn two_sizes(bytes: &[u8]) -> Option<(u32, u32)>
     ensures { result ≡ two_arguments (word_at held_of) (word_at held_of) bytes.now }
 {
@@ -165,8 +165,8 @@ pub fn two_sizes(bytes: &[u8]) -> Option<(u32, u32)>
     Some((first, second))
 }
 
-/// Two arguments, a text and a decimal number without leading zeros: None where the bytes are not that. A
-/// number above 4,294,967,295 is read as that.
+/// Parses two arguments, a text and a decimal number without leading zeros. A number greater than 4,294,967,295 is
+/// parsed as 4,294,967,295.
 pub fn text_and_size(bytes: &[u8]) -> Option<(Text, u32)>
     ensures { result ≡ two_arguments text_at (word_at held_of) bytes.now }
 {

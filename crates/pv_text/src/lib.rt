@@ -1,9 +1,9 @@
-//! Texts as programs, schedules and manifests have them: lines, words, and the arguments that stand after a word.
+//! Parsers for the texts of programs, schedules and manifests: lines, words and arguments.
 //!
-//! `lines` splits a text into lines, and a line where its first word ends. `words` reads an argument that is one
-//! word, `texts` one in quotation marks, and `arguments` all that a line has after its first word; `components` splits
-//! a path. Each reader
-//! answers exactly what the function of the same subject in `pv_model`'s grammar gives. Nothing allocates.
+//! `lines` splits a text into lines, and a line into its first word and the rest. `words` parses an argument that is
+//! one word, `texts` one in quotation marks, and `arguments` all arguments of a line. `components` splits a path. Each
+//! parser returns exactly what the grammar of `pv_model` defines. If the bytes do not have the form, it returns `None`.
+//! Nothing allocates memory.
 #![tactic(auto)]
 
 pub mod arguments;

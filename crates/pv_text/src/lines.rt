@@ -1,4 +1,4 @@
-//! Lines of a text, and the words of a line.
+//! Lines of a text, and words of a line.
 ghost use Rattle.std.specs.Prelude.{◌≡◌, ◌+◌, ◌<◌, ◌≤◌, ◌==◌, ◌∷◌, [], min, length, MatchOption, IfSome, Option, option_map};
 ghost use Rattle.std.specs.List.{position, position_or_len};
 ghost use Rattle.pv_model.specs.Grammar.Lines.{lines_of, word_of, after_word, after_space};
@@ -6,14 +6,14 @@ ghost use Rattle.pv_text.specs.Lines.{IsSplit};
 
 use memchr::memchr;
 
-// Where a byte stands first, if it does.
+// Returns the index of the first occurrence of a byte.
 fn position_of(bytes: &[u8], byte: u8) -> Option<usize>
     ensures { result ≡ position (λ b. b == byte) bytes.now }
 {
     memchr(byte, bytes)
 }
 
-/// Where a byte stands first, or how many bytes there are.
+/// Returns the index of the first occurrence of a byte, or the number of bytes if it does not occur.
 pub fn first_of(bytes: &[u8], byte: u8) -> usize
     ensures within { result ≤ length bytes.now }
     ensures first { result ≡ position_or_len (λ b. b == byte) bytes.now }
@@ -21,9 +21,9 @@ pub fn first_of(bytes: &[u8], byte: u8) -> usize
     position_of(bytes, byte).unwrap_or(bytes.len())
 }
 
-/// The first line of a text, without its end, and the text after it; nothing of an empty text.
+/// Returns the first line of a text, without its line feed, and the text after it. Returns `None` if the text is empty.
 ///
-/// An LF ends each line but the last, where it may be missing: then nothing stands after it.
+/// A line feed ends each line. At the end of the text it may be missing.
 pub fn split_line(text: &[u8]) -> Option<(&[u8], &[u8])>
     ensures lines { MatchOption result (lines_of text.now ≡ []) (λ p. lines_of text.now ≡ p.0.now ∷ lines_of p.1.now) }
     ensures bytes { IfSome result (λ p. IsSplit text.now p.0.now p.1.now) }
@@ -39,7 +39,7 @@ pub fn split_line(text: &[u8]) -> Option<(&[u8], &[u8])>
     }
 }
 
-/// The first word of a line, and what stands from the first space on.
+/// Returns the first word of a line and the rest, which starts at the first space.
 pub fn split_word(line: &[u8]) -> (&[u8], &[u8])
     ensures word { result.0.now ≡ word_of line.now }
     ensures following { result.1.now ≡ after_word line.now }
@@ -47,7 +47,7 @@ pub fn split_word(line: &[u8]) -> (&[u8], &[u8])
     line.split_at(first_of(line, b' '))
 }
 
-/// What stands after a space, if the bytes begin with one.
+/// Returns the bytes after a leading space, or `None` if the first byte is not a space.
 pub fn after_one_space(bytes: &[u8]) -> Option<&[u8]>
     ensures { option_map (λ r. r.now) result ≡ after_space bytes.now }
 {
@@ -57,7 +57,7 @@ pub fn after_one_space(bytes: &[u8]) -> Option<&[u8]>
     }
 }
 
-/// How many lines a text has, of which no more than the limit are counted.
+/// Returns the number of lines of a text, or `limit` if there are more.
 pub fn count_lines(text: &[u8], limit: u16) -> u16
     ensures { result ≡ min (length (lines_of text.now)) limit }
 {

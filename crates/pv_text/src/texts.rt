@@ -1,14 +1,14 @@
-//! Texts in quotation marks.
+//! Parsing texts in quotation marks.
 ghost use Rattle.std.specs.Prelude.{◌≡◌, ◌<◌, length, not, position, None, MatchOption, IfSome};
 ghost use Rattle.pv_model.specs.Grammar.Arguments.{text_at, text_or_null_at, hex_value, text_rest, if_short, onto_text, outside, after_backslash};
-ghost use Rattle.pv_model.specs.Trace.{is_plain as stands_for_itself};
+ghost use Rattle.pv_model.specs.Trace.{is_plain as parses_as_itself};
 ghost use Rattle.pv_text.specs.Reading.{IsFront, Reads, text_end};
 
 use crate::lines::split_word;
 use pv_model::limits::TEXT;
 use pv_model::{Text, is_plain};
 
-// The value of a lower-case hexadecimal digit.
+// Returns the value of a lowercase hexadecimal digit.
 fn hex_digit(byte: u8) -> Option<u8>
     ensures value { result ≡ hex_value byte }
     ensures below { IfSome result (λ n. n < 16) }
@@ -20,7 +20,7 @@ fn hex_digit(byte: u8) -> Option<u8>
     }
 }
 
-// The byte of an escape after its backslash, and what follows it.
+// Parses an escape after its backslash, and returns its byte with the bytes after it.
 fn escape(bytes: &[u8]) -> Option<(u8, &[u8])>
     ensures read { MatchOption result (text_rest bytes.now after_backslash ≡ None) (λ p. text_rest bytes.now after_backslash ≡ onto_text p.0 (text_rest p.1.now outside)) }
     ensures shorter { IfSome result (λ p. length p.1.now < length bytes.now) }
@@ -38,21 +38,22 @@ fn escape(bytes: &[u8]) -> Option<(u8, &[u8])>
     Some((byte, rest))
 }
 
-// Where the first byte stands that does not stand for itself, if there is one.
+// Returns the index of the first byte that does not represent itself.
 fn plain_end(bytes: &[u8]) -> Option<usize>
-    ensures { result ≡ position (λ byte. not (stands_for_itself byte)) bytes.now }
+    ensures { result ≡ position (λ byte. not (parses_as_itself byte)) bytes.now }
 {
     bytes.iter().position(|byte| !is_plain(*byte))
 }
 
-// The bytes at the front that stand for themselves, and what follows them.
+// Splits off the leading bytes that represent themselves.
 fn split_plain(bytes: &[u8]) -> (&[u8], &[u8])
     ensures { IsFront result.0.now result.1.now bytes.now }
 {
     bytes.split_at(plain_end(bytes).unwrap_or(bytes.len()))
 }
 
-// A character of a text, and what follows it; nothing at the text's end, and where there is none.
+// Parses a character of a text, and returns it with the bytes after it. Returns `None` at the end of the text and if
+// the bytes are not a character.
 fn character(bytes: &[u8]) -> Option<(u8, &[u8])>
     ensures read { MatchOption result (text_rest bytes.now outside ≡ text_end bytes.now) (λ p. text_rest bytes.now outside ≡ onto_text p.0 (text_rest p.1.now outside)) }
     ensures shorter { IfSome result (λ p. length p.1.now < length bytes.now) }
@@ -68,8 +69,8 @@ fn character(bytes: &[u8]) -> Option<(u8, &[u8])>
     }
 }
 
-// The rest of a text after its quotation mark, up to the one that ends it. What stands for itself up to the first
-// byte that does not is taken at once.
+// Parses the rest of a text after its opening quotation mark, up to the closing one. Bytes that represent themselves
+// are copied in runs.
 fn text_after(bytes: &[u8]) -> Option<(Text, &[u8])>
     ensures { Reads result (if_short (text_rest bytes.now outside)) }
 {
@@ -88,7 +89,7 @@ fn text_after(bytes: &[u8]) -> Option<(Text, &[u8])>
     }
 }
 
-/// The text in quotation marks with which the bytes begin, of at most 1,100 bytes.
+/// Parses the text in quotation marks, of at most 1,100 bytes, at the start of `bytes`.
 #[tactic(auto, unfolding(pv_model::specs::Grammar::Arguments::text_at))]
 pub fn text(bytes: &[u8]) -> Option<(Text, &[u8])>
     ensures { Reads result (text_at bytes.now) }
@@ -99,7 +100,7 @@ pub fn text(bytes: &[u8]) -> Option<(Text, &[u8])>
     }
 }
 
-/// A text, or nothing where the word `null` stands.
+/// Parses a text, or the word `null`.
 pub fn text_or_null(bytes: &[u8]) -> Option<(Option<Text>, &[u8])>
     ensures { Reads result (text_or_null_at bytes.now) }
 {

@@ -1,4 +1,4 @@
-//! Arguments that are one word: numbers, registers, and the flags of an open.
+//! Parsing arguments that are one word: numbers, registers, and the flags of open.
 ghost use Rattle.std.specs.Prelude.{◌≡◌, ◌||◌};
 ghost use Rattle.pv_model.specs.Grammar.Arguments.{register_of, register_at, number_of, number_at, operand_of, operand_at, whence_of, whence_at, origin_of, origin_at, flags_of, flags_at, flag_or_none, without_front, mode_at, word_at};
 ghost use Rattle.pv_model.specs.Grammar.Lines.{has_leading_zero};
@@ -8,14 +8,14 @@ ghost use Rattle.pv_text.specs.Reading.{Reads, held_of};
 use crate::lines::split_word;
 use pv_model::{Mode, OpenFlags, Operand, Origin, Register, Whence};
 
-// Whether digits begin with a zero that stands before others, or are none.
+// Returns whether there are no digits or the digits have a leading zero.
 fn is_padded(digits: &[u8]) -> bool
     ensures { result ≡ (is_empty digits.now || has_leading_zero digits.now) }
 {
     matches!(digits, [] | [b'0', _, ..])
 }
 
-/// The number that a decimal without leading zeros spells; one above 4,294,967,295 is read as that.
+/// Parses a decimal number without leading zeros. A number greater than 4,294,967,295 is parsed as 4,294,967,295.
 pub fn decimal(digits: &[u8]) -> Option<u32>
     ensures { result ≡ held_of digits.now }
 {
@@ -34,7 +34,7 @@ pub fn decimal(digits: &[u8]) -> Option<u32>
     Some(value)
 }
 
-// The number of 32 bits that a word spells.
+// Parses a word as a number of 32 bits.
 fn number_of_word(word: &[u8]) -> Option<i32>
     ensures { result ≡ number_of word.now }
 {
@@ -56,7 +56,7 @@ fn number_of_word(word: &[u8]) -> Option<i32>
     }
 }
 
-// The register that a word names.
+// Parses a word as a register.
 fn register_of_word(word: &[u8]) -> Option<Register>
     ensures { result ≡ register_of word.now }
 {
@@ -66,7 +66,7 @@ fn register_of_word(word: &[u8]) -> Option<Register>
     }
 }
 
-/// A number, from -2,147,483,648 to 2,147,483,647.
+/// Parses a number from -2,147,483,648 to 2,147,483,647.
 pub fn number(bytes: &[u8]) -> Option<(i32, &[u8])>
     ensures { Reads result (number_at bytes.now) }
 {
@@ -75,7 +75,7 @@ pub fn number(bytes: &[u8]) -> Option<(i32, &[u8])>
     Some((number, rest))
 }
 
-/// A register, `r0` to `r7`.
+/// Parses a register, `r0` to `r7`.
 pub fn register(bytes: &[u8]) -> Option<(Register, &[u8])>
     ensures { Reads result (register_at bytes.now) }
 {
@@ -84,7 +84,7 @@ pub fn register(bytes: &[u8]) -> Option<(Register, &[u8])>
     Some((register, rest))
 }
 
-// The number or the register that a word spells.
+// Parses a word as a number or a register.
 fn operand_of_word(word: &[u8]) -> Option<Operand>
     ensures { result ≡ operand_of word.now }
 {
@@ -95,7 +95,7 @@ fn operand_of_word(word: &[u8]) -> Option<Operand>
     Some(Operand::Number(number))
 }
 
-/// A number or a register.
+/// Parses a number or a register.
 pub fn operand(bytes: &[u8]) -> Option<(Operand, &[u8])>
     ensures { Reads result (operand_at bytes.now) }
 {
@@ -104,7 +104,7 @@ pub fn operand(bytes: &[u8]) -> Option<(Operand, &[u8])>
     Some((operand, rest))
 }
 
-// Where an openat starts, as a word tells it.
+// Parses a word as the start of openat.
 fn origin_of_word(word: &[u8]) -> Option<Origin>
     ensures { result ≡ origin_of word.now }
 {
@@ -115,7 +115,7 @@ fn origin_of_word(word: &[u8]) -> Option<Origin>
     Some(Origin::Descriptor(descriptor))
 }
 
-/// Where an openat starts: `cwd`, or the number of a descriptor or its register.
+/// Parses the start of openat: `cwd`, the number of a descriptor, or the register that contains it.
 pub fn origin(bytes: &[u8]) -> Option<(Origin, &[u8])>
     ensures { Reads result (origin_at bytes.now) }
 {
@@ -124,7 +124,7 @@ pub fn origin(bytes: &[u8]) -> Option<(Origin, &[u8])>
     Some((origin, rest))
 }
 
-// Whether a flag, with its `+`, stands at the front of a word, and what follows it.
+// Parses a flag, with its leading `+`, at the start of a word. Returns whether it is present, and the rest of the word.
 fn flag<'a>(name: &[u8], word: &'a [u8]) -> (bool, &'a [u8])
     ensures flag { result.0 ≡ (flag_or_none word.now (without_front name.now word.now)).0 }
     ensures rest { result.1.now ≡ (flag_or_none word.now (without_front name.now word.now)).1 }
@@ -135,7 +135,7 @@ fn flag<'a>(name: &[u8], word: &'a [u8]) -> (bool, &'a [u8])
     }
 }
 
-// The mode with which a word begins, and what follows it.
+// Parses the mode at the start of a word, and returns it with the rest of the word.
 fn mode(word: &[u8]) -> Option<(Mode, &[u8])>
     ensures { Reads result (mode_at word.now) }
 {
@@ -147,7 +147,7 @@ fn mode(word: &[u8]) -> Option<(Mode, &[u8])>
     }
 }
 
-// The flags that a word spells.
+// Parses a word as the flags of open.
 #[tactic(auto, unfolding(pv_model::specs::Grammar::Arguments::flags_of))]
 fn flags_of_word(word: &[u8]) -> Option<OpenFlags>
     ensures { result ≡ flags_of word.now }
@@ -175,7 +175,7 @@ fn flags_of_word(word: &[u8]) -> Option<OpenFlags>
     }
 }
 
-/// The flags of an open.
+/// Parses the flags of open.
 pub fn flags(bytes: &[u8]) -> Option<(OpenFlags, &[u8])>
     ensures { Reads result (flags_at bytes.now) }
 {
@@ -184,7 +184,7 @@ pub fn flags(bytes: &[u8]) -> Option<(OpenFlags, &[u8])>
     Some((flags, rest))
 }
 
-// From where lseek counts, as a word tells it.
+// Parses a word as the `whence` of lseek.
 fn whence_of_word(word: &[u8]) -> Option<Whence>
     ensures { result ≡ whence_of word.now }
 {
@@ -199,7 +199,7 @@ fn whence_of_word(word: &[u8]) -> Option<Whence>
     }
 }
 
-/// From where lseek counts: `set`, `cur` or `end`.
+/// Parses the `whence` of lseek: `set`, `cur` or `end`.
 pub fn whence(bytes: &[u8]) -> Option<(Whence, &[u8])>
     ensures { Reads result (whence_at bytes.now) }
 {
@@ -208,7 +208,7 @@ pub fn whence(bytes: &[u8]) -> Option<(Whence, &[u8])>
     Some((whence, rest))
 }
 
-/// A decimal number, held at 4,294,967,295.
+/// Parses a decimal number. A number greater than 4,294,967,295 is parsed as 4,294,967,295.
 pub fn size(bytes: &[u8]) -> Option<(u32, &[u8])>
     ensures { Reads result (word_at held_of bytes.now) }
 {

@@ -1,12 +1,12 @@
--- Eight texts after another, one by one.
+-- Eight texts appended one by one.
 use Rattle.std.proofs.Common.{◌≡◌, ◌++◌, ◌∙◌, ap, append_assoc}
 use Rattle.pv_model.specs.Bytes.{Bytes}
 
--- one text more
+-- one more text
 following : (old a b mid new : Bytes) → mid ≡ old ++ a → new ≡ mid ++ b → new ≡ old ++ (a ++ b)
 following old a b mid new first second = second ∙ ap (λ bs. bs ++ b) first ∙ append_assoc old a b
 
--- eight texts after another
+-- eight texts appended to another
 pub eight_joined : (old a b c d e f g h s t u v w x y z : Bytes)
     → s ≡ old ++ a → t ≡ s ++ b → u ≡ t ++ c → v ≡ u ++ d → w ≡ v ++ e → x ≡ w ++ f → y ≡ x ++ g → z ≡ y ++ h
     → z ≡ old ++ (a ++ b ++ c ++ d ++ e ++ f ++ g ++ h)

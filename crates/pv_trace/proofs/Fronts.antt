@@ -1,4 +1,4 @@
--- The bytes at the front of a text that stand for themselves.
+-- The leading bytes of a text that need no escape.
 use Rattle.std.proofs.Common.{◌≡◌, ◌<◌, ◌≤◌, ◌∙◌, ℕ, zero, suc, ◌+◌, ◌-◌, Bool, true, false, cond, ltb, not, ◌&&◌, [], ◌∷◌, ◌++◌, None, Some, length, take, drop, get_or, flat_map, codes, refl, sym, ap, ap₂, inl, inr, arith}
 use Rattle.std.specs.Prelude.{unwrap_or}
 use Rattle.std.specs.List.{position, position_or_len, list_all}
@@ -18,7 +18,7 @@ is_false : (b : Bool) → not b ≡ true → b ≡ false
 is_false true is = absurd cc is
 is_false false is = refl
 
--- bytes that stand for themselves are quoted as they are
+-- bytes that represent themselves are quoted unchanged
 quoted_same : (bs : Bytes) (n : ℕ) → ((k : ℕ) → k < n → not (is_plain (get_or bs k 0)) ≡ false) → flat_map quote_byte (take n bs) ≡ take n bs
 quoted_same [] zero plain = refl
 quoted_same [] (suc n) plain = refl
@@ -54,7 +54,7 @@ both_are : (a b : Bool) → (a && b) ≡ true → (a ≡ true) × (b ≡ true)
 both_are true b is = (refl, is)
 both_are false b is = absurd cc is
 
--- the same where the bytes are tested together
+-- the same if the bytes are tested together
 all_same : (bs : Bytes) → list_all is_plain bs ≡ true → flat_map quote_byte bs ≡ bs
 all_same [] plain = refl
 all_same (b ∷ bs) plain =
@@ -64,14 +64,14 @@ all_same (b ∷ bs) plain =
 -- the rest of a text
 module _ (bs rest : Bytes) (split : drop (length bs - length rest) bs ≡ rest) where
   module _ (same : flat_map quote_byte (take (length bs - length rest) bs) ≡ take (length bs - length rest) bs) where
-    -- what is before it and what is at its front are quoted as they are
+    -- the bytes before it and its leading bytes are quoted unchanged
     pub onward_same : (m : ℕ) → flat_map quote_byte (take m rest) ≡ take m rest → flat_map quote_byte (take (length bs - length rest + m) bs) ≡ take (length bs - length rest + m) bs
     onward_same m front =
         let n : ℕ = length bs - length rest in
         let parts : take (n + m) bs ≡ take n bs ++ take m rest = take-add n m bs ∙ ap (λ r. take n bs ++ take m r) split in
         ap (flat_map quote_byte) parts ∙ flat_map-append quote_byte (take n bs) (take m rest) ∙ ap₂ (λ (a b : Bytes). a ++ b) same front ∙ sym parts
 
-  -- what stands after a part at its front
+  -- the rest after some of its leading bytes
   module _ (m : ℕ) (following : Bytes) (inside : length rest ≤ length bs) (lengths : length following + m ≡ length rest) where
     count : length bs - length following ≡ length bs - length rest + m
     count = omega (arith, inside, lengths)

@@ -1,6 +1,5 @@
--- Lemmas of lines: Telling (what a sink is given of one text and of the next), Streaming (what a sink that buffers is given), Digits
--- (of a number below a hundred thousand), Fronts (how far the plain bytes at the front of a text go), Flags (eight texts
--- one after another), Paths (the fronts of paths).
+-- Lemmas of lines: Lines (the text of lines), Digits (of a number below 100,000), Fronts (the leading bytes of a text
+-- that need no escape), Flags (eight texts appended one by one), Paths (prefixes of lists of paths).
 pub mod Digits
 pub mod Flags
 pub mod Fronts

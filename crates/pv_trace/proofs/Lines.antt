@@ -4,7 +4,7 @@ use Rattle.std.proofs.lemmas.Grind.{flat_map-append}
 use Rattle.pv_model.specs.Bytes.{Bytes}
 use Rattle.pv_model.specs.Trace.{Line, line_bytes, trace_bytes}
 
--- the text of lines after another text, and then that of further lines
+-- the text of lines appended to another text, and then that of more lines
 pub text_joined : (before mid after : Bytes) (xs ys : List Line)
     → mid ≡ before ++ trace_bytes xs → after ≡ mid ++ trace_bytes ys → after ≡ before ++ trace_bytes (xs ++ ys)
 text_joined before mid after xs ys first second =

@@ -1,13 +1,11 @@
--- The fronts of one path and of two.
+-- Prefixes of a list of one path and of two.
 use Rattle.std.proofs.Common.{◌≡◌, ◌<◌, ℕ, zero, suc, [], ◌∷◌, take, arith, refl}
 
--- the front of one element
 pub take_one : {X : Type 0} (n : ℕ) (x : X) → 0 < n → take n (x ∷ []) ≡ x ∷ []
 take_one zero x h = absurd (omega arith)
 take_one (suc zero) x h = refl
 take_one (suc (suc n)) x h = refl
 
--- the front of two elements
 pub take_two : {X : Type 0} (n : ℕ) (x y : X) → 1 < n → take n (x ∷ y ∷ []) ≡ x ∷ y ∷ []
 take_two zero x y h = absurd (omega arith)
 take_two (suc zero) x y h = absurd (omega arith)

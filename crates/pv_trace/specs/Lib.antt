@@ -1,3 +1,3 @@
 pub mod Steps
-pub mod Told
+pub mod Reported
 pub mod Words

@@ -9,7 +9,7 @@ use Rattle.pv_model.specs.declared.outcome.Outcome.TheVariants.{Value, Text}
 use Rattle.pv_model.specs.Bytes.{Bytes}
 use Rattle.pv_model.specs.Trace.{Word, PromiseVerdict, for_refusal, for_increase, call_word, nami_word, gio_word, gave, took, Line, line, walked_paths, promise_words, unveil_words, end_words}
 
--- what is said of the bytes that a call moved, which stand at the front of a buffer
+-- the word of the bytes that a call transferred, which are at the front of a buffer
 abbrev pub moved_by : Bytes → Call → Outcome → List Word
 moved_by front call (Text taken) = gio_word gave (take taken.len front) ∷ []
 moved_by front (Write d n) (Value count) = gio_word took (take count front) ∷ []
@@ -24,11 +24,11 @@ path_line pid path = line pid (nami_word path)
 abbrev pub path_lines_of : ℕ → Call → ℕ → List Line
 path_lines_of pid call walks = map (path_line pid) (take walks (walked_paths call))
 
--- the first lines of a call that began so many walks
+-- the first lines of a call that started this number of walks
 abbrev pub first_lines_of : ℕ → Call → ℕ → List Line
 first_lines_of pid call walks = call_lines_of pid call ++ path_lines_of pid call walks
 
--- what was refused for a promise: a call that lacks it, or a promise that may not be had again
+-- the verdict of an error: the call lacks a promise, or it requests an increase of promises
 abbrev pub refusal_verdict : Errno → PromiseVerdict
 refusal_verdict ENOSYS = for_refusal
 refusal_verdict _ = for_increase
@@ -45,7 +45,7 @@ moved_lines_of pid front call outcome = map (line pid) (moved_by front call outc
 abbrev pub end_lines_of : ℕ → Call → Outcome → List Line
 end_lines_of pid call outcome = map (line pid) (end_words call outcome)
 
--- the lines of a call that answered so after so many walks, where the bytes it moved stand at the front of a buffer
+-- the lines of a call with this outcome and number of walks; the bytes that it transferred are at the front of a buffer
 unfoldable pub lines_by : ℕ → Bytes → Call → Outcome → ℕ → List Line
 lines_by pid front call outcome walks =
     call_lines_of pid call ++ path_lines_of pid call walks ++ promise_lines_of pid call outcome ++ unveil_lines_of pid call walks outcome

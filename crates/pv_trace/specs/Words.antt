@@ -1,4 +1,4 @@
--- The words of the code's lines, as the definitions have them, and parts of their texts.
+-- The words of the code's lines as words of the specification, and parts of their texts.
 use Rattle.std.specs.Prelude.{⊤, ℕ, ◌≤◌, ◌++◌, length, codes, decimal, Option, None, Some}
 use Rattle.pv_model.specs.declared.errno.Errno.{Errno}
 use Rattle.pv_model.specs.declared.limits.TheConstants.{BUFFER}
@@ -8,15 +8,15 @@ use Rattle.pv_model.specs.Bytes.{Bytes}
 use Rattle.pv_model.specs.CallRef.{call_of}
 use Rattle.pv_model.specs.Errno.{errno_number, errno_name}
 use Rattle.pv_model.specs.Perms.{permissions_text}
-use Rattle.pv_model.specs.Trace.{Word as TraceWord, PromiseVerdict as TracePromise, UnveilVerdict as TraceUnveil, Way as TraceWay, Returned as TraceReturned, call_word, nami_word, pldg_word, unvl_word, gio_word, ret_word, psig_word, wait_word, gone_word, for_kill, for_refusal, for_increase, no_entry, entry_lacks, table_locked, gave, took, value_of, error_of, flags_text}
+use Rattle.pv_model.specs.Trace.{Word as TraceWord, PromiseVerdict as TracePromise, UnveilVerdict as TraceUnveil, Direction as TraceDirection, Returned as TraceReturned, call_word, nami_word, pldg_word, unvl_word, gio_word, ret_word, psig_word, wait_word, gone_word, for_kill, for_refusal, for_increase, no_entry, entry_lacks, table_locked, gave, took, value_of, error_of, flags_text}
 use Rattle.pv_trace.specs.declared.line.PromiseVerdict.{PromiseVerdict}
 use Rattle.pv_trace.specs.declared.line.PromiseVerdict.TheVariants.{Killed, Refused, Increase}
 use Rattle.pv_trace.specs.declared.line.Returned.{Returned}
 use Rattle.pv_trace.specs.declared.line.Returned.TheVariants.{Value, Error}
 use Rattle.pv_trace.specs.declared.line.UnveilVerdict.{UnveilVerdict}
 use Rattle.pv_trace.specs.declared.line.UnveilVerdict.TheVariants.{NoEntry, EntryLacks, Locked}
-use Rattle.pv_trace.specs.declared.line.Way.{Way}
-use Rattle.pv_trace.specs.declared.line.Way.TheVariants.{Gave, Took}
+use Rattle.pv_trace.specs.declared.line.Direction.{Direction}
+use Rattle.pv_trace.specs.declared.line.Direction.TheVariants.{Gave, Took}
 use Rattle.pv_trace.specs.declared.line.Word.{Word}
 use Rattle.pv_trace.specs.declared.line.Word.TheVariants.{Call, Nami, Pldg, Unvl, Gio, Ret, Psig, Wait, Gone}
 
@@ -30,32 +30,32 @@ unveil_verdict_of (NoEntry needed) = no_entry needed
 unveil_verdict_of (EntryLacks entry needed) = entry_lacks entry needed
 unveil_verdict_of Locked = table_locked
 
-abbrev pub way_of : Way → TraceWay
-way_of Gave = gave
-way_of Took = took
+abbrev pub direction_of : Direction → TraceDirection
+direction_of Gave = gave
+direction_of Took = took
 
 abbrev pub returned_of : Returned → TraceReturned
 returned_of (Value n) = value_of n
 returned_of (Error errno) = error_of errno
 
--- the word as the definitions have it
+-- the word of the specification
 abbrev pub word_of : Word → TraceWord
 word_of (Call call) = call_word (call_of call)
 word_of (Nami path) = nami_word path.now
 word_of (Pldg call promise verdict) = pldg_word (call_of call) promise (promise_verdict_of verdict)
 word_of (Unvl verdict) = unvl_word (unveil_verdict_of verdict)
-word_of (Gio way bytes) = gio_word (way_of way) bytes.now
+word_of (Gio direction bytes) = gio_word (direction_of direction) bytes.now
 word_of (Ret call returned) = ret_word (call_of call) (returned_of returned)
 word_of Psig = psig_word
 word_of Wait = wait_word
 word_of Gone = gone_word
 
--- bytes that were moved are no more than a buffer has
+-- a transfer has at most as many bytes as a buffer
 abbrev pub HasFewBytes : Word → Type 0
-HasFewBytes (Gio way bytes) = length bytes.now ≤ BUFFER
+HasFewBytes (Gio direction bytes) = length bytes.now ≤ BUFFER
 HasFewBytes word = ⊤
 
--- the flags of an open as a program writes them
+-- the flags of open, as a program writes them
 unfoldable pub flags_bytes : OpenFlags → Bytes
 flags_bytes f = flags_text f
 
@@ -63,7 +63,7 @@ flags_bytes f = flags_text f
 unfoldable pub permissions_bytes : Perms → Bytes
 permissions_bytes permissions = permissions_text permissions
 
--- the permissions that an entry lacks, or that no entry gives
+-- the permissions that an entry lacks, or that no entry grants
 abbrev pub needed_text : Option ℕ → Perms → Bytes
 needed_text None permissions = codes "none, needs " ++ permissions_bytes permissions
 needed_text (Some k) permissions = codes "entry " ++ decimal k ++ codes ", needs " ++ permissions_bytes permissions

@@ -1,12 +1,11 @@
-//! Calls with their arguments, as a program writes them.
-ghost use Rattle.std.specs.Prelude.{◌≡◌, ◌++◌, ◌+◌, ◌*◌, ◌≤◌, [], ◌∷◌, length, codes, option_copied, OnOk, OnErr};
+//! Formatting of calls with their arguments, as a program writes them.
+ghost use Rattle.std.specs.Prelude.{◌≡◌, ◌++◌, ◌+◌, ◌*◌, ◌≤◌, [], ◌∷◌, length, codes, option_copied};
 ghost use Rattle.std.specs.Fmt.{signed_decimal};
 ghost use Rattle.std.specs.List.{join_by};
 ghost use Rattle.pv_model.specs.declared.limits.TheConstants.{TEXT};
 ghost use Rattle.pv_model.specs.CallRef.{call_of};
-ghost use Rattle.pv_model.specs.Stream.{Rose};
 ghost use Rattle.pv_model.specs.Trace.{quote, quote_or_null, flag_text, start_text, call_name, call_text, call_line, mode_text, whence_text};
-ghost use Rattle.pv_streams.specs.Sinks.{and_all, TellsBeginning};
+ghost use Rattle.pv_streams.specs.Sinks.{Writes};
 ghost use Rattle.pv_trace.specs.declared.line_buffer.TheConstants.{LINE_BUFFER};
 ghost use Rattle.pv_trace.specs.Words.{flags_bytes};
 
@@ -14,7 +13,8 @@ use crate::line_buffer::{LineBuffer, put, put_quoted, put_quoted_or_null, put_si
 use pv_model::{CallRef, Mode, OpenFlags, Start, Text, Whence};
 use pv_streams::{Failed, Sink, write_whole};
 
-// What a file is opened for. Each word is put by itself, here and below, so that its length is known where it is copied.
+// Appends the mode of an open. Here and below, each word is appended in a call of its own, so that its length is known
+// where it is copied.
 fn put_mode(out: &mut LineBuffer, mode: Mode)
     requires { length out.old.items + 2 ≤ LINE_BUFFER }
     ensures text { out.new.items ≡ out.old.items ++ mode_text mode }
@@ -27,7 +27,7 @@ fn put_mode(out: &mut LineBuffer, mode: Mode)
     }
 }
 
-// A flag with its plus sign, where it is set.
+// Appends a flag with its plus sign, if it is set.
 fn put_flag(out: &mut LineBuffer, set: bool, name: &[u8])
     requires { length out.old.items + 1 + length name.now ≤ LINE_BUFFER }
     ensures text { out.new.items ≡ out.old.items ++ flag_text set name.now }
@@ -39,7 +39,7 @@ fn put_flag(out: &mut LineBuffer, set: bool, name: &[u8])
     }
 }
 
-// The flags of an open, as a program writes them.
+// Appends the flags of an open, as a program writes them.
 #[tactic(auto, unfolding(crate::specs::Words::flags_bytes))]
 fn put_flags(out: &mut LineBuffer, flags: OpenFlags)
     requires { length out.old.items + 48 ≤ LINE_BUFFER }
@@ -56,7 +56,7 @@ fn put_flags(out: &mut LineBuffer, flags: OpenFlags)
     put_flag(out, flags.close_on_exec, b"cloexec");
 }
 
-// Where an offset is counted from.
+// Appends the `whence` of lseek.
 fn put_whence(out: &mut LineBuffer, whence: Whence)
     requires { length out.old.items + 3 ≤ LINE_BUFFER }
     ensures text { out.new.items ≡ out.old.items ++ whence_text whence }
@@ -80,7 +80,7 @@ fn put_start(out: &mut LineBuffer, start: Start)
     }
 }
 
-// The name of a call.
+// Appends the name of a call.
 #[tactic(auto, unfolding(pv_model::specs::Trace::call_text))]
 pub(crate) fn put_name(out: &mut LineBuffer, call: CallRef<'_>)
     requires { length out.old.items + 9 ≤ LINE_BUFFER }
@@ -181,7 +181,7 @@ fn put_lseek(out: &mut LineBuffer, descriptor: i32, by: i32, whence: Whence)
     put_whence(out, whence);
 }
 
-// The arguments of a call, joined by commas.
+// Appends the arguments of a call, separated by commas.
 #[tactic(auto, unfolding(pv_model::specs::Trace::call_text, crate::specs::Words::flags_bytes))]
 fn put_arguments(out: &mut LineBuffer, call: &CallRef<'_>)
     requires { length out.old.items + 8 * TEXT + 6 ≤ LINE_BUFFER }
@@ -220,7 +220,7 @@ fn put_arguments(out: &mut LineBuffer, call: &CallRef<'_>)
     }
 }
 
-// A call with its arguments.
+// Appends a call with its arguments.
 pub(crate) fn put_call(out: &mut LineBuffer, call: CallRef<'_>)
     requires { length out.old.items + 8 * TEXT + 17 ≤ LINE_BUFFER }
     ensures text { out.new.items ≡ out.old.items ++ call_line (call_of call.entry) }
@@ -232,40 +232,34 @@ pub(crate) fn put_call(out: &mut LineBuffer, call: CallRef<'_>)
     put(out, b")");
 }
 
-/// Writes the name of a call. It is made on the line buffer.
+/// Writes the name of a call. It is formatted in the line buffer.
 ///
 /// # Errors
 ///
-/// `Failed` where a write failed: the sink was given a beginning of the name.
+/// Returns `Failed` if a write fails. The sink then has received a prefix of the name.
 pub fn write_call_name<W: Sink>(
     out: &mut W,
     line_buffer: &mut LineBuffer,
     call: CallRef<'_>,
 ) -> Result<(), Failed>
-    ensures whole { OnOk result (W.written out.new ≡ and_all (W.written out.old) (call_name (call_of call.entry))) }
-    ensures beginning { OnErr result (TellsBeginning (call_name (call_of call.entry)) (W.written out.old) (W.written out.new)) }
-    ensures failed { OnErr result (Rose (W.failures out.old) (W.failures out.new)) }
-    ensures quiet { OnOk result (W.failures out.new ≡ W.failures out.old) }
+    ensures { Writes W.Sink (call_name (call_of call.entry)) out.old out.new result }
 {
     line_buffer.clear();
     put_name(line_buffer, call);
     write_whole(out, line_buffer.as_slice())
 }
 
-/// Writes a call with its arguments as a CALL line has it. It is made on the line buffer.
+/// Writes a call with its arguments, as in a CALL line. It is formatted in the line buffer.
 ///
 /// # Errors
 ///
-/// `Failed` where a write failed: the sink was given a beginning of the call.
+/// Returns `Failed` if a write fails. The sink then has received a prefix of the call.
 pub fn write_call<W: Sink>(
     out: &mut W,
     line_buffer: &mut LineBuffer,
     call: CallRef<'_>,
 ) -> Result<(), Failed>
-    ensures whole { OnOk result (W.written out.new ≡ and_all (W.written out.old) (call_line (call_of call.entry))) }
-    ensures beginning { OnErr result (TellsBeginning (call_line (call_of call.entry)) (W.written out.old) (W.written out.new)) }
-    ensures failed { OnErr result (Rose (W.failures out.old) (W.failures out.new)) }
-    ensures quiet { OnOk result (W.failures out.new ≡ W.failures out.old) }
+    ensures { Writes W.Sink (call_line (call_of call.entry)) out.old out.new result }
 {
     line_buffer.clear();
     put_call(line_buffer, call);

@@ -1,10 +1,10 @@
-//! Bytes that are gathered in place.
+//! Byte buffers of fixed capacity.
 ghost use Rattle.std.specs.Prelude.{◌≡◌, ◌+◌, ◌++◌, ◌≤◌, [], length};
 
 use std::marker::Model;
 
-/// Bytes in place, at most `N`, which are cleared at no cost: an `ArrayVec` writes over all that it had. A contract sees
-/// the bytes as those of an `ArrayVec`.
+/// A buffer of at most `N` bytes, stored inline. `clear` costs nothing, while that of an `ArrayVec` overwrites all
+/// elements. Contracts see the bytes as those of an `ArrayVec`.
 #[derive(Drop)]
 pub struct FixedBuffer<const N: usize> {
     bytes: [u8; N],
@@ -23,7 +23,7 @@ impl<const N: usize> Model for FixedBuffer<N> {
 }
 
 impl<const N: usize> FixedBuffer<N> {
-    /// A buffer with nothing in it.
+    /// Creates an empty buffer.
     pub fn new() -> FixedBuffer<N>
         ensures { result.items ≡ [] }
     {
@@ -33,14 +33,14 @@ impl<const N: usize> FixedBuffer<N> {
         }
     }
 
-    /// Has nothing in it from then on.
+    /// Removes all bytes.
     pub fn clear(&mut self)
         ensures { self.new.items ≡ [] }
     {
         self.len = 0;
     }
 
-    /// The bytes that it has.
+    /// Returns the bytes.
     pub fn as_slice(&self) -> &[u8]
         ensures value { result.now ≡ self.now.items }
         ensures fits { length result.now ≤ N }
@@ -48,7 +48,7 @@ impl<const N: usize> FixedBuffer<N> {
         &self.bytes[..self.len]
     }
 
-    /// Puts bytes after those that it has; there is room for them.
+    /// Appends bytes, for which there must be room.
     #[inline]
     pub fn extend(&mut self, bytes: &[u8])
         requires { length self.old.items + length bytes.now ≤ N }

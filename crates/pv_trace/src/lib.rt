@@ -1,11 +1,12 @@
-//! The lines of a trace, in the manner of kdump(1), byte by byte.
+//! The lines of a trace, in the format of kdump(1), byte by byte.
 //!
-//! `line` has the lines as values, and `steps` those of a step. The lines of a step are made on a line buffer of fixed size, a `fixed_buffer`, and a sink is given them at once: `line_buffer` puts on it
-//! what lines are made of, `calls` a call with its arguments, and `words` the line of each word. `told` has what a trace tells of
-//! a call's answer, as values. `plain` tells how
-//! many bytes at the front of a text stand for themselves. No call takes memory.
+//! `line` represents lines as values, and `steps` formats the lines of a step. They are formatted in a line buffer of
+//! fixed size (`fixed_buffer`) and written to the sink at once. `line_buffer` formats numbers, texts and bytes, `calls`
+//! calls with their arguments, and `words` the line of each word. `verdicts` has the decisions about a call that a
+//! trace reports, as values. `plain` counts the bytes at the start of a text that need no escape. No call allocates
+//! memory.
 //!
-//! A clause sees a line as `pv_model`'s definitions have it.
+//! Contracts see a line as `pv_model` defines it.
 #![tactic(auto)]
 
 mod calls;
@@ -14,15 +15,15 @@ mod line;
 mod line_buffer;
 mod plain;
 mod steps;
-mod told;
+mod verdicts;
 mod words;
 
 pub use calls::{write_call, write_call_name};
 pub use fixed_buffer::FixedBuffer;
 pub use line::{
-    Line, PromiseVerdict, Returned, UnveilVerdict, Way, Word, write_line, write_line_on,
+    Direction, Line, PromiseVerdict, Returned, UnveilVerdict, Word, write_line, write_line_on,
 };
 pub use line_buffer::{LineBuffer, put, put_decimal};
 pub use plain::plain_count;
 pub use steps::{write_call_lines, write_first_lines, write_gone_line, write_last_line};
-pub use told::{bytes_told, promise_told, table_told};
+pub use verdicts::{reported_bytes, reported_promise, reported_table_verdict};

@@ -1,9 +1,8 @@
-//! Lines as values, and a line written to a sink.
-ghost use Rattle.std.specs.Prelude.{◌≡◌, ◌++◌, ◌+◌, ◌≤◌, length, OnOk, OnErr};
-ghost use Rattle.pv_model.specs.Stream.{Rose};
+//! Lines as values, and writing a line to a sink.
+ghost use Rattle.std.specs.Prelude.{◌≡◌, ◌++◌, ◌+◌, ◌≤◌, length};
 ghost use Rattle.pv_model.specs.Trace.{line, line_bytes};
 ghost use Rattle.pv_trace.specs.declared.line_buffer.TheConstants.{LINE_BYTES, LINE_BUFFER};
-ghost use Rattle.pv_streams.specs.Sinks.{and_all, TellsBeginning};
+ghost use Rattle.pv_streams.specs.Sinks.{Writes};
 ghost use Rattle.pv_trace.specs.Words.{word_of, HasFewBytes};
 
 use crate::line_buffer::LineBuffer;
@@ -15,38 +14,38 @@ use pv_model::{CallRef, Errno, Perms, Promise, Text};
 use pv_streams::{Failed, Sink, write_whole};
 use std::marker::Model;
 
-/// What a promise decided, pledge(2).
+/// The decision about a promise, pledge(2).
 #[derive(Clone, Copy, Debug, PartialEq, Eq)]
 pub enum PromiseVerdict {
-    /// The process is killed for want of it.
+    /// The process is killed because it lacks the promise.
     Killed,
-    /// The call is refused for want of it.
+    /// The call fails because the process lacks the promise.
     Refused,
-    /// It may not be had again.
+    /// The request would add the promise to a set that lacks it.
     Increase,
 }
 
-/// What an unveil table decided, unveil(2).
+/// The decision of an unveil table, unveil(2).
 #[derive(Clone, Copy, Debug, PartialEq, Eq)]
 pub enum UnveilVerdict {
-    /// No entry governs the place, of which these permissions are needed.
+    /// No entry governs the place. These permissions are required.
     NoEntry(Perms),
-    /// The entry with this number lacks a permission of those that are needed.
+    /// The entry with this number lacks one of these required permissions.
     EntryLacks(u8, Perms),
     /// The table is locked.
     Locked,
 }
 
-/// Which way bytes went.
+/// The direction of a transfer of bytes.
 #[derive(Clone, Copy, Debug, PartialEq, Eq)]
-pub enum Way {
-    /// A call gave them to its process.
+pub enum Direction {
+    /// From the call to its process.
     Gave,
-    /// A call took them from its process.
+    /// From the process to its call.
     Took,
 }
 
-/// What a call answered.
+/// The result of a call.
 #[derive(Clone, Copy, Debug, PartialEq, Eq)]
 pub enum Returned {
     /// A value.
@@ -55,37 +54,38 @@ pub enum Returned {
     Error(Errno),
 }
 
-/// The word of a line, with the parts of its text.
+/// The word of a line, with its arguments.
 #[derive(Clone, Copy)]
 pub enum Word<'a> {
-    /// CALL: a call, with its arguments.
+    /// CALL: a call with its arguments.
     Call(CallRef<'a>),
     /// NAMI: a path that a call walks.
     Nami(&'a Text),
     /// PLDG: a promise that decided a call.
     Pldg(CallRef<'a>, Promise, PromiseVerdict),
-    /// UNVL: an unveil table that decided.
+    /// UNVL: an unveil table that decided a call.
     Unvl(UnveilVerdict),
-    /// GIO: at most 4,096 bytes that were given or taken.
-    Gio(Way, &'a [u8]),
-    /// RET: what a call answered.
+    /// GIO: at most 4,096 bytes that a call transferred.
+    Gio(Direction, &'a [u8]),
+    /// RET: the result of a call.
     Ret(CallRef<'a>, Returned),
     /// PSIG: the process was killed.
     Psig,
-    /// WAIT: the call waits.
+    /// WAIT: the call blocks.
     Wait,
     /// GONE: the process is not live.
     Gone,
 }
 
-/// A line of a trace: whose it is, and what it tells. A contract sees a line of the definitions.
+/// A line of a trace: the number of a process, and a word with its arguments. Contracts see a line of the
+/// specification.
 ///
-/// The bytes of a GIO line are at most 4,096, as many as a process's buffer has.
+/// The bytes of a GIO line are at most 4,096, the size of a process's buffer.
 #[derive(Drop)]
 pub struct Line<'a> {
     /// The number of the process.
     pub pid: u32,
-    /// The word, with the parts of its text.
+    /// The word, with its arguments.
     pub word: Word<'a>,
 }
 
@@ -100,7 +100,7 @@ impl<'a> Model for Line<'a> {
     ghost invariant = { λ l. HasFewBytes l.word };
 }
 
-// Puts a line on a line buffer, after what it has.
+// Appends a line to the line buffer.
 fn put_line(out: &mut LineBuffer, pid: u32, word: &Word)
     requires few { HasFewBytes word.now }
     requires room { length out.old.items + LINE_BYTES ≤ LINE_BUFFER }
@@ -114,7 +114,7 @@ fn put_line(out: &mut LineBuffer, pid: u32, word: &Word)
             put_promise_line(out, pid, *call, *promise, *verdict)
         }
         Word::Unvl(verdict) => put_unveil_line(out, pid, *verdict),
-        Word::Gio(way, bytes) => put_moved_line(out, pid, *way, bytes),
+        Word::Gio(direction, bytes) => put_moved_line(out, pid, *direction, bytes),
         Word::Ret(call, Returned::Value(value)) => put_value_line(out, pid, *call, *value),
         Word::Ret(call, Returned::Error(errno)) => put_error_line(out, pid, *call, *errno),
         Word::Psig => put_killed_line(out, pid),
@@ -123,36 +123,30 @@ fn put_line(out: &mut LineBuffer, pid: u32, word: &Word)
     }
 }
 
-/// Writes a line that is made on a line buffer, whatever that had. It takes no memory.
+/// Writes a line. It is formatted in the line buffer, whose old contents are lost. No memory is allocated.
 ///
 /// # Errors
 ///
-/// `Failed` where a write failed: the sink was given a beginning of the line.
+/// Returns `Failed` if a write fails. The sink then has received a prefix of the line.
 pub fn write_line_on<W: Sink>(
     out: &mut W,
     line_buffer: &mut LineBuffer,
     line: &Line,
 ) -> Result<(), Failed>
-    ensures whole { OnOk result (W.written out.new ≡ and_all (W.written out.old) (line_bytes line.now)) }
-    ensures beginning { OnErr result (TellsBeginning (line_bytes line.now) (W.written out.old) (W.written out.new)) }
-    ensures failed { OnErr result (Rose (W.failures out.old) (W.failures out.new)) }
-    ensures quiet { OnOk result (W.failures out.new ≡ W.failures out.old) }
+    ensures { Writes W.Sink (line_bytes line.now) out.old out.new result }
 {
     line_buffer.clear();
     put_line(line_buffer, line.pid, &line.word);
     write_whole(out, line_buffer.as_slice())
 }
 
-/// Writes a line. It takes no memory.
+/// Writes a line. No memory is allocated.
 ///
 /// # Errors
 ///
-/// `Failed` where a write failed: the sink was given a beginning of the line.
+/// Returns `Failed` if a write fails. The sink then has received a prefix of the line.
 pub fn write_line<W: Sink>(out: &mut W, line: &Line) -> Result<(), Failed>
-    ensures whole { OnOk result (W.written out.new ≡ and_all (W.written out.old) (line_bytes line.now)) }
-    ensures beginning { OnErr result (TellsBeginning (line_bytes line.now) (W.written out.old) (W.written out.new)) }
-    ensures failed { OnErr result (Rose (W.failures out.old) (W.failures out.new)) }
-    ensures quiet { OnOk result (W.failures out.new ≡ W.failures out.old) }
+    ensures { Writes W.Sink (line_bytes line.now) out.old out.new result }
 {
     write_line_on(out, &mut LineBuffer::new(), line)
 }

@@ -1,6 +1,6 @@
-//! The line buffer that lines are made on, and numbers, texts and bytes as a trace spells them.
+//! The line buffer in which lines are formatted, and the formats of numbers, texts and bytes in a trace.
 //!
-//! Each call says how much room it asks for and how much the text grows by, at most.
+//! The contract of each function states how much room it requires, and how many bytes it appends at most.
 ghost use Rattle.std.specs.Prelude.{◌≡◌, ◌++◌, ◌+◌, ◌*◌, ◌<◌, ◌≤◌, replicate, ◌∷◌, length, codes, decimal, flat_map, option_copied};
 ghost use Rattle.std.specs.Fmt.{signed_decimal};
 ghost use Rattle.pv_model.specs.declared.limits.TheConstants.{TEXT};
@@ -12,26 +12,26 @@ use crate::plain::plain_count;
 use itoa::Buffer;
 use pv_model::{Perms, Text, hex_digit};
 
-/// Bytes that a line may have: more than any has. A CALL or a GIO line can be nearly so long.
+/// An upper bound of the length of a line. A CALL or a GIO line can be almost this long.
 pub const LINE_BYTES: usize = 9_216;
 
-/// Bytes that a NAMI line may have: more than any has.
+/// An upper bound of the length of a NAMI line.
 pub const PATH_LINE_BYTES: usize = 4_608;
 
-/// Bytes that a line of any other word may have: more than any has.
+/// An upper bound of the length of a line with any word except CALL, GIO and NAMI.
 pub const SHORT_LINE_BYTES: usize = 256;
 
-/// Bytes of a line buffer: room for the lines of a step, which has at most a CALL and a GIO line, two NAMI lines, and three
-/// short ones.
+/// The size of a line buffer: room for the lines of a step, which has at most a CALL line, a GIO line, two NAMI lines
+/// and three short ones.
 pub const LINE_BUFFER: usize = 2 * LINE_BYTES + 2 * PATH_LINE_BYTES + 3 * SHORT_LINE_BYTES;
 
-// Bytes whose digits go on the line buffer at once.
+// The number of bytes whose digits are appended at once.
 const PART: usize = 64;
 
-/// What the lines of a step are made on: one line buffer serves for any number of steps.
+/// A buffer for the lines of a step. It can be reused for any number of steps.
 pub type LineBuffer = FixedBuffer<LINE_BUFFER>;
 
-/// Puts bytes after what the line buffer has, which has room for them.
+/// Appends bytes to the line buffer, which must have room for them.
 #[inline]
 pub fn put(out: &mut LineBuffer, bytes: &[u8])
     requires { length out.old.items + length bytes.now ≤ LINE_BUFFER }
@@ -41,7 +41,7 @@ pub fn put(out: &mut LineBuffer, bytes: &[u8])
     out.extend(bytes);
 }
 
-// The decimal digit of a number below ten.
+// Returns the decimal digit of a number less than ten.
 #[inline]
 fn digit(n: u32) -> u8
     requires { n < 10 }
@@ -50,14 +50,14 @@ fn digit(n: u32) -> u8
     b'0' + n as u8
 }
 
-/// Puts a number in decimal digits after what the line buffer has, which has room for 40 bytes.
+/// Appends a number in decimal to the line buffer, which must have room for 40 bytes.
 #[tactic(auto, using(std::proofs::lemmas::Fmt::decimal_digit, crate::proofs::Digits::two_digits, crate::proofs::Digits::three_digits, crate::proofs::Digits::four_digits))]
 pub fn put_decimal(out: &mut LineBuffer, n: u32)
     requires { length out.old.items + 40 ≤ LINE_BUFFER }
     ensures text { out.new.items ≡ out.old.items ++ decimal n }
     ensures growth { length out.new.items ≤ length out.old.items + 40 }
 {
-    // Up to four digits have an array of their own: what is put then has a known length.
+    // A number of up to four digits has an array of its own size, so that the length of the copy is a constant.
     if n < 10 {
         put(out, &[digit(n)]);
     } else if n < 100 {
@@ -80,7 +80,7 @@ pub fn put_decimal(out: &mut LineBuffer, n: u32)
     }
 }
 
-// The same of a number that may be below 0.
+// Does the same as `put_decimal` for a signed number.
 pub(crate) fn put_signed(out: &mut LineBuffer, n: i32)
     requires { length out.old.items + 40 ≤ LINE_BUFFER }
     ensures text { out.new.items ≡ out.old.items ++ signed_decimal n }
@@ -95,7 +95,7 @@ pub(crate) fn put_signed(out: &mut LineBuffer, n: i32)
     }
 }
 
-// So many spaces.
+// Returns `count` spaces.
 fn spaces(count: usize) -> &'static [u8]
     requires { count ≤ 5 }
     ensures text { result.now ≡ replicate count 32 }
@@ -104,7 +104,7 @@ fn spaces(count: usize) -> &'static [u8]
     &b"     "[..count]
 }
 
-// A number of at most five digits, right in five places.
+// Returns a number of at most five digits, right-aligned in five columns.
 #[tactic(auto, using(std::proofs::lemmas::Fmt::decimal_digit, crate::proofs::Digits::two_digits, crate::proofs::Digits::three_digits, crate::proofs::Digits::four_digits, crate::proofs::Digits::five_digits))]
 fn five_places(number: u32) -> [u8; 5]
     requires { number < 100000 }
@@ -141,7 +141,7 @@ fn five_places(number: u32) -> [u8; 5]
     }
 }
 
-// A number of any length, right in five places.
+// Appends a number of any length, right-aligned in five columns.
 #[inline(never)]
 fn put_pid(out: &mut LineBuffer, pid: u32)
     requires { length out.old.items + 45 ≤ LINE_BUFFER }
@@ -158,8 +158,8 @@ fn put_pid(out: &mut LineBuffer, pid: u32)
     }
 }
 
-// The front of a line: the number of its process, right in five places, and its word with the blanks around it. Where
-// the number is one digit, all goes on the line buffer at once.
+// Appends the start of a line: the number of its process, right-aligned in five columns, and its word between blanks.
+// If the number has one digit, all is appended at once.
 #[inline]
 #[tactic(auto, using(std::proofs::lemmas::Fmt::decimal_digit))]
 pub(crate) fn put_front(out: &mut LineBuffer, pid: u32, word: &[u8; 7])
@@ -178,8 +178,8 @@ pub(crate) fn put_front(out: &mut LineBuffer, pid: u32, word: &[u8; 7])
     }
 }
 
-// The digits of a few bytes, two for each, at once. It becomes a part of its caller, which knows the length of all
-// parts but the last.
+// Appends the hexadecimal digits of a few bytes at once. It is inlined into its caller, where the length of all parts
+// except the last is a constant.
 #[inline(always)]
 fn put_hex_part(out: &mut LineBuffer, bytes: &[u8])
     requires few { length bytes.now ≤ PART }
@@ -195,7 +195,7 @@ fn put_hex_part(out: &mut LineBuffer, bytes: &[u8])
     put(out, &digits[..2 * bytes.len()]);
 }
 
-// The digits of bytes, two for each.
+// Appends the hexadecimal digits of bytes, two for each.
 pub(crate) fn put_hex(out: &mut LineBuffer, bytes: &[u8])
     requires { length out.old.items + 2 * length bytes.now ≤ LINE_BUFFER }
     ensures text { out.new.items ≡ out.old.items ++ hex bytes.now }
@@ -210,7 +210,7 @@ pub(crate) fn put_hex(out: &mut LineBuffer, bytes: &[u8])
     put_hex_part(out, left);
 }
 
-// A byte of a text that is not written as it is.
+// Appends the escape of a byte.
 fn put_escaped(out: &mut LineBuffer, byte: u8)
     requires { length out.old.items + 4 ≤ LINE_BUFFER }
     ensures text { out.new.items ≡ out.old.items ++ (codes "\\x" ++ hex_byte byte) }
@@ -222,8 +222,7 @@ fn put_escaped(out: &mut LineBuffer, byte: u8)
     );
 }
 
-// The bytes of a text, as a program writes them in their shortest form. What is written as it is goes on
-// the line buffer at once, up to the next byte that is not.
+// Appends the bytes of a text in their shortest form. Bytes that need no escape are appended in runs.
 fn put_quoted_bytes(out: &mut LineBuffer, bytes: &[u8])
     requires { length out.old.items + 4 * length bytes.now ≤ LINE_BUFFER }
     ensures text { out.new.items ≡ out.old.items ++ flat_map quote_byte bytes.now }
@@ -241,7 +240,7 @@ fn put_quoted_bytes(out: &mut LineBuffer, bytes: &[u8])
     }
 }
 
-// Bytes as a program writes them, in their shortest form.
+// Appends bytes in quotation marks, in their shortest form.
 pub(crate) fn put_quoted_all(out: &mut LineBuffer, bytes: &[u8])
     requires { length out.old.items + 4 * length bytes.now + 2 ≤ LINE_BUFFER }
     ensures text { out.new.items ≡ out.old.items ++ quote bytes.now }
@@ -252,7 +251,7 @@ pub(crate) fn put_quoted_all(out: &mut LineBuffer, bytes: &[u8])
     put(out, b"\"");
 }
 
-// A text as a program writes it, in its shortest form.
+// Appends a text in quotation marks, in its shortest form.
 pub(crate) fn put_quoted(out: &mut LineBuffer, text: &Text)
     requires { length out.old.items + 4 * TEXT + 2 ≤ LINE_BUFFER }
     ensures text { out.new.items ≡ out.old.items ++ quote text.now }
@@ -272,7 +271,7 @@ pub(crate) fn put_quoted_or_null(out: &mut LineBuffer, text: Option<&Text>)
     }
 }
 
-// The permissions, in the order rwxc.
+// Appends permissions, in the order rwxc.
 #[tactic(auto, unfolding(crate::specs::Words::permissions_bytes))]
 pub(crate) fn put_permissions(out: &mut LineBuffer, permissions: Perms)
     requires { length out.old.items + 4 ≤ LINE_BUFFER }

@@ -1,23 +1,24 @@
-//! Which bytes of a text are plain, eight of them at once.
+//! Counting the bytes of a text that need no escape, eight at a time.
 ghost use Rattle.std.specs.Prelude.{◌≡◌, ◌<◌, ◌≤◌, false, not, length, take, get_or, position, flat_map};
 ghost use Rattle.std.specs.List.{list_all};
-ghost use Rattle.pv_model.specs.Trace.{is_plain as stands_for_itself, quote_byte};
+ghost use Rattle.pv_model.specs.Trace.{is_plain as parses_as_itself, quote_byte};
 
-// Bytes that are looked at at once.
+// The number of bytes that are tested at once.
 const AT_ONCE: usize = 8;
 
-// Whether a byte of a text stands for itself between quotation marks. It has no branch, so that several are tested at once.
+// Returns whether a byte represents itself between quotation marks. It has no branch, so that several bytes can be
+// tested at once.
 #[inline]
 fn is_plain(byte: u8) -> bool
-    ensures { result ≡ stands_for_itself byte }
+    ensures { result ≡ parses_as_itself byte }
 {
     (b' '..=b'~').contains(&byte) & (byte != b'"') & (byte != b'\\')
 }
 
-// Whether each of some bytes does.
+// Returns whether each of some bytes represents itself.
 #[inline]
 fn are_plain(bytes: &[u8; AT_ONCE]) -> bool
-    ensures { result ≡ list_all stands_for_itself bytes.now }
+    ensures { result ≡ list_all parses_as_itself bytes.now }
 {
     let mut plain = true;
     for byte in bytes {
@@ -26,32 +27,32 @@ fn are_plain(bytes: &[u8; AT_ONCE]) -> bool
     plain
 }
 
-// Where the first byte of a text stands that does not stand for itself, if there is one.
+// Returns the index of the first byte of a text that does not represent itself.
 #[inline]
 fn plain_end(text: &[u8]) -> Option<usize>
-    ensures { result ≡ position (λ byte. not (stands_for_itself byte)) text.now }
+    ensures { result ≡ position (λ byte. not (parses_as_itself byte)) text.now }
 {
     text.iter().position(|byte| !is_plain(*byte))
 }
 
-// How many bytes at the front of a text stand for themselves, looked at one by one.
+// Returns the number of bytes at the start of a text that represent themselves. It tests them one by one.
 #[inline]
 #[tactic(auto, using(crate::proofs::Fronts::front_within, crate::proofs::Fronts::front_same, crate::proofs::Fronts::front_ends))]
 fn plain_front(text: &[u8]) -> usize
     ensures within { result ≤ length text.now }
     ensures same { flat_map quote_byte (take result text.now) ≡ take result text.now }
-    ensures next { result < length text.now → stands_for_itself (get_or text.now result 0) ≡ false }
+    ensures next { result < length text.now → parses_as_itself (get_or text.now result 0) ≡ false }
 {
     plain_end(text).unwrap_or(text.len())
 }
 
-/// How many bytes at the front of a text stand for themselves between quotation marks.
+/// Returns the number of bytes at the start of a text that represent themselves between quotation marks.
 #[inline]
 #[tactic(auto, using(crate::proofs::Fronts::onward_same))]
 pub fn plain_count(text: &[u8]) -> usize
     ensures within { result ≤ length text.now }
     ensures same { flat_map quote_byte (take result text.now) ≡ take result text.now }
-    ensures next { result < length text.now → stands_for_itself (get_or text.now result 0) ≡ false }
+    ensures next { result < length text.now → parses_as_itself (get_or text.now result 0) ≡ false }
 {
     let mut rest = text;
     while let Some((component, following)) = rest.split_first_chunk::<AT_ONCE>() {

@@ -1,16 +1,15 @@
 //! The lines of a step.
-ghost use Rattle.std.specs.Prelude.{◌≡◌, ◌++◌, ◌+◌, ◌*◌, ◌≤◌, [], ◌∷◌, length, take, map, IfOk, OnOk, OnErr};
+ghost use Rattle.std.specs.Prelude.{◌≡◌, ◌++◌, ◌+◌, ◌*◌, ◌≤◌, [], ◌∷◌, length, take, map, IfOk};
 ghost use Rattle.pv_model.specs.declared.limits.TheConstants.{BUFFER};
 ghost use Rattle.pv_model.specs.CallRef.{call_of};
-ghost use Rattle.pv_model.specs.Stream.{Rose};
 ghost use Rattle.pv_model.specs.Trace.{trace_bytes, gone_lines};
 ghost use Rattle.pv_trace.specs.Steps.{first_lines_of, path_line, path_lines_of, promise_lines_of, unveil_lines_of, moved_lines_of, end_lines_of, lines_by};
-ghost use Rattle.pv_streams.specs.Sinks.{and_all, TellsBeginning};
+ghost use Rattle.pv_streams.specs.Sinks.{Writes};
 ghost use Rattle.pv_trace.specs.declared.line_buffer.TheConstants.{LINE_BYTES, PATH_LINE_BYTES, SHORT_LINE_BYTES, LINE_BUFFER};
 
 use crate::line::{Line, Word, write_line_on};
 use crate::line_buffer::LineBuffer;
-use crate::told::{bytes_told, promise_told, table_told};
+use crate::verdicts::{reported_bytes, reported_promise, reported_table_verdict};
 use crate::words::{
     put_call_line, put_error_line, put_killed_line, put_moved_line, put_path_line,
     put_promise_line, put_unveil_line, put_value_line, put_wait_line,
@@ -18,8 +17,8 @@ use crate::words::{
 use pv_model::{CallRef, Outcome, Text, Walks};
 use pv_streams::{Failed, Sink, write_whole};
 
-// The lines of the walks along one path, of which there is at most one. It answers how many lines it put, as each call
-// below does that puts some.
+// Appends the NAMI lines of a call with one path, at most one. Like the other functions below that append a variable
+// number of lines, it returns that number.
 #[tactic(auto, using(crate::proofs::Paths::take_one))]
 fn put_one_path(out: &mut LineBuffer, pid: u32, path: &Text, walks: u8) -> u8
     requires { length out.old.items + PATH_LINE_BYTES ≤ LINE_BUFFER }
@@ -36,7 +35,7 @@ fn put_one_path(out: &mut LineBuffer, pid: u32, path: &Text, walks: u8) -> u8
     }
 }
 
-// The lines of the walks along two paths.
+// Appends the NAMI lines of a call with two paths.
 #[tactic(auto, using(crate::proofs::Paths::take_two))]
 fn put_two_paths(out: &mut LineBuffer, pid: u32, first: &Text, second: &Text, walks: u8) -> u8
     requires { length out.old.items + 2 * PATH_LINE_BYTES ≤ LINE_BUFFER }
@@ -54,7 +53,7 @@ fn put_two_paths(out: &mut LineBuffer, pid: u32, first: &Text, second: &Text, wa
     }
 }
 
-// The lines of the walks that a call began.
+// Appends the NAMI lines of the walks that a call started.
 #[tactic(auto, unfolding(pv_model::specs::Trace::walked_paths))]
 fn put_path_lines(out: &mut LineBuffer, pid: u32, call: CallRef<'_>, walks: u8) -> u8
     requires { length out.old.items + 2 * PATH_LINE_BYTES ≤ LINE_BUFFER }
@@ -70,7 +69,7 @@ fn put_path_lines(out: &mut LineBuffer, pid: u32, call: CallRef<'_>, walks: u8) 
     }
 }
 
-// The line of a promise that decided.
+// Appends the line of a promise that decided a call.
 fn put_promise_lines(out: &mut LineBuffer, pid: u32, call: CallRef<'_>, outcome: Outcome) -> u8
     requires { length out.old.items + SHORT_LINE_BYTES ≤ LINE_BUFFER }
     ensures text { out.new.items ≡ out.old.items ++ trace_bytes (promise_lines_of pid (call_of call.entry) outcome) }
@@ -78,7 +77,7 @@ fn put_promise_lines(out: &mut LineBuffer, pid: u32, call: CallRef<'_>, outcome:
     ensures few { result ≤ 1 }
     ensures growth { length out.new.items ≤ length out.old.items + SHORT_LINE_BYTES }
 {
-    match promise_told(outcome) {
+    match reported_promise(outcome) {
         Some((promise, verdict)) => {
             put_promise_line(out, pid, call, promise, verdict);
             1
@@ -87,7 +86,7 @@ fn put_promise_lines(out: &mut LineBuffer, pid: u32, call: CallRef<'_>, outcome:
     }
 }
 
-// The line of an unveil table that decided.
+// Appends the line of an unveil table that decided a call.
 fn put_unveil_lines(
     out: &mut LineBuffer,
     pid: u32,
@@ -101,7 +100,7 @@ fn put_unveil_lines(
     ensures few { result ≤ 1 }
     ensures growth { length out.new.items ≤ length out.old.items + SHORT_LINE_BYTES }
 {
-    match table_told(call, walks, outcome) {
+    match reported_table_verdict(call, walks, outcome) {
         Some(verdict) => {
             put_unveil_line(out, pid, verdict);
             1
@@ -110,7 +109,7 @@ fn put_unveil_lines(
     }
 }
 
-// The line of the bytes that a call gave or took.
+// Appends the line of the bytes that a call transferred.
 fn put_moved_lines(
     out: &mut LineBuffer,
     pid: u32,
@@ -125,16 +124,16 @@ fn put_moved_lines(
     ensures few { result ≤ 1 }
     ensures growth { length out.new.items ≤ length out.old.items + LINE_BYTES }
 {
-    match bytes_told(front, call, outcome) {
-        Some((way, bytes)) => {
-            put_moved_line(out, pid, way, bytes);
+    match reported_bytes(front, call, outcome) {
+        Some((direction, bytes)) => {
+            put_moved_line(out, pid, direction, bytes);
             1
         }
         None => 0,
     }
 }
 
-// The last line of a call.
+// Appends the last line of a call.
 fn put_end_lines(out: &mut LineBuffer, pid: u32, call: CallRef<'_>, outcome: Outcome) -> u8
     requires { length out.old.items + SHORT_LINE_BYTES ≤ LINE_BUFFER }
     ensures text { out.new.items ≡ out.old.items ++ trace_bytes (end_lines_of pid (call_of call.entry) outcome) }
@@ -153,7 +152,7 @@ fn put_end_lines(out: &mut LineBuffer, pid: u32, call: CallRef<'_>, outcome: Out
     1
 }
 
-// Puts the lines of a call on a line buffer, whatever that had.
+// Replaces the contents of a line buffer by the lines of a call.
 #[tactic(auto, unfolding(crate::specs::Steps::lines_by), using(crate::proofs::Lines::text_joined))]
 fn put_lines(
     out: &mut LineBuffer,
@@ -177,14 +176,14 @@ fn put_lines(
     count + put_end_lines(out, pid, call, outcome)
 }
 
-/// Writes the lines of a call at once, and answers how many they are, at most seven. They are made on the line buffer.
+/// Writes the lines of a call at once, and returns their number, at most seven. They are formatted in the line buffer.
 ///
-/// `front` has the bytes that the call gave or took at its front: the buffer of its process, at most 4,096
-/// bytes. `walks` is how many walks the call began.
+/// `front` is the buffer of the process, at most 4,096 bytes; the bytes that the call transferred are at its start.
+/// `walks` is the number of walks that the call started.
 ///
 /// # Errors
 ///
-/// `Failed` where a write failed: the sink was given a beginning of the lines' text.
+/// Returns `Failed` if a write fails. The sink then has received a prefix of the lines.
 pub fn write_call_lines<W: Sink>(
     out: &mut W,
     line_buffer: &mut LineBuffer,
@@ -195,24 +194,21 @@ pub fn write_call_lines<W: Sink>(
     walks: u8,
 ) -> Result<u8, Failed>
     requires { length front.now ≤ BUFFER }
-    ensures whole { OnOk result (W.written out.new ≡ and_all (W.written out.old) (trace_bytes (lines_by pid front.now (call_of call.entry) outcome walks))) }
+    ensures written { Writes W.Sink (trace_bytes (lines_by pid front.now (call_of call.entry) outcome walks)) out.old out.new result }
     ensures count { IfOk result (λ n. n ≡ length (lines_by pid front.now (call_of call.entry) outcome walks)) }
     ensures few { IfOk result (λ n. n ≤ 7) }
-    ensures beginning { OnErr result (TellsBeginning (trace_bytes (lines_by pid front.now (call_of call.entry) outcome walks)) (W.written out.old) (W.written out.new)) }
-    ensures failed { OnErr result (Rose (W.failures out.old) (W.failures out.new)) }
-    ensures quiet { OnOk result (W.failures out.new ≡ W.failures out.old) }
 {
     let count = put_lines(line_buffer, pid, front, call, outcome, walks);
     write_whole(out, line_buffer.as_slice())?;
     Ok(count)
 }
 
-/// Writes the first lines of a call at once: CALL, and a NAMI line for each walk that it began. They are made on the line
-/// buffer.
+/// Writes the first lines of a call at once: CALL, and a NAMI line for each walk that it started. They are formatted in
+/// the line buffer.
 ///
 /// # Errors
 ///
-/// `Failed` where a write failed: the sink was given a beginning of the lines' text.
+/// Returns `Failed` if a write fails. The sink then has received a prefix of the lines.
 pub fn write_first_lines<W: Sink>(
     out: &mut W,
     line_buffer: &mut LineBuffer,
@@ -220,10 +216,7 @@ pub fn write_first_lines<W: Sink>(
     call: CallRef<'_>,
     walks: u8,
 ) -> Result<(), Failed>
-    ensures whole { OnOk result (W.written out.new ≡ and_all (W.written out.old) (trace_bytes (first_lines_of pid (call_of call.entry) walks))) }
-    ensures beginning { OnErr result (TellsBeginning (trace_bytes (first_lines_of pid (call_of call.entry) walks)) (W.written out.old) (W.written out.new)) }
-    ensures failed { OnErr result (Rose (W.failures out.old) (W.failures out.new)) }
-    ensures quiet { OnOk result (W.failures out.new ≡ W.failures out.old) }
+    ensures { Writes W.Sink (trace_bytes (first_lines_of pid (call_of call.entry) walks)) out.old out.new result }
 {
     line_buffer.clear();
     put_call_line(line_buffer, pid, call);
@@ -231,11 +224,11 @@ pub fn write_first_lines<W: Sink>(
     write_whole(out, line_buffer.as_slice())
 }
 
-/// Writes the last line of a call, where it has one. It is made on the line buffer.
+/// Writes the last line of a call, if it has one. It is formatted in the line buffer.
 ///
 /// # Errors
 ///
-/// `Failed` where a write failed: the sink was given a beginning of the line.
+/// Returns `Failed` if a write fails. The sink then has received a prefix of the line.
 pub fn write_last_line<W: Sink>(
     out: &mut W,
     line_buffer: &mut LineBuffer,
@@ -243,30 +236,24 @@ pub fn write_last_line<W: Sink>(
     call: CallRef<'_>,
     outcome: Outcome,
 ) -> Result<(), Failed>
-    ensures whole { OnOk result (W.written out.new ≡ and_all (W.written out.old) (trace_bytes (end_lines_of pid (call_of call.entry) outcome))) }
-    ensures beginning { OnErr result (TellsBeginning (trace_bytes (end_lines_of pid (call_of call.entry) outcome)) (W.written out.old) (W.written out.new)) }
-    ensures failed { OnErr result (Rose (W.failures out.old) (W.failures out.new)) }
-    ensures quiet { OnOk result (W.failures out.new ≡ W.failures out.old) }
+    ensures { Writes W.Sink (trace_bytes (end_lines_of pid (call_of call.entry) outcome)) out.old out.new result }
 {
     line_buffer.clear();
     put_end_lines(line_buffer, pid, call, outcome);
     write_whole(out, line_buffer.as_slice())
 }
 
-/// Writes the one line of a step by a process that is not live, which is made on the line buffer.
+/// Writes the only line of a step of a process that is not live. It is formatted in the line buffer.
 ///
 /// # Errors
 ///
-/// `Failed` where a write failed: the sink was given a beginning of the line.
+/// Returns `Failed` if a write fails. The sink then has received a prefix of the line.
 pub fn write_gone_line<W: Sink>(
     out: &mut W,
     line_buffer: &mut LineBuffer,
     pid: u32,
 ) -> Result<(), Failed>
-    ensures whole { OnOk result (W.written out.new ≡ and_all (W.written out.old) (trace_bytes (gone_lines pid))) }
-    ensures beginning { OnErr result (TellsBeginning (trace_bytes (gone_lines pid)) (W.written out.old) (W.written out.new)) }
-    ensures failed { OnErr result (Rose (W.failures out.old) (W.failures out.new)) }
-    ensures quiet { OnOk result (W.failures out.new ≡ W.failures out.old) }
+    ensures { Writes W.Sink (trace_bytes (gone_lines pid)) out.old out.new result }
 {
     let line = Line {
         pid,

@@ -1,15 +1,15 @@
-//! The lines of each word, with the text after it.
+//! The line of each word, with its arguments.
 ghost use Rattle.std.specs.Prelude.{◌≡◌, ◌++◌, ◌+◌, ◌*◌, ◌≤◌, length, codes, decimal, None, Some};
 ghost use Rattle.pv_model.specs.declared.limits.TheConstants.{BUFFER};
 ghost use Rattle.pv_model.specs.CallRef.{call_of};
 ghost use Rattle.pv_model.specs.Errno.{errno_name};
 ghost use Rattle.pv_model.specs.Promise.{promise_name};
-ghost use Rattle.pv_model.specs.Trace.{line, line_bytes, call_word, nami_word, pldg_word, unvl_word, gio_word, ret_word, psig_word, wait_word, gone_word, value_of, error_of, promise_text, promise_verdict_text, unveil_verdict_text, way_text, bytes_text};
+ghost use Rattle.pv_model.specs.Trace.{line, line_bytes, call_word, nami_word, pldg_word, unvl_word, gio_word, ret_word, psig_word, wait_word, gone_word, value_of, error_of, promise_text, promise_verdict_text, unveil_verdict_text, direction_text, bytes_text};
 ghost use Rattle.pv_trace.specs.declared.line_buffer.TheConstants.{LINE_BYTES, PATH_LINE_BYTES, SHORT_LINE_BYTES, LINE_BUFFER};
-ghost use Rattle.pv_trace.specs.Words.{promise_verdict_of, unveil_verdict_of, way_of, permissions_bytes, needed_text, errno_text};
+ghost use Rattle.pv_trace.specs.Words.{promise_verdict_of, unveil_verdict_of, direction_of, permissions_bytes, needed_text, errno_text};
 
 use crate::calls::{put_call, put_name};
-use crate::line::{PromiseVerdict, UnveilVerdict, Way};
+use crate::line::{Direction, PromiseVerdict, UnveilVerdict};
 use crate::line_buffer::{
     LineBuffer, put, put_decimal, put_front, put_hex, put_permissions, put_quoted, put_quoted_all,
 };
@@ -26,7 +26,7 @@ fn promise_verdict_name(verdict: PromiseVerdict) -> &'static [u8]
     }
 }
 
-// The name of a promise.
+// Returns the name of a promise.
 fn promise_bytes(promise: Promise) -> &'static [u8]
     ensures text { result.now ≡ promise_name promise }
     ensures few { length result.now ≤ 9 }
@@ -34,7 +34,7 @@ fn promise_bytes(promise: Promise) -> &'static [u8]
     promise.name().as_bytes()
 }
 
-// What a trace says of a promise.
+// Appends the text of a decision about a promise.
 fn put_promise(out: &mut LineBuffer, call: CallRef<'_>, promise: Promise, verdict: PromiseVerdict)
     requires { length out.old.items + 64 ≤ LINE_BUFFER }
     ensures text { out.new.items ≡ out.old.items ++ promise_text (call_of call.entry) promise (promise_verdict_text (promise_verdict_of verdict)) }
@@ -75,7 +75,7 @@ fn put_hidden(out: &mut LineBuffer, permissions: Perms)
     put_permissions(out, permissions);
 }
 
-// What a trace says of an unveil table that decided.
+// Appends the text of a decision of an unveil table.
 #[tactic(auto, unfolding(crate::specs::Words::permissions_bytes))]
 fn put_unveil(out: &mut LineBuffer, verdict: UnveilVerdict)
     requires { length out.old.items + 58 ≤ LINE_BUFFER }
@@ -89,26 +89,26 @@ fn put_unveil(out: &mut LineBuffer, verdict: UnveilVerdict)
     }
 }
 
-// Which way bytes went.
-fn put_way(out: &mut LineBuffer, way: Way)
+// Appends the text of a direction.
+fn put_direction(out: &mut LineBuffer, direction: Direction)
     requires { length out.old.items + 5 ≤ LINE_BUFFER }
-    ensures text { out.new.items ≡ out.old.items ++ way_text (way_of way) }
+    ensures text { out.new.items ≡ out.old.items ++ direction_text (direction_of direction) }
     ensures growth { length out.new.items ≤ length out.old.items + 5 }
 {
-    match way {
-        Way::Gave => put(out, b"read"),
-        Way::Took => put(out, b"wrote"),
+    match direction {
+        Direction::Gave => put(out, b"read"),
+        Direction::Took => put(out, b"wrote"),
     }
 }
 
-// What a trace says of bytes that were moved.
-fn put_moved(out: &mut LineBuffer, way: Way, bytes: &[u8])
+// Appends the text of a transfer of bytes.
+fn put_moved(out: &mut LineBuffer, direction: Direction, bytes: &[u8])
     requires few { length bytes.now ≤ BUFFER }
     requires room { length out.old.items + 2 * BUFFER + 47 ≤ LINE_BUFFER }
-    ensures text { out.new.items ≡ out.old.items ++ bytes_text (way_text (way_of way)) bytes.now }
+    ensures text { out.new.items ≡ out.old.items ++ bytes_text (direction_text (direction_of direction)) bytes.now }
     ensures growth { length out.new.items ≤ length out.old.items + 2 * BUFFER + 47 }
 {
-    put_way(out, way);
+    put_direction(out, direction);
     if bytes.is_empty() {
         put(out, b" 0");
     } else {
@@ -119,7 +119,7 @@ fn put_moved(out: &mut LineBuffer, way: Way, bytes: &[u8])
     }
 }
 
-// The name of an error.
+// Returns the name of an error.
 fn errno_bytes(errno: Errno) -> &'static [u8]
     ensures text { result.now ≡ errno_name errno }
     ensures few { length result.now ≤ 12 }
@@ -127,7 +127,7 @@ fn errno_bytes(errno: Errno) -> &'static [u8]
     errno.name().as_bytes()
 }
 
-// What a trace says of an error.
+// Appends the text of an error.
 #[tactic(auto, unfolding(crate::specs::Words::errno_text))]
 fn put_errno(out: &mut LineBuffer, errno: Errno)
     requires { length out.old.items + 62 ≤ LINE_BUFFER }
@@ -140,7 +140,7 @@ fn put_errno(out: &mut LineBuffer, errno: Errno)
     put(out, errno_bytes(errno));
 }
 
-/// CALL: a call, with its arguments.
+/// Appends a CALL line: a call with its arguments.
 #[tactic(auto, unfolding(pv_model::specs::Trace::text_line))]
 pub(crate) fn put_call_line(out: &mut LineBuffer, pid: u32, call: CallRef<'_>)
     requires room { length out.old.items + LINE_BYTES ≤ LINE_BUFFER }
@@ -152,7 +152,7 @@ pub(crate) fn put_call_line(out: &mut LineBuffer, pid: u32, call: CallRef<'_>)
     put(out, b"\n");
 }
 
-/// NAMI: a path that a call walks.
+/// Appends a NAMI line: a path that a call walks.
 #[tactic(auto, unfolding(pv_model::specs::Trace::text_line))]
 pub(crate) fn put_path_line(out: &mut LineBuffer, pid: u32, path: &Text)
     requires room { length out.old.items + PATH_LINE_BYTES ≤ LINE_BUFFER }
@@ -164,7 +164,7 @@ pub(crate) fn put_path_line(out: &mut LineBuffer, pid: u32, path: &Text)
     put(out, b"\n");
 }
 
-/// PLDG: a promise that decided a call.
+/// Appends a PLDG line: a promise that decided a call.
 #[tactic(auto, unfolding(pv_model::specs::Trace::text_line))]
 pub(crate) fn put_promise_line(
     out: &mut LineBuffer,
@@ -182,7 +182,7 @@ pub(crate) fn put_promise_line(
     put(out, b"\n");
 }
 
-/// UNVL: an unveil table that decided.
+/// Appends a UNVL line: an unveil table that decided a call.
 #[tactic(auto, unfolding(pv_model::specs::Trace::text_line))]
 pub(crate) fn put_unveil_line(out: &mut LineBuffer, pid: u32, verdict: UnveilVerdict)
     requires room { length out.old.items + SHORT_LINE_BYTES ≤ LINE_BUFFER }
@@ -194,20 +194,20 @@ pub(crate) fn put_unveil_line(out: &mut LineBuffer, pid: u32, verdict: UnveilVer
     put(out, b"\n");
 }
 
-/// GIO: bytes that were given or taken.
+/// Appends a GIO line: bytes that a call transferred.
 #[tactic(auto, unfolding(pv_model::specs::Trace::text_line))]
-pub(crate) fn put_moved_line(out: &mut LineBuffer, pid: u32, way: Way, bytes: &[u8])
+pub(crate) fn put_moved_line(out: &mut LineBuffer, pid: u32, direction: Direction, bytes: &[u8])
     requires few { length bytes.now ≤ BUFFER }
     requires room { length out.old.items + LINE_BYTES ≤ LINE_BUFFER }
-    ensures text { out.new.items ≡ out.old.items ++ line_bytes (line pid (gio_word (way_of way) bytes.now)) }
+    ensures text { out.new.items ≡ out.old.items ++ line_bytes (line pid (gio_word (direction_of direction) bytes.now)) }
     ensures growth { length out.new.items ≤ length out.old.items + LINE_BYTES }
 {
     put_front(out, pid, b" GIO   ");
-    put_moved(out, way, bytes);
+    put_moved(out, direction, bytes);
     put(out, b"\n");
 }
 
-/// RET: a call answered a value.
+/// Appends a RET line of a call that returned a value.
 #[tactic(auto, unfolding(pv_model::specs::Trace::text_line))]
 pub(crate) fn put_value_line(out: &mut LineBuffer, pid: u32, call: CallRef<'_>, value: u32)
     requires room { length out.old.items + SHORT_LINE_BYTES ≤ LINE_BUFFER }
@@ -221,7 +221,7 @@ pub(crate) fn put_value_line(out: &mut LineBuffer, pid: u32, call: CallRef<'_>, 
     put(out, b"\n");
 }
 
-/// RET: a call failed.
+/// Appends a RET line of a call that failed.
 #[tactic(auto, unfolding(pv_model::specs::Trace::text_line, crate::specs::Words::errno_text))]
 pub(crate) fn put_error_line(out: &mut LineBuffer, pid: u32, call: CallRef<'_>, errno: Errno)
     requires room { length out.old.items + SHORT_LINE_BYTES ≤ LINE_BUFFER }
@@ -235,7 +235,7 @@ pub(crate) fn put_error_line(out: &mut LineBuffer, pid: u32, call: CallRef<'_>, 
     put(out, b"\n");
 }
 
-/// PSIG: the process was killed.
+/// Appends a PSIG line: the process was killed.
 #[tactic(auto, unfolding(pv_model::specs::Trace::text_line))]
 pub(crate) fn put_killed_line(out: &mut LineBuffer, pid: u32)
     requires room { length out.old.items + SHORT_LINE_BYTES ≤ LINE_BUFFER }
@@ -246,7 +246,7 @@ pub(crate) fn put_killed_line(out: &mut LineBuffer, pid: u32)
     put(out, b"SIGABRT\n");
 }
 
-/// WAIT: the call waits.
+/// Appends a WAIT line: the call blocks.
 #[tactic(auto, unfolding(pv_model::specs::Trace::text_line))]
 pub(crate) fn put_wait_line(out: &mut LineBuffer, pid: u32)
     requires room { length out.old.items + SHORT_LINE_BYTES ≤ LINE_BUFFER }
@@ -257,7 +257,7 @@ pub(crate) fn put_wait_line(out: &mut LineBuffer, pid: u32)
     put(out, b"blocked\n");
 }
 
-/// GONE: the process is not live.
+/// Appends a GONE line: the process is not live.
 #[tactic(auto, unfolding(pv_model::specs::Trace::text_line))]
 pub(crate) fn put_gone_line(out: &mut LineBuffer, pid: u32)
     requires room { length out.old.items + SHORT_LINE_BYTES ≤ LINE_BUFFER }

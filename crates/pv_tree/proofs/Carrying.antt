@@ -1,15 +1,16 @@
--- What is stored of a tree, carried to the tree after it.
+-- Carrying the stored data of a tree over to the next tree.
 use Rattle.std.proofs.Common.{◌≡◌, ℕ, ◌+◌, ◌-◌, ◌<◌, ◌≤◌, true, List, ◌++◌, length, take, drop, replicate, None, is_some, refl, sym, ◌∙◌}
 use Rattle.std.specs.Prelude.{slice_index}
 use Rattle.pv_model.specs.Tree.{Tree, node_at, is_directory_at, names_of, parent}
-use Rattle.pv_laws_trees.specs.Spelled.{AllBytes}
+use Rattle.pv_laws_trees.specs.Encoded.{AllBytes}
 use Rattle.pv_laws_trees.specs.Tree.{IsSound}
 use Rattle.pv_laws_trees.proofs.Trees.{well_formed}
 use Rattle.pv_tree.specs.Rooms.{refusal}
-use Rattle.pv_tree.specs.Standing.{stored, IsCounted}
+use Rattle.pv_tree.specs.Present.{stored, IsCounted}
 use Rattle.pv_tree.proofs.Rooms.{refusal-none}
 
--- another tree of the same image, with other numbers stored: what is new of them, and the rest of the tree that was
+-- another tree of the same image with other stored numbers: the properties of the new numbers, and those of the old
+-- tree
 pub carried : (t u : Tree) (parents names holds : List ℕ) → IsCounted t parents names holds → (new_parents new_names new_holds : List ℕ)
     → IsSound u → u.inodes ≡ t.inodes → refusal u ≡ None → AllBytes u
     → length new_parents ≡ length parents → length new_names ≡ length names → length new_holds ≡ length holds

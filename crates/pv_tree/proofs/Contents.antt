@@ -1,4 +1,4 @@
--- What becomes of a tree when a file's bytes change.
+-- The effect of changing the contents of a file.
 use Rattle.std.proofs.Common.{◌≡◌, ◌↔◌, ℕ, ◌+◌, ◌-◌, ◌<◌, ◌≤◌, Bool, true, false, List, [], ◌∷◌, length, Option, None, Some, is_some, Result, Ok, Err, refl, ap, sym, subst, ◌∙◌, arith, length-append, length-drop, ⊎_elim}
 use Rattle.std.specs.Prelude.{slice_index, OnOk, OnErr, IfErr}
 use Rattle.std.specs.FinMap.Entries.{find}
@@ -13,20 +13,20 @@ use Rattle.pv_model.specs.Room.{node_length, greatest_length, is_too_long}
 use Rattle.pv_model.specs.Sealed.{is_file}
 use Rattle.pv_model.specs.Tree.{Node, directory_node, file_node, link_node, Tree, node_at, entries_of, entries_at, is_directory, find_entry, with_node}
 use Rattle.pv_dirs.specs.Trees.{written, cut, replaced, total_need, LacksRoom, bytes_of as content_of}
-use Rattle.pv_laws_trees.specs.Spelled.{are_bytes}
+use Rattle.pv_laws_trees.specs.Encoded.{are_bytes}
 use Rattle.pv_laws_trees.specs.Tree.{IsSound}
 use Rattle.pv_laws_trees.proofs.Changes.{node_at-same, node_at-other}
 use Rattle.pv_laws_trees.proofs.Edits.{sound-content}
 use Rattle.pv_laws_trees.proofs.Entries.{by_name}
-use Rattle.pv_laws_trees.proofs.Spelled.{bytes-with_node, bytes-overwrite, bytes-resize}
+use Rattle.pv_laws_trees.proofs.Encoded.{bytes-with_node, bytes-overwrite, bytes-resize}
 use Rattle.pv_laws_trees.proofs.Numbered.{at_number-below, length-with_number}
 use Rattle.pv_laws_trees.proofs.Rooms.{too_long-at, length-within}
 use Rattle.pv_laws_trees.proofs.Trees.{sound, well_formed}
 use Rattle.pv_tree.specs.Changes.{overwritten, resized}
 use Rattle.pv_tree.specs.Rooms.{refusal}
-use Rattle.pv_tree.specs.Standing.{stored, IsCounted, IsTied}
+use Rattle.pv_tree.specs.Present.{stored, IsCounted, IsTied}
 use Rattle.pv_tree.proofs.Carrying.{carried}
-use Rattle.pv_tree.proofs.Keeping.{is_kept, trimmed-all, all-kept}
+use Rattle.pv_tree.proofs.Keeping.{is_preserved, collected-all, all-preserved}
 use Rattle.pv_tree.proofs.Names.{name_count, names-same}
 use Rattle.pv_tree.proofs.Parents.{parent-same}
 use Rattle.pv_tree.proofs.Rooms.{refusal-fits, refusal-long, refusal-full, short-with_node, fits-from, fits-lacks}
@@ -55,7 +55,7 @@ length-resize old n = simp (length-append, length-take, length-replicate) (omega
 
 -- ---- other bytes in a file
 
-module _ (t : Tree) (parents names holds : List ℕ) (tied : IsTied t parents names holds) (f : ℕ) (x : Bool) (old new : Bytes) (is : node_at t f ≡ Some (file_node x old)) (spelled : are_bytes new ≡ true) where
+module _ (t : Tree) (parents names holds : List ℕ) (tied : IsTied t parents names holds) (f : ℕ) (x : Bool) (old new : Bytes) (is : node_at t f ≡ Some (file_node x old)) (encoded : are_bytes new ≡ true) where
   c : IsCounted t parents names holds
   c = tied.counted
 
@@ -95,17 +95,17 @@ module _ (t : Tree) (parents names holds : List ℕ) (tied : IsTied t parents na
   pub content-tied : refusal v ≡ None → IsTied v parents names holds
   content-tied allowed =
       record {
-        counted = carried t v parents names holds c parents names holds r refl allowed (bytes-with_node t f (file_node x new) within spelled c.bytes) refl refl refl
+        counted = carried t v parents names holds c parents names holds r refl allowed (bytes-with_node t f (file_node x new) within encoded c.bytes) refl refl refl
             (λ n more. same-as is_some refl n ∙ c.held_are_nodes n more)
             (λ n dir.
             c.parents_stored n (sym (same-as is_directory refl n) ∙ dir)
             ∙ ap stored (sym (parent-same t v s r n dir (λ d q found. same-found d q ∙ found) (λ d q found. sym (same-found d q) ∙ found))))
             (λ n. c.names_counted n ∙ sym (same-names n));
-        is_trimmed = trimmed-all v holds (λ n there.
-            ap (λ k. is_kept n k (slice_index holds n)) (same-names n) ∙ all-kept t holds tied.is_trimmed n (sym (same-as is_some refl n) ∙ there));
+        is_collected = collected-all v holds (λ n there.
+            ap (λ k. is_preserved n k (slice_index holds n)) (same-names n) ∙ all-preserved t holds tied.is_collected n (sym (same-as is_some refl n) ∙ there));
       }
 
-  -- the old bytes are not too many
+  -- the old bytes do not exceed the maximum
   pub old-within : length old ≤ greatest_length t.version
   old-within = omega (arith, length-within t f (file_node x old) is c.short)
 
@@ -142,9 +142,9 @@ module _ (t : Tree) (parents names holds : List ℕ) (tied : IsTied t parents na
         by (Err TooBig) at = refusal-long v (too_long (too_big.0 at))
         by (Err Full) at = let why = full.0 at in refusal-full v (not_too_long why.0) (fits-lacks v why.1)
 
--- ---- what the calls below answer
+-- ---- the results of the calls below
 
--- a change of a file, as the call below tells it
+-- a change of a file, as the call below states it
 pub record IsAnswer (t u after : Tree) (parents names holds : List ℕ) (a : Result (Unit {0}) Space) : Type 0 where
   pub tied : IsTied u parents names holds
   pub ok : OnOk a (u ≡ after)
@@ -164,7 +164,7 @@ module _ (t u : Tree) (parents names holds : List ℕ) (tied : IsTied t parents 
       → ((a ≡ Err TooBig) ↔ (greatest_length t.version < size)) → ((a ≡ Err Full) ↔ ((size ≤ greatest_length t.version) × LacksRoom (cut t f size))) → IsAnswer t u (resized t f size) parents names holds a
   resize-answer size ok err too_big full =
       let new = resize old size in
-      let spelled = bytes-resize old size old-bytes in
+      let encoded = bytes-resize old size old-bytes in
       let long = length-resize old size in
       let v : Tree = with_node t f (file_node x new) in
       let after : resized t f size ≡ v = ap (λ o. with_content_of t f o (resize (bytes_of o) size)) is in
@@ -172,12 +172,12 @@ module _ (t u : Tree) (parents names holds : List ℕ) (tied : IsTied t parents 
       let big : (a ≡ Err TooBig) ↔ (greatest_length t.version < length new) = (λ at. let past = too_big.0 at in omega arith, λ past. too_big.1 (omega arith)) in
       let wanting : (a ≡ Err Full) ↔ ((length new ≤ greatest_length t.version) × LacksRoom v) =
       (λ at. (let why = (full.0 at).0 in omega arith, subst LacksRoom cut_is (full.0 at).1), λ why. full.1 (let few = why.0 in omega arith, subst LacksRoom (sym cut_is) why.1)) in
-      let allowed = content-allowed t parents names holds tied f x old new is spelled a big wanting in
+      let allowed = content-allowed t parents names holds tied f x old new is encoded a big wanting in
       record {
-        tied = answered t u v parents names holds tied a (Rattle.std.proofs.lemmas.Result.on_ok_weaker a (λ same. same ∙ cut_is) ok) err allowed (content-tied t parents names holds tied f x old new is spelled);
+        tied = answered t u v parents names holds tied a (Rattle.std.proofs.lemmas.Result.on_ok_weaker a (λ same. same ∙ cut_is) ok) err allowed (content-tied t parents names holds tied f x old new is encoded);
         ok = Rattle.std.proofs.lemmas.Result.on_ok_weaker a (λ same. same ∙ cut-file t f size x old is) ok;
         allowed = subst (λ w. OnOk a (refusal w ≡ None)) (sym after) allowed;
-        refused = subst (λ w. IfErr a (λ why. refusal w ≡ Some why)) (sym after) (content-refused t parents names holds tied f x old new is spelled a big wanting);
+        refused = subst (λ w. IfErr a (λ why. refusal w ≡ Some why)) (sym after) (content-refused t parents names holds tied f x old new is encoded a big wanting);
       }
 
   pub write-answer : (at : ℕ) (bytes : Bytes) → are_bytes bytes ≡ true → OnOk a (u ≡ written t f at bytes) → OnErr a (u ≡ t)
@@ -197,18 +197,18 @@ module _ (t u : Tree) (parents names holds : List ℕ) (tied : IsTied t parents 
   write-answer at (b ∷ bytes) given ok err too_big full =
       let new = overwrite old at (b ∷ bytes) in
       let long = length-overwrite old at (b ∷ bytes) in
-      let spelled = bytes-overwrite old at (b ∷ bytes) old-bytes given in
-      let few = old-within t parents names holds tied f x old new is spelled in
+      let encoded = bytes-overwrite old at (b ∷ bytes) old-bytes given in
+      let few = old-within t parents names holds tied f x old new is encoded in
       let v : Tree = with_node t f (file_node x new) in
       let after : overwritten t f at (b ∷ bytes) ≡ v = ap (λ o. with_content_of t f o (overwrite (bytes_of o) at (b ∷ bytes))) is in
       let written_is : written t f at (b ∷ bytes) ≡ v = written-file t f at (b ∷ bytes) x old is ∙ after in
       let big : (a ≡ Err TooBig) ↔ (greatest_length t.version < length new) = (λ e. let past = (too_big.0 e).1 in omega arith, λ past. too_big.1 (omega arith, omega arith)) in
       let wanting : (a ≡ Err Full) ↔ ((length new ≤ greatest_length t.version) × LacksRoom v) =
       (λ e. (let why = (full.0 e).1 in omega arith, subst LacksRoom written_is (full.0 e).2), λ why. full.1 (omega arith, let enough = why.0 in omega arith, subst LacksRoom (sym written_is) why.1)) in
-      let allowed = content-allowed t parents names holds tied f x old new is spelled a big wanting in
+      let allowed = content-allowed t parents names holds tied f x old new is encoded a big wanting in
       record {
-        tied = answered t u v parents names holds tied a (Rattle.std.proofs.lemmas.Result.on_ok_weaker a (λ same. same ∙ written_is) ok) err allowed (content-tied t parents names holds tied f x old new is spelled);
+        tied = answered t u v parents names holds tied a (Rattle.std.proofs.lemmas.Result.on_ok_weaker a (λ same. same ∙ written_is) ok) err allowed (content-tied t parents names holds tied f x old new is encoded);
         ok = Rattle.std.proofs.lemmas.Result.on_ok_weaker a (λ same. same ∙ written-file t f at (b ∷ bytes) x old is) ok;
         allowed = subst (λ w. OnOk a (refusal w ≡ None)) (sym after) allowed;
-        refused = subst (λ w. IfErr a (λ why. refusal w ≡ Some why)) (sym after) (content-refused t parents names holds tied f x old new is spelled a big wanting);
+        refused = subst (λ w. IfErr a (λ why. refusal w ≡ Some why)) (sym after) (content-refused t parents names holds tied f x old new is encoded a big wanting);
       }

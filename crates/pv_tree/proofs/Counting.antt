@@ -1,4 +1,4 @@
--- What is stored of a tree, as it is trimmed and as its nodes are held.
+-- The stored data of a tree, as unreferenced nodes are collected and reference counts change.
 use Rattle.std.proofs.Common.{◌≡◌, ◌≢◌, ℕ, zero, suc, ◌+◌, ◌-◌, ◌<◌, ◌≤◌, true, false, cond, ◌||◌, ◌==◌, nat_lt, List, length, Option, None, Some, is_some, refl, ap, ap₂, sym, ◌∙◌, arith, ⊎_elim}
 use Rattle.std.specs.Prelude.{slice_index, slice_set}
 use Rattle.std.specs.FinMap.Entries.{find}
@@ -7,24 +7,24 @@ use Rattle.std.proofs.lemmas.List.{get_or-set_same, get_or-set_other, length-set
 use Rattle.pv_model.specs.Held.{among}
 use Rattle.pv_model.specs.Tree.{Node, Tree, root, node_at, is_directory, is_directory_at, find_entry, entries_of, parent}
 use Rattle.pv_dirs.specs.Trees.{without_node}
-use Rattle.pv_laws_trees.specs.Kept.{wanted, kept}
+use Rattle.pv_laws_trees.specs.Preserved.{wanted, preserved}
 use Rattle.pv_laws_trees.specs.Tree.{IsSound}
 use Rattle.pv_laws_trees.proofs.Changes.{some-below}
 use Rattle.pv_laws_trees.proofs.Entries.{by_name}
 use Rattle.pv_laws_trees.proofs.Numbered.{keep-some, keep-passes, length-keep}
 use Rattle.pv_laws_trees.proofs.Trees.{ordered, sound, among-entry, parent-entry, parent-root}
-use Rattle.pv_laws_trees.proofs.Keeping.{only-sound, entries-only, find-only, wanted-covers, kept_in_turn}
+use Rattle.pv_laws_trees.proofs.Keeping.{only-sound, entries-only, find-only, wanted-covers, preserved_in_turn}
 use Rattle.pv_tree.specs.Changes.{settled}
-use Rattle.pv_tree.specs.Holding.{held_numbers, held_more, held_less, trimmed}
-use Rattle.pv_tree.specs.Standing.{stored, IsCounted, IsTied}
-use Rattle.pv_laws_trees.proofs.Spelled.{bytes-kept}
+use Rattle.pv_tree.specs.Holding.{held_numbers, held_more, held_less, collected}
+use Rattle.pv_tree.specs.Present.{stored, IsCounted, IsTied}
+use Rattle.pv_laws_trees.proofs.Encoded.{bytes-preserved}
 use Rattle.pv_tree.proofs.Carrying.{carried}
-use Rattle.pv_tree.proofs.Keeping.{is_kept, wanted-counted, trimmed-all, trimmed-one, all-kept}
+use Rattle.pv_tree.proofs.Keeping.{is_preserved, wanted-counted, collected-all, collected-one, all-preserved}
 use Rattle.pv_tree.proofs.Names.{name_count, named-is, names-same, is_positive, positive-is, is-positive, none-positive}
 use Rattle.pv_tree.proofs.Parents.{parent-same}
-use Rattle.pv_tree.proofs.Rooms.{refusal-fits, trimmed-allowed}
+use Rattle.pv_tree.proofs.Rooms.{refusal-fits, collected-allowed}
 
--- ---- numbers in places
+-- ---- numbers in arrays
 
 pub read-same : (xs : List ℕ) (i v : ℕ) → i < length xs → slice_index (slice_set xs i v) i ≡ v
 read-same xs i v below = get_or-set_same xs i v 0 below
@@ -32,15 +32,15 @@ read-same xs i v below = get_or-set_same xs i v 0 below
 pub read-other : (xs : List ℕ) (i j v : ℕ) → j ≢ i → slice_index (slice_set xs i v) j ≡ slice_index xs j
 read-other xs i j v other = get_or-set_other xs i j v 0 other
 
--- ---- what is kept
+-- ---- nodes that are kept
 
 lt-positive : (n : ℕ) → nat_lt 0 n ≡ is_positive n
 lt-positive zero = refl
 lt-positive (suc n) = lt-ltb 0 (suc n) (omega arith)
 
--- more names and holders keep a node
-pub kept-more : (n a b x y : ℕ) → a ≤ b → x ≤ y → is_kept n a x ≡ true → is_kept n b y ≡ true
-kept-more n a b x y names holds is =
+-- more names and references keep a node
+pub preserved-more : (n a b x y : ℕ) → a ≤ b → x ≤ y → is_preserved n a x ≡ true → is_preserved n b y ≡ true
+preserved-more n a b x y names holds is =
     ⊎_elim
     (λ top. or_left (root == n) _ top)
     (λ rest. or_right (root == n) _
@@ -50,34 +50,34 @@ kept-more n a b x y names holds is =
     (or_cases (is_positive a) (is_positive x) rest)))
     (or_cases (root == n) (is_positive a || is_positive x) is)
 
-pub kept-held : (n names holds : ℕ) → 0 < holds → is_kept n names holds ≡ true
-kept-held n names holds more = or_right (root == n) _ (or_right (is_positive names) _ (positive-is holds more))
+pub preserved-held : (n names holds : ℕ) → 0 < holds → is_preserved n names holds ≡ true
+preserved-held n names holds more = or_right (root == n) _ (or_right (is_positive names) _ (positive-is holds more))
 
-pub kept-named : (n names holds : ℕ) → 0 < names → is_kept n names holds ≡ true
-kept-named n names holds more = or_right (root == n) _ (or_left (is_positive names) _ (positive-is names more))
+pub preserved-named : (n names holds : ℕ) → 0 < names → is_preserved n names holds ≡ true
+preserved-named n names holds more = or_right (root == n) _ (or_left (is_positive names) _ (positive-is names more))
 
-settled-kept : (t : Tree) (n names holds : ℕ) → settled t n names holds ≡ cond (is_kept n names holds) t (without_node t n)
-settled-kept t n names holds = ap (λ b. cond ((root == n) || b) t (without_node t n)) (ap₂ (λ a b. a || b) (lt-positive names) (lt-positive holds))
+settled-preserved : (t : Tree) (n names holds : ℕ) → settled t n names holds ≡ cond (is_preserved n names holds) t (without_node t n)
+settled-preserved t n names holds = ap (λ b. cond ((root == n) || b) t (without_node t n)) (ap₂ (λ a b. a || b) (lt-positive names) (lt-positive holds))
 
 some_at : (o : Option Node) → is_directory o ≡ true → (node : Node) × (o ≡ Some node)
 some_at None is = cc
 some_at (Some node) is = (node, refl)
 
--- what is a directory in a trimmed tree was one
-kept-directory : (t : Tree) (held : List ℕ) (n : ℕ) → is_directory_at (kept t held) n ≡ true → is_directory_at t n ≡ true
-kept-directory t held n is =
-    let found = some_at (node_at (kept t held) n) is in
+-- a directory after the collection was one before
+preserved-directory : (t : Tree) (held : List ℕ) (n : ℕ) → is_directory_at (preserved t held) n ≡ true → is_directory_at t n ≡ true
+preserved-directory t held n is =
+    let found = some_at (node_at (preserved t held) n) is in
     ap is_directory ((keep-some (among (wanted t held)) t.nodes n found.0 found.1).1 ∙ sym found.1) ∙ is
 
 module _ (t : Tree) (parents names holds : List ℕ) (c : IsCounted t parents names holds) where
   s : IsSound t
   s = sound t c.well_formed
 
-  -- a node has a place
+  -- the number of a node is within the arrays
   pub below : (n : ℕ) → is_some (node_at t n) ≡ true → n < 4097
   below n is = omega (arith, some-below t n is, c.well_formed.numbers, c.few)
 
-  -- what is no node has no name
+  -- a number without a node has no names
   pub unnamed : (n : ℕ) → is_some (node_at t n) ≡ false → name_count t n ≡ 0
   unnamed n none =
       none-positive (name_count t n)
@@ -87,36 +87,36 @@ module _ (t : Tree) (parents names holds : List ℕ) (c : IsCounted t parents na
       (λ no_name. no_name)
       (cases_Bool (is_positive (name_count t n))))
 
-  -- trimming leaves what is stored
-  pub trimmed-tied : IsTied (trimmed t holds) parents names holds
-  trimmed-tied =
+  -- the collection preserves the stored data
+  pub collected-tied : IsTied (collected t holds) parents names holds
+  collected-tied =
       let held = held_numbers holds in
-      let u : Tree = kept t held in
+      let u : Tree = preserved t held in
       let covers = wanted-covers t held in
       let r = only-sound t (wanted t held) s covers in
       let same = find-only t (wanted t held) s covers in
       record {
-        counted = carried t u parents names holds c parents names holds r refl (trimmed-allowed t holds (refusal-fits t c.short c.fits)) (bytes-kept t held c.bytes) refl refl refl
+        counted = carried t u parents names holds c parents names holds r refl (collected-allowed t holds (refusal-fits t c.short c.fits)) (bytes-preserved t held c.bytes) refl refl refl
             (λ n more.
-            ap is_some (keep-passes (among (wanted t held)) t.nodes n (wanted-counted t holds n ∙ kept-held n (name_count t n) (slice_index holds n) more)) ∙ c.held_are_nodes n more)
+            ap is_some (keep-passes (among (wanted t held)) t.nodes n (wanted-counted t holds n ∙ preserved-held n (name_count t n) (slice_index holds n) more)) ∙ c.held_are_nodes n more)
             (λ n is.
-            c.parents_stored n (kept-directory t held n is)
+            c.parents_stored n (preserved-directory t held n is)
             ∙ ap stored (sym (parent-same t u s r n is (λ e q found. same e q ∙ found) (λ e q found. sym (same e q) ∙ found))))
             (λ n. c.names_counted n ∙ sym (names-same t u (length-keep (among (wanted t held)) t.nodes) (entries-only t (wanted t held) s covers) n));
-        is_trimmed = kept_in_turn t held held s (λ n is. is);
+        is_collected = preserved_in_turn t held held s (λ n is. is);
       }
 
-  -- where all nodes but one are kept, to look at that one is enough
-  pub settled-is : (n : ℕ) → ((m : ℕ) → m ≢ n → is_some (node_at t m) ≡ true → is_kept m (name_count t m) (slice_index holds m) ≡ true)
-      → settled t n (slice_index names n) (slice_index holds n) ≡ trimmed t holds
+  -- if all nodes except one are kept, settling that one is enough
+  pub settled-is : (n : ℕ) → ((m : ℕ) → m ≢ n → is_some (node_at t m) ≡ true → is_preserved m (name_count t m) (slice_index holds m) ≡ true)
+      → settled t n (slice_index names n) (slice_index holds n) ≡ collected t holds
   settled-is n others =
-      settled-kept t n (slice_index names n) (slice_index holds n)
-      ∙ ap (λ a. cond (is_kept n a (slice_index holds n)) t (without_node t n)) (c.names_counted n)
+      settled-preserved t n (slice_index names n) (slice_index holds n)
+      ∙ ap (λ a. cond (is_preserved n a (slice_index holds n)) t (without_node t n)) (c.names_counted n)
       ∙ ⊎_elim
       (λ is. ap (λ b. cond b t (without_node t n)) is
-      ∙ sym (trimmed-all t holds (λ m there. ⊎_elim (λ same. ap (λ k. is_kept k (name_count t k) (slice_index holds k)) same ∙ is) (λ other. others m other there) (cases_eq m n))))
-      (λ out. ap (λ b. cond b t (without_node t n)) out ∙ sym (trimmed-one t holds n out others))
-      (cases_Bool (is_kept n (name_count t n) (slice_index holds n)))
+      ∙ sym (collected-all t holds (λ m there. ⊎_elim (λ same. ap (λ k. is_preserved k (name_count t k) (slice_index holds k)) same ∙ is) (λ other. others m other there) (cases_eq m n))))
+      (λ out. ap (λ b. cond b t (without_node t n)) out ∙ sym (collected-one t holds n out others))
+      (cases_Bool (is_preserved n (name_count t n) (slice_index holds n)))
 
 -- ---- stored parents
 
@@ -148,7 +148,7 @@ directory-some (Some node) is = refl
 pub directory-below-seen : (t u : Tree) (parents names holds : List ℕ) → IsTied t parents names holds → t ≡ u → (n : ℕ) → is_directory_at u n ≡ true → n < 4097
 directory-below-seen t u parents names holds tied same n is = below-seen t u parents names holds tied same n (directory-some (node_at u n) is)
 
--- ---- holders
+-- ---- references
 
 module _ (t : Tree) (parents names holds : List ℕ) (tied : IsTied t parents names holds) (n : ℕ) where
   c : IsCounted t parents names holds
@@ -157,7 +157,7 @@ module _ (t : Tree) (parents names holds : List ℕ) (tied : IsTied t parents na
   pub place : is_some (node_at t n) ≡ true → n < length holds
   place is = omega (arith, below t parents names holds c n is, c.places_of_holds)
 
-  -- other numbers of holders, no node of which is missing
+  -- other reference counts, where each referenced node exists
   counted-with : (other : List ℕ) → length other ≡ length holds → ((m : ℕ) → 0 < slice_index other m → is_some (node_at t m) ≡ true) → IsCounted t parents names other
   counted-with other long there =
       carried t t parents names holds c parents names other (sound t c.well_formed) refl (refusal-fits t c.short c.fits) c.bytes refl refl long there c.parents_stored c.names_counted
@@ -172,8 +172,8 @@ module _ (t : Tree) (parents names holds : List ℕ) (tied : IsTied t parents na
         counted = counted-with more (length-set holds n (slice_index holds n + 1)) (λ m held.
             ⊎_elim (λ same. ap (λ k. is_some (node_at t k)) same ∙ is)
             (λ other. c.held_are_nodes m (omega (arith, read-other holds n m (slice_index holds n + 1) other))) (cases_eq m n));
-        is_trimmed = trimmed-all t more (λ m there.
-            kept-more m (name_count t m) (name_count t m) (slice_index holds m) (slice_index more m) (omega arith) (grows m) (all-kept t holds tied.is_trimmed m there));
+        is_collected = collected-all t more (λ m there.
+            preserved-more m (name_count t m) (name_count t m) (slice_index holds m) (slice_index more m) (omega arith) (grows m) (all-preserved t holds tied.is_collected m there));
       }
 
   pub counted-less : 0 < slice_index holds n → IsCounted t parents names (held_less holds n)
@@ -184,8 +184,8 @@ module _ (t : Tree) (parents names holds : List ℕ) (tied : IsTied t parents na
       ⊎_elim (λ same. ap (λ k. is_some (node_at t k)) same ∙ c.held_are_nodes n held)
       (λ other. c.held_are_nodes m (omega (arith, read-other holds n m (slice_index holds n - 1) other))) (cases_eq m n))
 
-  -- a node that is let go goes, or stays
-  pub settled-less : 0 < slice_index holds n → settled t n (slice_index names n) (slice_index (held_less holds n) n) ≡ trimmed t (held_less holds n)
+  -- a node whose reference is released is removed, or stays
+  pub settled-less : 0 < slice_index holds n → settled t n (slice_index names n) (slice_index (held_less holds n) n) ≡ collected t (held_less holds n)
   settled-less held =
       settled-is t parents names (held_less holds n) (counted-less held) n (λ m other there.
-      ap (is_kept m (name_count t m)) (read-other holds n m (slice_index holds n - 1) other) ∙ all-kept t holds tied.is_trimmed m there)
+      ap (is_preserved m (name_count t m)) (read-other holds n m (slice_index holds n - 1) other) ∙ all-preserved t holds tied.is_collected m there)

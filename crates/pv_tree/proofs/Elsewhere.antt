@@ -1,4 +1,4 @@
--- What directories have under names that no change is of.
+-- Lookups of names that a change does not affect.
 use Rattle.std.proofs.Common.{◌≡◌, ℕ, ◌<◌, true, [], ◌∷◌, List, length, None, Result, Ok, Err, refl, ap, ◌∙◌, arith}
 use Rattle.std.specs.Prelude.{OnOk, OnErr}
 use Rattle.pv_inodes.specs.declared.space.Space.{Space}
@@ -7,12 +7,12 @@ use Rattle.pv_model.specs.Bytes.{Bytes}
 use Rattle.pv_model.specs.Effect.{bytes_of, overwrite, resize}
 use Rattle.pv_model.specs.Tree.{Tree, node_at, is_directory_at, find_entry, with_entry, without_entry, new_number, with_new_node, IsWellFormed}
 use Rattle.pv_laws_trees.specs.Found.{Alike, AlikeBut, AlikeButTwo}
-use Rattle.pv_laws_trees.proofs.Found.{alike-then, alike-without, alike-new, alike-moved, alike-kept, alike-content}
+use Rattle.pv_laws_trees.proofs.Found.{alike-then, alike-without, alike-new, alike-moved, alike-preserved, alike-content}
 use Rattle.pv_tree.specs.Changes.{new_node, overwritten, resized}
-use Rattle.pv_tree.specs.Holding.{held_numbers, trimmed}
+use Rattle.pv_tree.specs.Holding.{held_numbers, collected}
 use Rattle.pv_tree.proofs.Making.{new-entries}
 
--- ---- equal trees have the same
+-- ---- equal trees have the same entries
 
 pub alike-along : (t u v w : Tree) → t ≡ u → w ≡ v → Alike (find_entry t) (find_entry v) → Alike (find_entry u) (find_entry w)
 alike-along t u v w before after alike d q = ap (λ (x : Tree). find_entry x d q) after ∙ alike d q ∙ ap (λ (x : Tree). find_entry x d q) before
@@ -38,23 +38,23 @@ pub alike-made : (t : Tree) (d : ℕ) (name : Bytes) (k : NewNode) → is_direct
     → AlikeBut d name (find_entry t) (find_entry (with_new_node t d name (new_node k)))
 alike-made t d name k is free within = alike-new t d name (new_node k) is free (new-entries k) (omega arith)
 
--- an entry less, and trimmed
+-- a removed entry, then the collection
 pub alike-unlinked : (t : Tree) (d : ℕ) (name : Bytes) (holds : List ℕ) → is_directory_at t d ≡ true → IsWellFormed (without_entry t d name)
-    → AlikeBut d name (find_entry t) (find_entry (trimmed (without_entry t d name) holds))
+    → AlikeBut d name (find_entry t) (find_entry (collected (without_entry t d name) holds))
 alike-unlinked t d name holds is wf =
-    alike-then d name (find_entry t) (find_entry (without_entry t d name)) (find_entry (trimmed (without_entry t d name) holds))
-    (alike-without t d name is) (alike-kept (without_entry t d name) wf (held_numbers holds))
+    alike-then d name (find_entry t) (find_entry (without_entry t d name)) (find_entry (collected (without_entry t d name) holds))
+    (alike-without t d name is) (alike-preserved (without_entry t d name) wf (held_numbers holds))
 
--- a node under another name, and trimmed
+-- a node under another name, then the collection
 pub alike-renamed : (t : Tree) → IsWellFormed t → (d : ℕ) (name : Bytes) (e : ℕ) (new : Bytes) (n : ℕ) (holds : List ℕ) → is_directory_at t d ≡ true → is_directory_at t e ≡ true
     → IsWellFormed (with_entry (without_entry t d name) e new n)
-    → AlikeButTwo d name e new (find_entry t) (find_entry (trimmed (with_entry (without_entry t d name) e new n) holds))
+    → AlikeButTwo d name e new (find_entry t) (find_entry (collected (with_entry (without_entry t d name) e new n) holds))
 alike-renamed t w d name e new n holds from to wf =
     let u : Tree = with_entry (without_entry t d name) e new n in
     let both = alike-moved t w d name e new n from to in
-    (both.0, both.1, alike-then e new both.0 (find_entry u) (find_entry (trimmed u holds)) both.2 (alike-kept u wf (held_numbers holds)))
+    (both.0, both.1, alike-then e new both.0 (find_entry u) (find_entry (collected u holds)) both.2 (alike-preserved u wf (held_numbers holds)))
 
--- ---- bytes of files
+-- ---- contents of files
 
 pub alike-answered : (t u v : Tree) (a : Result (Unit {0}) Space) → OnOk a (u ≡ v) → OnErr a (u ≡ t) → Alike (find_entry t) (find_entry v) → Alike (find_entry t) (find_entry u)
 alike-answered t u v (Ok done) ok err alike = alike-along t t v u refl ok alike

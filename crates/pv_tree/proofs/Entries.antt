@@ -8,19 +8,19 @@ use Rattle.pv_model.specs.Tree.{Entries}
 pub use Rattle.pv_dirs.specs.Counts.{count_in}
 pub use Rattle.pv_dirs.proofs.Counts.{one_if, count-cons, count-put, count-most}
 use Rattle.pv_laws_trees.proofs.Changes.{cases_name}
-use Rattle.pv_laws_trees.proofs.Entries.{by_name, is_other, tied-same, find-put_same, find-put_other, find-without_same, find-without_other, told, tell}
+use Rattle.pv_laws_trees.proofs.Entries.{by_name, is_other, tied-same, find-put_same, find-put_other, find-without_same, find-without_other, reported, report}
 
--- entries in order that find the same are the same
+-- sorted entries with the same lookups are equal
 pub same_found : (es fs : Entries) → is_sorted by_name es ≡ true → is_sorted by_name fs ≡ true → ((q : Bytes) → find by_name q es ≡ find by_name q fs) → es ≡ fs
-same_found es fs a b same = same_entries by_name nat_list_cmp_total (λ x y tied. tied-same x y (ap is_eq tied)) es fs (tell _ a) (tell _ b) same
+same_found es fs a b same = same_entries by_name nat_list_cmp_total (λ x y tied. tied-same x y (ap is_eq tied)) es fs (report _ a) (report _ b) same
 
 sorted_put : (name : Bytes) (n : ℕ) (es : Entries) → is_sorted by_name es ≡ true → is_sorted by_name (put by_name name n es) ≡ true
-sorted_put name n es sorted = told _ (is_sorted-put by_name nat_list_cmp_total name n es (tell _ sorted))
+sorted_put name n es sorted = reported _ (is_sorted-put by_name nat_list_cmp_total name n es (report _ sorted))
 
 pub sorted_without : (name : Bytes) (es : Entries) → is_sorted by_name es ≡ true → is_sorted by_name (where_key by_name (is_other name) es) ≡ true
-sorted_without name es sorted = told _ (is_sorted-where_key by_name (is_other name) es (tell _ sorted))
+sorted_without name es sorted = reported _ (is_sorted-where_key by_name (is_other name) es (report _ sorted))
 
--- an entry that was taken away and is put back
+-- an entry that is removed and restored
 pub put_back : (name : Bytes) (n : ℕ) (es : Entries) → is_sorted by_name es ≡ true → find by_name name es ≡ Some n
     → put by_name name n (where_key by_name (is_other name) es) ≡ es
 put_back name n es sorted found =
@@ -31,7 +31,7 @@ put_back name n es sorted found =
     (λ other. find-put_other q name n less other ∙ find-without_other q name es other)
     (cases_name q name))
 
--- an entry that takes another's place
+-- an entry that replaces another
 pub put_over : (name : Bytes) (n : ℕ) (es : Entries) → is_sorted by_name es ≡ true
     → put by_name name n (where_key by_name (is_other name) es) ≡ put by_name name n es
 put_over name n es sorted =
@@ -42,7 +42,7 @@ put_over name n es sorted =
     (λ other. find-put_other q name n less other ∙ find-without_other q name es other ∙ sym (find-put_other q name n es other))
     (cases_name q name))
 
--- where no entry has a name, none is taken away
+-- if no entry has a name, removing it changes nothing
 pub none_taken : (name : Bytes) (es : Entries) → is_sorted by_name es ≡ true → find by_name name es ≡ None → where_key by_name (is_other name) es ≡ es
 none_taken name es sorted none =
     let less = where_key by_name (is_other name) es in
@@ -52,10 +52,10 @@ none_taken name es sorted none =
     (λ other. find-without_other q name es other)
     (cases_name q name))
 
--- how many entries there are with one more, and with one less
+-- the number of entries with one more, and with one less
 pub length_more : (name : Bytes) (n : ℕ) (es : Entries) → is_sorted by_name es ≡ true → find by_name name es ≡ None → length (put by_name name n es) ≡ suc (length es)
 length_more name n es sorted none =
-    length-put by_name nat_list_cmp_total name n es (tell _ sorted) ∙ ap (λ o. cond (is_some o) (length es) (length es + 1)) none ∙ omega arith
+    length-put by_name nat_list_cmp_total name n es (report _ sorted) ∙ ap (λ o. cond (is_some o) (length es) (length es + 1)) none ∙ omega arith
 
 -- ---- the entries for a node
 

@@ -11,19 +11,19 @@ use Rattle.pv_model.specs.Tree.{Entries, Node, directory_node, file_node, link_n
 use Rattle.pv_dirs.specs.Counts.{count_in}
 use Rattle.pv_dirs.specs.Trees.{total_need}
 use Rattle.pv_dirs.proofs.Counts.{count-cons, one_if}
-use Rattle.pv_laws_trees.specs.Kept.{EachIsNamed}
-use Rattle.pv_laws_trees.specs.Spelled.{AllBytes}
+use Rattle.pv_laws_trees.specs.Preserved.{EachIsNamed}
+use Rattle.pv_laws_trees.specs.Encoded.{AllBytes}
 use Rattle.pv_laws_trees.proofs.Entries.{by_name, names_node-find}
-use Rattle.pv_laws_trees.proofs.Keeping.{kept_all}
+use Rattle.pv_laws_trees.proofs.Keeping.{preserved_all}
 use Rattle.pv_laws_trees.proofs.Trees.{sound, ordered, entry-among, entry-parent, parent-unnamed, parent-root}
 use Rattle.pv_tree.specs.Holding.{held_numbers}
-use Rattle.pv_tree.specs.Standing.{stored, IsTied}
-use Rattle.pv_tree.proofs.Beginning.{zeros-at}
+use Rattle.pv_tree.specs.Present.{stored, IsTied}
+use Rattle.pv_tree.proofs.Prefix.{zeros-at}
 use Rattle.pv_tree.proofs.Names.{name_count, names_from, names-cons, named-is, positive-is, is-positive, entries-most}
 use Rattle.pv_tree.proofs.Counting.{read-other}
 use Rattle.pv_tree.proofs.Rooms.{fits-from}
 
--- the names that a node has in the directories before one
+-- the number of names of a node in the directories before one
 abbrev pub before_in : Numbered Node → ℕ → ℕ → ℕ
 before_in xs zero n = 0
 before_in xs (suc d) n = before_in xs d n + count_in n (entries_of (at_number xs d))
@@ -32,7 +32,7 @@ before-cons : (o : Option Node) (xs : Numbered Node) (d n : ℕ) → before_in (
 before-cons o xs zero n = omega arith
 before-cons o xs (suc d) n = omega (arith, before-cons o xs d n)
 
--- in all directories they are all of its names
+-- in all directories, these are all of its names
 before-all_from : (k : ℕ) (xs : Numbered Node) (n : ℕ) → before_in xs (length xs) n ≡ length (names_from n k xs)
 before-all_from k [] n = refl
 before-all_from k (o ∷ xs) n = omega (arith, before-cons o xs (length xs) n, names-cons n k o xs, before-all_from (suc k) xs n)
@@ -41,7 +41,7 @@ before-most : (xs : Numbered Node) (d n : ℕ) → ((e : ℕ) → count_in n (en
 before-most xs zero n few = omega arith
 before-most xs (suc d) n few = omega (arith, few d, before-most xs d n few)
 
--- a node that is counted stands in an entry
+-- a node that is counted has an entry
 count_entry : (n : ℕ) (es : Entries) → 0 < count_in n es → names_node n es ≡ true
 count_entry n [] some = absurd (omega arith)
 count_entry n (e ∷ es) some = elim (cases_eq e.1 n) [
@@ -51,11 +51,11 @@ count_entry n (e ∷ es) some = elim (cases_eq e.1 n) [
       or_right (e.1 == n) (list_any (λ f. f.1 == n) es) (count_entry n es (omega (arith, some, count-cons n e es, none)))
 ]
 
--- the parents before any entry is looked at
+-- the parents before any entry is read
 abbrev pub first_parents : List ℕ
 first_parents = slice_set (replicate 4097 0) 1 1
 
--- a node stands in an entry of a directory, which is stored as its parent
+-- a node has an entry in a directory that is stored as its parent
 pub record IsAbove (t : Tree) (parents : List ℕ) (n : ℕ) : Type 0 where
   pub above : ℕ
   pub entry : 0 < count_in n (entries_at t above)
@@ -79,14 +79,14 @@ gathered_none t = record {
 }
 
 module _ (t : Tree) (d : ℕ) (parents names : List ℕ) (so_far : IsGathered t d parents names) where
-  -- there is room to count
+  -- the counts do not overflow
   pub gathered_few : is_too_long t ≡ false → (n : ℕ) → slice_index names n ≤ 2540 * d
   gathered_few short n = omega (arith, so_far.counted n, before-most t.nodes d n (λ e. most n e))
     where
       most : (n e : ℕ) → count_in n (entries_of (at_number t.nodes e)) ≤ 2540
       most n e = omega (arith, Rattle.pv_dirs.proofs.Counts.count-most n (entries_at t e), entries-most t short e)
 
-  -- what is no directory has no entries
+  -- a node that is not a directory has no entries
   pub gathered_other : is_directory_at t d ≡ false → IsGathered t (d + 1) parents names
   gathered_other other =
       let next : d + 1 ≡ suc d = omega arith in
@@ -126,7 +126,7 @@ module _ (t : Tree) (d : ℕ) (parents names : List ℕ) (so_far : IsGathered t 
 
 -- ---- all entries are counted
 
--- no node is too long where each has an allowed length
+-- no node is too long if each has an allowed length
 short_from : (t : Tree) (g : ℕ) → g ≡ greatest_length t.version → ((n : ℕ) (node : Node) → node_at t n ≡ Some node → node_length t.version node ≤ g) → is_too_long t ≡ false
 unfolding is_too_long
 short_from t g is each = ap (λ k. list_any (λ node. ltb k (node_length t.version node)) (present t.nodes)) (sym is) ∙ none t.nodes each
@@ -138,7 +138,7 @@ short_from t g is each = ap (λ k. list_any (λ node. ltb k (node_length t.versi
         ap (λ b. b || list_any (λ x. ltb g (node_length t.version x)) (present xs)) (le-ltb g (node_length t.version node) (each 0 node refl)) ∙ none xs (λ n x at. each (suc n) x at)
 
 module _ (bytes : Bytes) (t : Tree) (is : IsImageOf bytes t) where
-  -- a number of a node is that of an inode
+  -- the number of a node is that of an inode
   node_number : (n : ℕ) (node : Node) → node_at t n ≡ Some node → (1 ≤ n) × (n ≤ t.inodes)
   node_number zero node at = let nothing : Some node ≡ None = sym at ∙ is.well_formed.no_zero in cc
   node_number (suc n) node at = (omega arith, omega (arith, Rattle.pv_laws_trees.proofs.Changes.some-below t (suc n) (ap is_some at), is.well_formed.numbers))
@@ -165,7 +165,7 @@ module _ (bytes : Bytes) (t : Tree) (is : IsImageOf bytes t) where
       unnamed_root n None at used none = let nothing : false ≡ true = sym (ap is_some at) ∙ used in cc
       unnamed_root n (Some node) at used none = is.each_named n node at none
 
-  module _ (parents names holds : List ℕ) (all : IsGathered t (length t.nodes) parents names) (room : total_need t ≤ t.blocks) (spelled : AllBytes t) (unheld : holds ≡ replicate 4097 0) where
+  module _ (parents names holds : List ℕ) (all : IsGathered t (length t.nodes) parents names) (room : total_need t ≤ t.blocks) (encoded : AllBytes t) (unheld : holds ≡ replicate 4097 0) where
     all_names : (n : ℕ) → before_in t.nodes (length t.nodes) n ≡ name_count t n
     all_names n = before-all_from 0 t.nodes n
 
@@ -198,7 +198,7 @@ module _ (bytes : Bytes) (t : Tree) (is : IsImageOf bytes t) where
         few = is.inodes_allowed.1;
         fits = fits-from t is.well_formed.numbers is.well_formed.no_zero room;
         short = image-short;
-        bytes = spelled;
+        bytes = encoded;
         held_are_nodes = λ n held. absurd (omega (arith, ap (λ (xs : List ℕ). slice_index xs n) unheld, zeros-at 4097 n));
         places_of_parents = all.places_of_parents;
         places_of_names = all.places_of_names;
@@ -206,5 +206,5 @@ module _ (bytes : Bytes) (t : Tree) (is : IsImageOf bytes t) where
         parents_stored = parents_are;
         names_counted = λ n. all.counted n ∙ all_names n;
       };
-      is_trimmed = kept_all t (held_numbers holds) image-named;
+      is_collected = preserved_all t (held_numbers holds) image-named;
     }

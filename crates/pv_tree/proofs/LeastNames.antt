@@ -9,7 +9,7 @@ use Rattle.pv_dirs.specs.Listing.{IsNextNameOf}
 use Rattle.pv_tree.specs.NodeNames.{is_after, first_after}
 use Rattle.pv_tree.proofs.Rising.{Named, next-found, not-after_itself}
 
--- after no name all come
+-- all names follow if there is no last one
 pub first-of_all : (names : List Named) → first_after None names ≡ first_of names
 first-of_all [] = refl
 first-of_all (x ∷ xs) = refl
@@ -24,7 +24,7 @@ module _ (t : Tree) (w : IsWellFormed t) where
       let none = (parent-none_named t n up).1 in
       next-found t (ordered t w.each_node) n None None (λ other found. absurd (none other.0 other.1 found)) ∙ first-of_all (names_of t n)
 
-  -- a directory has the one name that stands in the directory above it
+  -- a directory has exactly one name, which is in its parent
   pub least-above : (n d : ℕ) (name : Bytes) → IsTrue (is_directory_at t n) → IsNextNameOf t d n None (Some name) → Some (d, name) ≡ least_name t n
   least-above n d name is next =
       next-found t (ordered t w.each_node) n None (Some (d, name)) (record {

@@ -1,9 +1,14 @@
 -- Lemmas of the tree with its counts.
--- - Names counts names, Keeping has what trimming takes, Carrying builds what is stored after every change, Parents has parents
--- - single changes: Counting, Linking, Making (new nodes), Made (what is then stored), Moving, Contents (a file's bytes), Elsewhere
---   (names that no change is of); Rooms (refusals), Limits (the sizes of both versions), Entries, Beginning (the root alone)
--- - names of a node: Rising (lists that rise in the order of names), NextOnes (from one name to the next), LeastNames (the least of all). Lending: runs of lent bytes
--- - an image that was written before: Gathering (what a pass over entries has found so far), Spelling (names and contents are bytes)
+--
+-- - Names counts names, Keeping has the nodes that the collection removes, Carrying builds the stored data after every
+--   change, Parents has parents
+-- - single changes: Counting, Linking, Making (new nodes), Made (the stored data after that), Moving, Contents (the
+--   contents of a file), Elsewhere (names that a change does not affect); Rooms (errors), Limits (the sizes of both
+--   versions), Entries, Prefix (the tree with only a root)
+-- - names of a node: Rising (lists that ascend in the order of names), NextOnes (from one name to the next), LeastNames
+--   (the least of all). Lending: runs of borrowed bytes
+-- - an existing image: Gathering (the data that a pass over entries has collected so far), Encoding (names and contents
+--   are bytes)
 pub mod Entries
 pub mod Limits
 pub mod Names
@@ -17,10 +22,10 @@ pub mod Making
 pub mod Made
 pub mod Moving
 pub mod Elsewhere
-pub mod Beginning
+pub mod Prefix
 pub mod Contents
 pub mod Gathering
-pub mod Spelling
+pub mod Encoding
 pub mod Rising
 pub mod NextOnes
 pub mod LeastNames

@@ -1,25 +1,25 @@
--- The sizes of both versions, beside one another.
+-- The sizes of both versions.
 use Rattle.std.proofs.Common.{ℕ, suc, ◌*◌, ◌<◌, ◌≤◌, arith}
 use Rattle.pv_model.specs.declared.version.Version.{Version}
 use Rattle.pv_model.specs.declared.version.Version.TheVariants.{V1, V2}
 use Rattle.pv_model.specs.Room.{entry_length, greatest_entries, greatest_length}
 
--- a directory has room for one entry more
+-- a directory has room for one more entry
 pub entries_allowed : (v : Version) (n : ℕ) → n < greatest_entries v → entry_length v * suc n ≤ greatest_length v
 entries_allowed V1 n few = omega arith
 entries_allowed V2 n few = omega arith
 
--- or it has not
+-- or it does not
 pub entries_past : (v : Version) (n : ℕ) → greatest_entries v ≤ n → greatest_length v < entry_length v * suc n
 entries_past V1 n many = omega arith
 entries_past V2 n many = omega arith
 
--- a directory that is not too long has at most so many entries
+-- a directory that is not too long has at most 2,540 entries
 pub entries_few : (v : Version) (n : ℕ) → entry_length v * n ≤ greatest_length v → n ≤ 2540
 entries_few V1 n within = omega arith
 entries_few V2 n within = omega arith
 
--- the text of a link is not too long
+-- the target of a symbolic link is not too long
 pub text_allowed : (v : Version) → 1023 ≤ greatest_length v
 text_allowed V1 = omega arith
 text_allowed V2 = omega arith

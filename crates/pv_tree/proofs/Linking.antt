@@ -1,4 +1,4 @@
--- What is stored of a tree, as nodes get names and lose them.
+-- The stored data of a tree, as nodes get and lose names.
 use Rattle.std.proofs.Common.{◌≡◌, ◌≢◌, ℕ, ◌+◌, ◌-◌, ◌^◌, ◌<◌, ◌≤◌, true, false, cond, List, [], None, Some, is_some, refl, ap, ap₂, sym, ◌∙◌, arith, ⊎_elim}
 use Rattle.std.specs.Prelude.{slice_index, slice_set}
 use Rattle.std.proofs.lemmas.Bool.{cases_eq, eq-eqb, ne_eqb}
@@ -6,22 +6,22 @@ use Rattle.std.proofs.lemmas.List.{length-set}
 use Rattle.pv_model.specs.Bytes.{Bytes}
 use Rattle.pv_model.specs.Calls.Paths.{entries_there}
 use Rattle.pv_model.specs.Tree.{Tree, root, node_at, entries_at, is_directory_at, find_entry, parent, with_entry, without_entry, is_name}
-use Rattle.pv_laws_trees.specs.Spelled.{are_bytes}
-use Rattle.pv_laws_trees.specs.Tree.{IsSound, Stands}
-use Rattle.pv_laws_trees.proofs.Above.{stands-reached}
+use Rattle.pv_laws_trees.specs.Encoded.{are_bytes}
+use Rattle.pv_laws_trees.specs.Tree.{IsSound, Appears}
+use Rattle.pv_laws_trees.proofs.Above.{appears-reached}
 use Rattle.pv_laws_trees.proofs.Changes.{SameShape, shape-with_entry, shape-without_entry, has_entry-directory, with_entry-cases, with_entry-stays, without_entry-was, without_entry-stays}
 use Rattle.pv_laws_trees.proofs.Edits.{sound-with_entry, sound-without_entry}
 use Rattle.pv_laws_trees.proofs.Rooms.{no_larger-without}
-use Rattle.pv_laws_trees.proofs.Spelled.{bytes-with_entry, bytes-without_entry}
+use Rattle.pv_laws_trees.proofs.Encoded.{bytes-with_entry, bytes-without_entry}
 use Rattle.pv_laws_trees.proofs.Trees.{ordered, sound, parent-unnamed}
 use Rattle.pv_tree.specs.Changes.{settled}
-use Rattle.pv_tree.specs.Holding.{trimmed}
+use Rattle.pv_tree.specs.Holding.{collected}
 use Rattle.pv_tree.specs.Rooms.{refusal}
-use Rattle.pv_tree.specs.Standing.{stored, IsCounted, IsTied}
+use Rattle.pv_tree.specs.Present.{stored, IsCounted, IsTied}
 use Rattle.pv_tree.proofs.Carrying.{carried}
-use Rattle.pv_tree.proofs.Counting.{below, read-same, read-other, kept-more, settled-is}
+use Rattle.pv_tree.proofs.Counting.{below, read-same, read-other, preserved-more, settled-is}
 use Rattle.pv_tree.proofs.Entries.{one_if}
-use Rattle.pv_tree.proofs.Keeping.{trimmed-all, all-kept}
+use Rattle.pv_tree.proofs.Keeping.{collected-all, all-preserved}
 use Rattle.pv_tree.proofs.Names.{name_count, names-with_entry, names-without_entry, names-most}
 use Rattle.pv_tree.proofs.Parents.{parent-same}
 use Rattle.pv_tree.proofs.Rooms.{smaller-allowed}
@@ -32,18 +32,18 @@ one_if-same m n same = ap (λ b. cond b 1 0) (eq-eqb m n (sym same))
 pub one_if-other : (m n : ℕ) → n ≢ m → one_if m n ≡ 0
 one_if-other m n other = ap (λ b. cond b 1 0) (ne_eqb m n (λ same. other (sym same)))
 
--- ---- one name more
+-- ---- one more name
 
 module _ (t : Tree) (parents names holds : List ℕ) (tied : IsTied t parents names holds) where
   c : IsCounted t parents names holds
   c = tied.counted
 
-  -- a count of names has room for one more
+  -- the count of names does not overflow
   pub count-fits : (n : ℕ) → slice_index names n + 1 < 2 ^ 32
   count-fits n = omega (arith, c.names_counted n, names-most t c.short n, c.well_formed.numbers, c.few)
 
 module _ (t : Tree) (parents names holds : List ℕ) (tied : IsTied t parents names holds) (d : ℕ) (name : Bytes) (n : ℕ)
-    (stands : Stands t d) (free : find_entry t d name ≡ None) (good : is_name t.version name ≡ true) (spelled : are_bytes name ≡ true) (there : is_some (node_at t n) ≡ true) (plain : is_directory_at t n ≡ false) where
+    (appears : Appears t d) (free : find_entry t d name ≡ None) (good : is_name t.version name ≡ true) (encoded : are_bytes name ≡ true) (there : is_some (node_at t n) ≡ true) (plain : is_directory_at t n ≡ false) where
   abbrev u : Tree
   u = with_entry t d name n
 
@@ -54,10 +54,10 @@ module _ (t : Tree) (parents names holds : List ℕ) (tied : IsTied t parents na
   sl = sound t cl.well_formed
 
   shape : SameShape t u
-  shape = shape-with_entry t d name n stands.0 sl.each_node good
+  shape = shape-with_entry t d name n appears.0 sl.each_node good
 
   r : IsSound u
-  r = sound-with_entry t sl d name n stands.0 (stands-reached t sl d stands.1) free good there
+  r = sound-with_entry t sl d name n appears.0 (appears-reached t sl d appears.1) free good there
       (λ top. let is = sl.root_is_directory in let isnt : is_directory_at t root ≡ false = ap (is_directory_at t) (sym top) ∙ plain in cc) (λ is. cc)
 
   abbrev counts : List ℕ
@@ -67,41 +67,41 @@ module _ (t : Tree) (parents names holds : List ℕ) (tied : IsTied t parents na
   same-parent m is =
       let other : m ≢ n = λ same. let isnt : is_directory_at t m ≡ false = ap (is_directory_at t) same ∙ plain in let was = sym (shape.directory m) ∙ is in cc in
       parent-same t u sl r m is
-      (λ e q found. with_entry-stays t d name stands.0 n e q m found (λ here same. let none = ap₂ (find_entry t) here same ∙ free in cc))
-      (λ e q found. ⊎_elim (λ new. absurd (other new.2)) (λ old. old.1) (with_entry-cases t d name stands.0 n e q m found))
+      (λ e q found. with_entry-stays t d name appears.0 n e q m found (λ here same. let none = ap₂ (find_entry t) here same ∙ free in cc))
+      (λ e q found. ⊎_elim (λ new. absurd (other new.2)) (λ old. old.1) (with_entry-cases t d name appears.0 n e q m found))
 
   counted-names : (m : ℕ) → slice_index counts m ≡ name_count u m
   counted-names m =
       ⊎_elim
       (λ same. ap (slice_index counts) same ∙ read-same names n (slice_index names n + 1) (omega (arith, below t parents names holds cl n there, cl.places_of_names))
-      ∙ omega (arith, cl.names_counted n, names-with_entry t n d name n stands.0 free, one_if-same n n refl) ∙ ap (name_count u) (sym same))
-      (λ other. read-other names n m (slice_index names n + 1) other ∙ omega (arith, cl.names_counted m, names-with_entry t m d name n stands.0 free, one_if-other n m other))
+      ∙ omega (arith, cl.names_counted n, names-with_entry t n d name n appears.0 free, one_if-same n n refl) ∙ ap (name_count u) (sym same))
+      (λ other. read-other names n m (slice_index names n + 1) other ∙ omega (arith, cl.names_counted m, names-with_entry t m d name n appears.0 free, one_if-other n m other))
       (cases_eq m n)
 
   pub linked-tied : refusal u ≡ None → IsTied u parents counts holds
   linked-tied allowed =
       record {
-        counted = carried t u parents names holds cl parents counts holds r refl allowed (bytes-with_entry t d name n stands.0 spelled cl.bytes)
+        counted = carried t u parents names holds cl parents counts holds r refl allowed (bytes-with_entry t d name n appears.0 encoded cl.bytes)
             refl (length-set names n (slice_index names n + 1)) refl (λ m more. shape.there m ∙ cl.held_are_nodes m more)
             (λ m is. cl.parents_stored m (sym (shape.directory m) ∙ is) ∙ ap stored (sym (same-parent m is))) counted-names;
-        is_trimmed = trimmed-all u holds (λ m is.
-            kept-more m (name_count t m) (name_count u m) (slice_index holds m) (slice_index holds m)
-            (omega (arith, names-with_entry t m d name n stands.0 free)) (omega arith)
-            (all-kept t holds tied.is_trimmed m (sym (shape.there m) ∙ is)));
+        is_collected = collected-all u holds (λ m is.
+            preserved-more m (name_count t m) (name_count u m) (slice_index holds m) (slice_index holds m)
+            (omega (arith, names-with_entry t m d name n appears.0 free)) (omega arith)
+            (all-preserved t holds tied.is_collected m (sym (shape.there m) ∙ is)));
       }
 
--- ---- what a name leads to
+-- ---- the node under a name
 
 pub found-place : (t : Tree) (parents names holds : List ℕ) → IsTied t parents names holds → (d : ℕ) (name : Bytes) (n : ℕ) → find_entry t d name ≡ Some n → n < 4097
 found-place t parents names holds tied d name n found =
     below t parents names holds tied.counted n (tied.counted.well_formed.entries_are_nodes d name n found)
 
--- what a caller sees under a name has no entries
+-- the node that a caller sees under a name has no entries
 pub emptied : (t u : Tree) → t ≡ u → (d : ℕ) (name : Bytes) (n : ℕ) → find_entry t d name ≡ Some n → entries_there u (find_entry u d name) ≡ [] → entries_at t n ≡ []
 emptied t u same d name n found empty =
     ap (entries_there t) (sym found) ∙ ap (λ v. entries_there v (find_entry v d name)) same ∙ empty
 
--- ---- one name less
+-- ---- one less name
 
 module _ (t : Tree) (parents names holds : List ℕ) (tied : IsTied t parents names holds) (d : ℕ) (name : Bytes) (n : ℕ)
     (found : find_entry t d name ≡ Some n) (empty : entries_at t n ≡ []) where
@@ -172,10 +172,10 @@ module _ (t : Tree) (parents names holds : List ℕ) (tied : IsTied t parents na
       (λ other. read-other names n m (slice_index names n - 1) other ∙ omega (arith, cu.names_counted m, counts-less m, one_if-other n m other))
       (cases_eq m n))
 
-  -- the node goes, or stays
-  pub settled-unlinked : settled w n (slice_index fewer n) (slice_index holds n) ≡ trimmed w holds
+  -- the node is removed, or stays
+  pub settled-unlinked : settled w n (slice_index fewer n) (slice_index holds n) ≡ collected w holds
   settled-unlinked =
       settled-is w orphaned fewer holds unlinked-counted n (λ m other is.
-      kept-more m (name_count t m) (name_count w m) (slice_index holds m) (slice_index holds m)
+      preserved-more m (name_count t m) (name_count w m) (slice_index holds m) (slice_index holds m)
       (omega (arith, counts-less m, one_if-other n m other)) (omega arith)
-      (all-kept t holds tied.is_trimmed m (sym (shape-less.there m) ∙ is)))
+      (all-preserved t holds tied.is_collected m (sym (shape-less.there m) ∙ is)))

@@ -1,4 +1,4 @@
--- What is stored of a tree, as it gets a new node.
+-- The stored data of a tree with a new node.
 use Rattle.std.proofs.Common.{◌≡◌, ◌≢◌, ℕ, ◌+◌, ◌<◌, true, List, length, None, Some, is_some, refl, ap, ap₂, sym, ◌∙◌, arith, ⊎_elim}
 use Rattle.std.specs.Prelude.{slice_index, slice_set}
 use Rattle.std.specs.FinMap.Entries.{find, put}
@@ -7,29 +7,29 @@ use Rattle.std.proofs.lemmas.List.{length-set}
 use Rattle.pv_model.specs.declared.kind.NewNode.{NewNode}
 use Rattle.pv_model.specs.Bytes.{Bytes}
 use Rattle.pv_model.specs.Tree.{Node, directory_node, Tree, node_at, entries_at, is_directory, is_directory_at, find_entry, parent, with_node, with_entry, new_number, is_name, is_node}
-use Rattle.pv_laws_trees.specs.Spelled.{are_bytes, has_bytes}
-use Rattle.pv_laws_trees.specs.Tree.{IsSound, Stands}
-use Rattle.pv_laws_trees.proofs.Above.{stands-reached}
+use Rattle.pv_laws_trees.specs.Encoded.{are_bytes, has_bytes}
+use Rattle.pv_laws_trees.specs.Tree.{IsSound, Appears}
+use Rattle.pv_laws_trees.proofs.Above.{appears-reached}
 use Rattle.pv_laws_trees.proofs.Changes.{directory-below, node_at-other, with_entry-cases, with_entry-stays, found-with, still-there}
 use Rattle.pv_laws_trees.proofs.Edits.{new_number-free, sound-with_new_node}
 use Rattle.pv_laws_trees.proofs.Entries.{by_name}
-use Rattle.pv_laws_trees.proofs.Spelled.{bytes-with_node, bytes-with_entry}
+use Rattle.pv_laws_trees.proofs.Encoded.{bytes-with_node, bytes-with_entry}
 use Rattle.pv_laws_trees.proofs.Numbered.{length-with_number}
 use Rattle.pv_laws_trees.proofs.Trees.{sound, entry-parent}
 use Rattle.pv_tree.specs.Changes.{new_node}
 use Rattle.pv_tree.specs.Rooms.{refusal}
-use Rattle.pv_tree.specs.Standing.{stored, IsCounted, IsTied}
+use Rattle.pv_tree.specs.Present.{stored, IsCounted, IsTied}
 use Rattle.pv_tree.proofs.Carrying.{carried}
-use Rattle.pv_tree.proofs.Counting.{unnamed, directory-some, read-same, read-other, kept-more, kept-named}
-use Rattle.pv_tree.proofs.Keeping.{trimmed-all, all-kept}
+use Rattle.pv_tree.proofs.Counting.{unnamed, directory-some, read-same, read-other, preserved-more, preserved-named}
+use Rattle.pv_tree.proofs.Keeping.{collected-all, all-preserved}
 use Rattle.pv_tree.proofs.Linking.{one_if-same, one_if-other}
 use Rattle.pv_tree.proofs.Making.{new-entries, entries-one, directory-one, absent-one}
 use Rattle.pv_tree.proofs.Names.{name_count, names-with_entry, names-same}
 use Rattle.pv_tree.proofs.Parents.{parent-same}
 
 module _ (t : Tree) (parents names holds : List ℕ) (tied : IsTied t parents names holds) (d : ℕ) (name : Bytes) (k : NewNode)
-    (stands : Stands t d) (free : find_entry t d name ≡ None) (good : is_name t.version name ≡ true) (fine : is_node t.version (new_node k) ≡ true)
-    (spelled : are_bytes name ≡ true) (filled : has_bytes (new_node k) ≡ true) (below : new_number t < length t.nodes) where
+    (appears : Appears t d) (free : find_entry t d name ≡ None) (good : is_name t.version name ≡ true) (fine : is_node t.version (new_node k) ≡ true)
+    (encoded : are_bytes name ≡ true) (filled : has_bytes (new_node k) ≡ true) (below : new_number t < length t.nodes) where
   c : IsCounted t parents names holds
   c = tied.counted
 
@@ -49,19 +49,19 @@ module _ (t : Tree) (parents names holds : List ℕ) (tied : IsTied t parents na
   u = with_entry t1 d name m
 
   same-entries : (e : ℕ) → entries_at t1 e ≡ entries_at t e
-  same-entries e = entries-one t c.well_formed c.short d name k stands.0 free fine e
+  same-entries e = entries-one t c.well_formed c.short d name k appears.0 free fine e
 
   dir-one : is_directory_at t1 d ≡ true
-  dir-one = directory-one t c.well_formed c.short d name k stands.0 free fine
+  dir-one = directory-one t c.well_formed c.short d name k appears.0 free fine
 
   free-one : find_entry t1 d name ≡ None
-  free-one = absent-one t c.well_formed c.short d name k stands.0 free fine
+  free-one = absent-one t c.well_formed c.short d name k appears.0 free fine
 
   same-found : (e : ℕ) (q : Bytes) → find_entry t1 e q ≡ find_entry t e q
   same-found e q = ap (find by_name q) (same-entries e)
 
   r : IsSound u
-  r = sound-with_new_node t s d name node stands.0 (stands-reached t s d stands.1) free good fine (new-entries k) below
+  r = sound-with_new_node t s d name node appears.0 (appears-reached t s d appears.1) free good fine (new-entries k) below
 
   below-one : d < length t1.nodes
   below-one = directory-below t1 d dir-one
@@ -73,7 +73,7 @@ module _ (t : Tree) (parents names holds : List ℕ) (tied : IsTied t parents na
   names-is x =
       omega (arith, names-with_entry t1 x d name m dir-one free-one, names-same t t1 (length-with_number t.nodes m node below) same-entries x)
 
-  -- what was there still is
+  -- nodes that existed still exist
   stays-there : (x : ℕ) → is_some (node_at t x) ≡ true → is_some (node_at u x) ≡ true
   stays-there x is = still-there t1 d entered below-one x (still-there t m node below x is)
 
@@ -82,11 +82,11 @@ module _ (t : Tree) (parents names holds : List ℕ) (tied : IsTied t parents na
 
   was-there : (x : ℕ) → x ≢ m → is_some (node_at u x) ≡ true → is_some (node_at t x) ≡ true
   was-there x apart is =
-      ⊎_elim (λ here. directory-some (node_at t x) (ap (is_directory_at t) here ∙ stands.0)) (λ away. ap is_some (sym (other-node x apart away)) ∙ is) (cases_eq x d)
+      ⊎_elim (λ here. directory-some (node_at t x) (ap (is_directory_at t) here ∙ appears.0)) (λ away. ap is_some (sym (other-node x apart away)) ∙ is) (cases_eq x d)
 
   was-directory : (x : ℕ) → x ≢ m → is_directory_at u x ≡ true → is_directory_at t x ≡ true
   was-directory x apart is =
-      ⊎_elim (λ here. ap (is_directory_at t) here ∙ stands.0) (λ away. ap is_directory (sym (other-node x apart away)) ∙ is) (cases_eq x d)
+      ⊎_elim (λ here. ap (is_directory_at t) here ∙ appears.0) (λ away. ap is_directory (sym (other-node x apart away)) ∙ is) (cases_eq x d)
 
   no-names : name_count t m ≡ 0
   no-names = unnamed t parents names holds c m (ap is_some (new_number-free t))
@@ -107,7 +107,7 @@ module _ (t : Tree) (parents names holds : List ℕ) (tied : IsTied t parents na
   made-tied allowed =
       record {
         counted = carried t u parents names holds c (slice_set parents m d) (slice_set names m 1) holds r refl allowed
-            (bytes-with_entry t1 d name m dir-one spelled (bytes-with_node t m node below filled c.bytes)) (length-set parents m d) (length-set names m 1) refl
+            (bytes-with_entry t1 d name m dir-one encoded (bytes-with_node t m node below filled c.bytes)) (length-set parents m d) (length-set names m 1) refl
             (λ x more. stays-there x (c.held_are_nodes x more))
             (λ x is.
             ⊎_elim
@@ -121,10 +121,10 @@ module _ (t : Tree) (parents names holds : List ℕ) (tied : IsTied t parents na
             ∙ omega (arith, names-is m, one_if-same m m refl, no-names) ∙ ap (name_count u) (sym same))
             (λ other. read-other names m x 1 other ∙ omega (arith, c.names_counted x, names-is x, one_if-other m x other))
             (cases_eq x m));
-        is_trimmed = trimmed-all u holds (λ x is.
+        is_collected = collected-all u holds (λ x is.
             ⊎_elim
-            (λ same. kept-named x (name_count u x) (slice_index holds x) (omega (arith, names-is x, one_if-same m x same)))
-            (λ other. kept-more x (name_count t x) (name_count u x) (slice_index holds x) (slice_index holds x)
-            (omega (arith, names-is x)) (omega arith) (all-kept t holds tied.is_trimmed x (was-there x other is)))
+            (λ same. preserved-named x (name_count u x) (slice_index holds x) (omega (arith, names-is x, one_if-same m x same)))
+            (λ other. preserved-more x (name_count t x) (name_count u x) (slice_index holds x) (slice_index holds x)
+            (omega (arith, names-is x)) (omega arith) (all-preserved t holds tied.is_collected x (was-there x other is)))
             (cases_eq x m));
       }

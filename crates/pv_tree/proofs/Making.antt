@@ -1,4 +1,4 @@
--- New nodes, and what becomes of a tree that gets one.
+-- New nodes, and the effect of creating one.
 use Rattle.std.proofs.Common.{◌≡◌, ◌≢◌, ◌↔◌, ℕ, zero, suc, ◌+◌, ◌<◌, ◌≤◌, true, false, not, ◌&&◌, nat_le, [], ◌∷◌, ◌++◌, append-nil, drop, length, Option, None, Some, is_some, Result, Ok, Err, refl, ap, sym, subst, ◌∙◌, arith, le_of_suc-le-suc, ⊎_elim}
 use Rattle.std.specs.Prelude.{OnOk, OnErr, option_map}
 use Rattle.std.specs.Result.{is_err}
@@ -16,7 +16,7 @@ use Rattle.pv_model.specs.Numbered.{Numbered, at_number, with_number, without_nu
 use Rattle.pv_model.specs.Room.{node_length, greatest_entries, greatest_length, is_too_long, fits}
 use Rattle.pv_model.specs.Tree.{Node, directory_node, file_node, link_node, Tree, node_at, entries_of, entries_at, is_directory, is_directory_at, find_entry, with_node, with_entry, with_new_node, new_number, is_node, is_link_text, IsWellFormed}
 use Rattle.pv_dirs.specs.Trees.{new_node as empty_node, written, replaced, bytes_of, without_node, LacksRoom}
-use Rattle.pv_laws_trees.specs.Spelled.{has_bytes}
+use Rattle.pv_laws_trees.specs.Encoded.{has_bytes}
 use Rattle.pv_laws_trees.proofs.Changes.{directory-below, node_at-same, still-there}
 use Rattle.pv_laws_trees.proofs.Edits.{new_number-free}
 use Rattle.pv_laws_trees.proofs.Entries.{by_name}
@@ -24,7 +24,7 @@ use Rattle.pv_laws_trees.proofs.Numbered.{at_number-below, at_number-drop, lengt
 use Rattle.pv_laws_trees.proofs.Trees.{ordered}
 use Rattle.pv_tree.specs.Changes.{new_node, sort_of}
 use Rattle.pv_tree.specs.Rooms.{refusal}
-use Rattle.pv_tree.specs.Standing.{IsShaped}
+use Rattle.pv_tree.specs.Present.{IsShaped}
 use Rattle.pv_tree.proofs.Limits.{entries_allowed, entries_past, text_allowed}
 use Rattle.pv_tree.proofs.Rooms.{refusal-long, refusal-full, short-with_node, too_long-more, short-more, fits-few}
 
@@ -42,7 +42,7 @@ pub always : {P : Type 0} (r : Result (Unit {0}) Space) → P → OnOk r P
 always (Ok x) p = p
 always (Err why) p = tt
 
--- ---- what is in a new node
+-- ---- the contents of a new node
 
 overwrite-none : (new : Bytes) → overwrite [] 0 new ≡ new
 overwrite-none new = ap (λ r. new ++ r) (drop-none (0 + length new)) ∙ append-nil new
@@ -91,7 +91,7 @@ there-filled t n old node at = ap is_some (node_at-same t n node (at_number-belo
 pub emptied-again : (t : Tree) (n : ℕ) (old node : Node) → node_at t n ≡ Some old → without_node (with_node t n node) n ≡ without_node t n
 emptied-again t n old node at = ap (λ nodes. record t { nodes = nodes }) (without_number-with_number t.nodes n old node at)
 
--- ---- a new node's number
+-- ---- the number of a new node
 
 with_number-twice : (xs : Numbered Node) (n : ℕ) (a b : Node) → n < length xs → with_number (with_number xs n a) n b ≡ with_number xs n b
 with_number-twice [] n a b below = absurd (omega arith)
@@ -101,7 +101,7 @@ with_number-twice (x ∷ xs) (suc n) a b below = ap (λ (ys : Numbered Node). x 
 pub with_node-twice : (t : Tree) (n : ℕ) (a b : Node) → n < length t.nodes → with_node (with_node t n a) n b ≡ with_node t n b
 with_node-twice t n a b below = ap (λ nodes. record t { nodes = nodes }) (with_number-twice t.nodes n a b below)
 
--- a new node that is taken away again
+-- a new node that is removed again
 pub taken_away : (t : Tree) (n : ℕ) (node : Node) → node_at t n ≡ None → n < length t.nodes → without_node (with_node t n node) n ≡ t
 taken_away t n node free below =
     ap (λ nodes. record t { nodes = nodes })
@@ -194,7 +194,7 @@ module _ (t : Tree) (w : IsWellFormed t) (short : is_too_long t ≡ false) (d : 
       (λ high. let last : suc n ≡ m = omega (arith, w.numbers) in ap (λ j. is_some (node_at t1 j)) last ∙ ap is_some (with_number-same_within t.nodes m node within))
       (cases_lt n t.inodes))
 
-  -- an image whose numbers are all in use
+  -- an image whose inodes are all in use
   pub refused-crowded : length (entries_at t d) < greatest_entries t.version → m ≡ length t.nodes → refusal u ≡ Some Full
   refused-crowded few full =
       refusal-full u (short-more t1 d (sorted-one d) name m directory-one absent-one short-one (entries_allowed t.version (length (entries_at t1 d)) (few-one few)))
@@ -206,7 +206,7 @@ module _ (t : Tree) (w : IsWellFormed t) (short : is_too_long t ≡ false) (d : 
       (λ no_room. no_room)
       (cases_Bool (fits u)))
 
-  -- the tree with the node, where its number is one of the image's
+  -- the tree with the node, if its number is one of the image's
   pub shaped-one : m < length t.nodes → IsShaped t1
   shaped-one below = record {
     numbers = length-with_number t.nodes m node below ∙ w.numbers;
@@ -215,7 +215,7 @@ module _ (t : Tree) (w : IsWellFormed t) (short : is_too_long t ≡ false) (d : 
     short = short-one;
   }
 
--- ---- the steps of a making
+-- ---- the steps of creating a node
 
 module _ (t v : Tree) (n : ℕ) (k : NewNode) (sort : Rattle.pv_model.specs.declared.kind.Kind.Kind) (taken : v ≡ with_node t n (empty_node sort)) (kind : sort ≡ sort_of k)
     (below : n < length t.nodes) (least : n ≡ new_number t) where

@@ -1,4 +1,4 @@
--- What becomes of a tree when a node gets another name.
+-- The effect of moving an entry.
 use Rattle.std.proofs.Common.{◌≡◌, ◌≢◌, ℕ, suc, ◌+◌, ◌-◌, ◌<◌, ◌≤◌, true, false, cond, List, [], length, Option, None, Some, is_some, Result, Ok, Err, refl, ap, ap₂, sym, subst, ◌∙◌, arith, ⊎_elim}
 use Rattle.std.specs.Prelude.{slice_index, slice_set, OnOk, IfErr, IfSome, IfNone}
 use Rattle.std.specs.FinMap.Entries.{put, where_key, is_sorted, length-put}
@@ -11,30 +11,30 @@ use Rattle.pv_model.specs.Calls.Paths.{contains_directory, entries_there}
 use Rattle.pv_model.specs.Room.{entry_length, fits}
 use Rattle.pv_model.specs.Tree.{Entries, Node, directory_node, file_node, link_node, Tree, node_at, entries_of, entries_at, is_directory, is_directory_at, find_entry, parent, with_node, with_entry, without_entry, is_name, is_node, IsWellFormed}
 use Rattle.pv_laws_trees.specs.Room.{IsNoLonger, IsNoLarger}
-use Rattle.pv_laws_trees.specs.Spelled.{are_bytes, AllBytes}
-use Rattle.pv_laws_trees.specs.Tree.{IsSound, Stands}
+use Rattle.pv_laws_trees.specs.Encoded.{are_bytes, AllBytes}
+use Rattle.pv_laws_trees.specs.Tree.{IsSound, Appears}
 use Rattle.pv_laws_trees.proofs.Above.{not_contained}
 use Rattle.pv_laws_trees.proofs.Changes.{SameShape, shape-along, shape-with_entry, shape-without_entry, directory-below, node_at-same, node_at-other, has_entry-directory, entries-with_node, entries-good, found-with, found-without, with_entry-cases, with_entry-stays, without_entry-was, without_entry-stays}
 use Rattle.pv_laws_trees.proofs.Edits.{sound-moved}
-use Rattle.pv_laws_trees.proofs.Entries.{by_name, is_other, find-list_all, tell}
+use Rattle.pv_laws_trees.proofs.Entries.{by_name, is_other, find-list_all, report}
 use Rattle.pv_laws_trees.proofs.Rooms.{no_larger-without}
-use Rattle.pv_laws_trees.proofs.Spelled.{bytes-with_entry, bytes-without_entry}
+use Rattle.pv_laws_trees.proofs.Encoded.{bytes-with_entry, bytes-without_entry}
 use Rattle.pv_laws_trees.proofs.Trees.{ordered, sound, entry-parent, parent-unnamed}
 use Rattle.pv_tree.specs.Changes.{moved, moved_node, settled}
-use Rattle.pv_tree.specs.Holding.{trimmed}
+use Rattle.pv_tree.specs.Holding.{collected}
 use Rattle.pv_tree.specs.Rooms.{refusal}
-use Rattle.pv_tree.specs.Standing.{stored, IsShaped, IsCounted, IsTied}
+use Rattle.pv_tree.specs.Present.{stored, IsShaped, IsCounted, IsTied}
 use Rattle.pv_tree.proofs.Carrying.{carried}
-use Rattle.pv_tree.proofs.Counting.{below, read-same, read-other, kept-more, settled-is}
+use Rattle.pv_tree.proofs.Counting.{below, read-same, read-other, preserved-more, settled-is}
 use Rattle.pv_tree.proofs.Entries.{one_if, put_back, put_over, none_taken}
-use Rattle.pv_tree.proofs.Keeping.{is_kept, trimmed-all, all-kept}
+use Rattle.pv_tree.proofs.Keeping.{is_preserved, collected-all, all-preserved}
 use Rattle.pv_tree.proofs.Linking.{one_if-same, one_if-other}
 use Rattle.pv_tree.proofs.Making.{with_node-twice, filled}
 use Rattle.pv_tree.proofs.Names.{name_count, names-with_entry, names-without_entry}
 use Rattle.pv_tree.proofs.Parents.{parent-same}
 use Rattle.pv_tree.proofs.Rooms.{refusal-none, refusal-fits, no_longer, no_longer-self, smaller-allowed}
 
--- ---- entries taken away and put back
+-- ---- entries that are removed and restored
 
 directory-node : (t : Tree) (d : ℕ) → is_directory_at t d ≡ true → node_at t d ≡ Some (directory_node (entries_at t d))
 directory-node t d is = by (node_at t d) refl is
@@ -54,17 +54,17 @@ module _ (t : Tree) (d : ℕ) (name : Bytes) (is : is_directory_at t d ≡ true)
       ap (λ es. with_node (without_entry t d name) d (directory_node (put by_name name n es))) (entries-with_node t d less (directory-below t d is))
       ∙ with_node-twice t d (directory_node less) (directory_node (put by_name name n less)) (directory-below t d is)
 
-  -- an entry that is put back
+  -- an entry that is restored
   pub entered-back : (n : ℕ) → find_entry t d name ≡ Some n → with_entry (without_entry t d name) d name n ≡ t
   entered-back n found =
       entered n ∙ ap (λ es. with_node t d (directory_node es)) (put_back name n (entries_at t d) sorted found)
       ∙ sym (filled t d (directory_node (entries_at t d)) (directory-node t d is))
 
-  -- an entry that takes another's place
+  -- an entry that replaces another
   pub entered-over : (n : ℕ) → with_entry (without_entry t d name) d name n ≡ with_entry t d name n
   entered-over n = entered n ∙ ap (λ es. with_node t d (directory_node es)) (put_over name n (entries_at t d) sorted)
 
-  -- no entry is taken away where none has the name
+  -- no entry is removed if none has the name
   pub without-nothing : find_entry t d name ≡ None → without_entry t d name ≡ t
   without-nothing none =
       ap (λ es. with_node t d (directory_node es)) (none_taken name (entries_at t d) sorted none)
@@ -89,13 +89,13 @@ shaped-less t s each d name is =
       short = no_longer t (without_entry t d name) (no_larger-without t d name is) s.short;
     }
 
--- an entry in another's place needs no more
+-- replacing an entry needs no more room
 module _ (t : Tree) (d : ℕ) (name : Bytes) (n m : ℕ) (is : is_directory_at t d ≡ true) (sorted : is_sorted by_name (entries_at t d) ≡ true) (found : find_entry t d name ≡ Some m) where
   abbrev over : Entries
   over = put by_name name n (entries_at t d)
 
   same-length : length over ≡ length (entries_at t d)
-  same-length = length-put by_name nat_list_cmp_total name n (entries_at t d) (tell _ sorted) ∙ ap (λ o. cond (is_some o) (length (entries_at t d)) (length (entries_at t d) + 1)) found
+  same-length = length-put by_name nat_list_cmp_total name n (entries_at t d) (report _ sorted) ∙ ap (λ o. cond (is_some o) (length (entries_at t d)) (length (entries_at t d) + 1)) found
 
   longer : (o : Option Node) → node_at t d ≡ o → is_directory o ≡ true → IsNoLonger t.version (Some (directory_node over)) o
   longer None at dir = cc
@@ -118,7 +118,7 @@ module _ (t : Tree) (d : ℕ) (name : Bytes) (n m : ℕ) (is : is_directory_at t
             (cases_eq k d);
       }
 
--- what cannot be refused is done
+-- an operation that cannot fail succeeds
 pub done : {P : Type 0} (t : Tree) (r : Result (Unit {0}) Space) → refusal t ≡ None → IfErr r (λ why. refusal t ≡ Some why) → OnOk r P → P
 done t (Ok x) allowed refused p = p
 done t (Err why) allowed refused p = cc (sym allowed ∙ refused)
@@ -163,11 +163,11 @@ module _ (t : Tree) (wf : IsWellFormed t) (sh : IsShaped t) (fit : fits t ≡ tr
   name-good =
       find-list_all (λ (x : Bytes × ℕ). is_name t.version x.0) name n (entries_at t d) (entries-good t d wf.each_node).1 has
 
-  -- the entry can be put back
+  -- the entry can be restored
   pub back-is : with_entry between d name n ≡ t
   back-is = entered-back t d name at-from (sh.ordered d) n has
 
-  -- the other name is that of the same node in between
+  -- the node under the other name is the same in between
   pub found-between : find_entry t e other ≢ Some n → find_entry between e other ≡ find_entry t e other
   found-between apart = by (find_entry t e other) refl
     where
@@ -215,7 +215,7 @@ module _ (t : Tree) (wf : IsWellFormed t) (sh : IsShaped t) (fit : fits t ≡ tr
       ap refusal replaced-is
       ∙ smaller-allowed between (with_entry between e other n) fewer room.0 room.1
 
-  -- only where no node had the other name is there no room
+  -- room is lacking only if no node had the other name
   pub refused-free : (why : Space) → find_entry t e other ≢ Some n → refusal (with_entry bared e other n) ≡ Some why → find_entry t e other ≡ None
   refused-free why apart refused = by (find_entry t e other) refl
     where
@@ -232,23 +232,23 @@ module _ (t : Tree) (wf : IsWellFormed t) (sh : IsShaped t) (fit : fits t ≡ tr
 
 -- ---- the node under the other name
 
--- what a caller has seen before a node gets another name
+-- the facts that a caller has before it moves an entry
 pub record IsMove (t : Tree) (d : ℕ) (name : Bytes) (e : ℕ) (other : Bytes) (n : ℕ) : Type 0 where
   pub found : find_entry t d name ≡ Some n
-  pub stands : Stands t e
+  pub appears : Appears t e
   pub good : is_name t.version other ≡ true
-  pub spelled : are_bytes other ≡ true
+  pub encoded : are_bytes other ≡ true
   pub clear : contains_directory t n e ≡ false
   pub apart : find_entry t e other ≢ Some n
   pub empty : entries_there t (find_entry t e other) ≡ []
 
-pub is-move : (t u : Tree) → t ≡ u → (d : ℕ) (name : Bytes) (e : ℕ) (other : Bytes) (n : ℕ) → find_entry t d name ≡ Some n → Stands u e → is_name u.version other ≡ true → are_bytes other ≡ true
+pub is-move : (t u : Tree) → t ≡ u → (d : ℕ) (name : Bytes) (e : ℕ) (other : Bytes) (n : ℕ) → find_entry t d name ≡ Some n → Appears u e → is_name u.version other ≡ true → are_bytes other ≡ true
     → IfSome (find_entry u d name) (λ k. contains_directory u k e ≡ false) → find_entry u e other ≢ find_entry u d name → entries_there u (find_entry u e other) ≡ [] → IsMove t d name e other n
-is-move t u same d name e other n found stands good spelled clear apart empty = record {
+is-move t u same d name e other n found appears good encoded clear apart empty = record {
   found = found;
-  stands = subst (λ (v : Tree). Stands v e) (sym same) stands;
+  appears = subst (λ (v : Tree). Appears v e) (sym same) appears;
   good = ap (λ (v : Tree). is_name v.version other) same ∙ good;
-  spelled = spelled;
+  encoded = encoded;
   clear = subst (λ o. IfSome o (λ k. contains_directory t k e ≡ false)) found
       (subst (λ (v : Tree). IfSome (find_entry v d name) (λ k. contains_directory v k e ≡ false)) (sym same) clear);
   apart = λ is. apart (ap (λ (v : Tree). find_entry v e other) (sym same) ∙ is ∙ sym found ∙ ap (λ (v : Tree). find_entry v d name) same);
@@ -263,8 +263,8 @@ module _ (t : Tree) (parents names holds : List ℕ) (tied : IsTied t parents na
   found : find_entry t d name ≡ Some n
   found = mv.found
 
-  stands : Stands t e
-  stands = mv.stands
+  appears : Appears t e
+  appears = mv.appears
 
   good : is_name t.version other ≡ true
   good = mv.good
@@ -297,13 +297,13 @@ module _ (t : Tree) (parents names holds : List ℕ) (tied : IsTied t parents na
   shape-b = shape-without_entry t d name from s.each_node
 
   into : is_directory_at b e ≡ true
-  into = shape-b.directory e ∙ stands.0
+  into = shape-b.directory e ∙ appears.0
 
   shape-u : SameShape t u
   shape-u = shape-along t b u shape-b (shape-with_entry b e other n into shape-b.each_node good)
 
   r : IsSound u
-  r = sound-moved t s d name e other n found stands.0 good (not_contained t s n e stands.0 stands.1 clear) apart (λ m has. ap (entries_there t) (sym has) ∙ empty)
+  r = sound-moved t s d name e other n found appears.0 good (not_contained t s n e appears.0 appears.1 clear) apart (λ m has. ap (entries_there t) (sym has) ∙ empty)
 
   sorted-b : (x : ℕ) → is_sorted by_name (entries_at b x) ≡ true
   sorted-b = ordered b shape-b.each_node
@@ -317,11 +317,11 @@ module _ (t : Tree) (parents names holds : List ℕ) (tied : IsTied t parents na
   names-b : (x : ℕ) → one_if n x + name_count b x ≡ name_count t x
   names-b x = names-without_entry t (ordered t s.each_node) x d name n from found
 
-  -- the moved directory's parent
+  -- the parent of the moved directory
   new-parent : is_directory_at u n ≡ true → parent u n ≡ Some e
   new-parent is = entry-parent u r n e other is (found-with b e other into n)
 
-  -- another directory's parent
+  -- the parent of another directory
   same-parent : (x : ℕ) → x ≢ n → find_entry t e other ≢ Some x → is_directory_at u x ≡ true → parent u x ≡ parent t x
   same-parent x away beside is =
       parent-same t u s r x is
@@ -331,7 +331,7 @@ module _ (t : Tree) (parents names holds : List ℕ) (tied : IsTied t parents na
       (λ a q has. ⊎_elim (λ new. absurd (away new.2)) (λ old. (without_entry-was t d name from a q x old.1).1) (with_entry-cases b e other into n a q x has))
 
   bytes-u : AllBytes u
-  bytes-u = bytes-with_entry b e other n into mv.spelled (bytes-without_entry t d name from c.bytes)
+  bytes-u = bytes-with_entry b e other n into mv.encoded (bytes-without_entry t d name from c.bytes)
 
   abbrev moved_parents : List ℕ
   moved_parents = slice_set parents n e
@@ -339,7 +339,7 @@ module _ (t : Tree) (parents names holds : List ℕ) (tied : IsTied t parents na
   place-n : n < length parents
   place-n = omega (arith, below t parents names holds c n node-there, c.places_of_parents)
 
-  -- ---- where nothing had the name
+  -- ---- if no node had the name
 
   module _ (free : find_entry t e other ≡ None) where
     pub free-between : find_entry b e other ≡ None
@@ -352,9 +352,9 @@ module _ (t : Tree) (parents names holds : List ℕ) (tied : IsTied t parents na
     names-u : (x : ℕ) → name_count u x ≡ name_count t x
     names-u x = omega (arith, names-b x, names-with_entry b x e other n into free-between)
 
-    pub moved-trimmed : trimmed u holds ≡ u
-    moved-trimmed =
-        trimmed-all u holds (λ x is. ap (λ k. is_kept x k (slice_index holds x)) (names-u x) ∙ all-kept t holds tied.is_trimmed x (sym (shape-u.there x) ∙ is))
+    pub moved-collected : collected u holds ≡ u
+    moved-collected =
+        collected-all u holds (λ x is. ap (λ k. is_preserved x k (slice_index holds x)) (names-u x) ∙ all-preserved t holds tied.is_collected x (sym (shape-u.there x) ∙ is))
 
     pub moved-tied : refusal u ≡ None → IsTied u moved_parents names holds
     moved-tied allowed =
@@ -369,10 +369,10 @@ module _ (t : Tree) (parents names holds : List ℕ) (tied : IsTied t parents na
               ∙ ap stored (sym (same-parent x away (λ has. cc (sym free ∙ has)) is)))
               (cases_eq x n))
               (λ x. c.names_counted x ∙ sym (names-u x));
-          is_trimmed = moved-trimmed;
+          is_collected = moved-collected;
         }
 
-  -- ---- where another node had it
+  -- ---- if another node had it
 
   module _ (m : ℕ) (had : find_entry t e other ≡ Some m) where
     differs : m ≢ n
@@ -450,9 +450,9 @@ module _ (t : Tree) (parents names holds : List ℕ) (tied : IsTied t parents na
         (λ away. read-other names m x (slice_index names m - 1) away ∙ omega (arith, c.names_counted x, names-w x, one_if-other m x away))
         (cases_eq x m))
 
-    pub settled-replaced : settled u m (slice_index fewer m) (slice_index holds m) ≡ trimmed u holds
+    pub settled-replaced : settled u m (slice_index fewer m) (slice_index holds m) ≡ collected u holds
     settled-replaced =
         settled-is u left_parents fewer holds replaced-counted m (λ x away is.
-        kept-more x (name_count t x) (name_count u x) (slice_index holds x) (slice_index holds x)
+        preserved-more x (name_count t x) (name_count u x) (slice_index holds x) (slice_index holds x)
         (omega (arith, names-w x, one_if-other m x away)) (omega arith)
-        (all-kept t holds tied.is_trimmed x (sym (shape-u.there x) ∙ is)))
+        (all-preserved t holds tied.is_collected x (sym (shape-u.there x) ∙ is)))

@@ -1,4 +1,4 @@
--- How many names nodes have.
+-- The number of names of nodes.
 use Rattle.std.proofs.Common.{◌≡◌, ℕ, zero, suc, ◌+◌, ◌*◌, ◌<◌, ◌≤◌, Bool, true, false, cond, ◌||◌, ◌==◌, List, [], ◌∷◌, map, filter, flat_map, length, Option, None, Some, zero-add, refl, ap, ap₂, sym, ◌∙◌, arith}
 use Rattle.std.specs.FinMap.Entries.{put, where_key}
 use Rattle.std.proofs.Math.ListN.{length-append}
@@ -25,13 +25,13 @@ names_from n k xs = flat_map (λ d. names_in n (entries_of (Some d.1)) d.0) (num
 length-names_in : (n : ℕ) (es : Entries) (d : ℕ) → length (names_in n es d) ≡ count_in n es
 length-names_in n es d = length-map {B = ℕ × Bytes} (filter (λ e. e.1 == n) es) (λ e. (d, e.0))
 
--- a node's names stand in the first place, or after it
+-- the names of a node are those in the first directory and those in the others
 pub names-cons : (n k : ℕ) (o : Option Node) (xs : Numbered Node) → length (names_from n k (o ∷ xs)) ≡ count_in n (entries_of o) + length (names_from n (suc k) xs)
 names-cons n k None xs = omega arith
 names-cons n k (Some node) xs =
     omega (arith, length-append (names_in n (entries_of (Some node)) k) (names_from n (suc k) xs), length-names_in n (entries_of (Some node)) k)
 
--- another node in a place
+-- another node under a number
 names-with_number : (n k : ℕ) (xs : Numbered Node) (d : ℕ) (node : Node) → d < length xs
     → length (names_from n k (with_number xs d node)) + count_in n (entries_of (at_number xs d)) ≡ length (names_from n k xs) + count_in n (entries_of (Some node))
 names-with_number n k [] d node below = absurd (omega arith)
@@ -57,7 +57,7 @@ names-without_entry t ordered n d name m is found =
       count-without n name m (entries_at t d) (ordered d) found,
     )
 
--- where the entries are the same, so are the names
+-- if the entries are the same, the names are
 names-same_from : (n k : ℕ) (xs ys : Numbered Node) → length xs ≡ length ys → ((d : ℕ) → entries_of (at_number xs d) ≡ entries_of (at_number ys d))
     → length (names_from n k xs) ≡ length (names_from n k ys)
 names-same_from n k [] [] long same = refl
@@ -69,7 +69,7 @@ names-same_from n k (x ∷ xs) (y ∷ ys) long same =
 pub names-same : (t u : Tree) → length u.nodes ≡ length t.nodes → ((d : ℕ) → entries_at u d ≡ entries_at t d) → (n : ℕ) → name_count u n ≡ name_count t n
 names-same t u long same n = names-same_from n 0 u.nodes t.nodes long same
 
--- ---- named, or not
+-- ---- named or not
 
 abbrev pub is_positive : ℕ → Bool
 is_positive zero = false
@@ -112,11 +112,11 @@ named-counted n k (Some node ∷ xs) =
     ∙ sym (is_positive-sum (count_in n (entries_of (Some node))) (length (names_from n (suc k) xs)))
     ∙ ap is_positive (sym (names-cons n k (Some node) xs))
 
--- a number is named where it has a name
+-- a number is named if it has a name
 pub named-is : (t : Tree) (n : ℕ) → among (named_numbers t) n ≡ is_positive (name_count t n)
 named-is t n = named-counted n 0 t.nodes
 
--- ---- how many there can be
+-- ---- the maximum number of names
 
 names-most_from : (n k : ℕ) (xs : Numbered Node) → ((d : ℕ) → length (entries_of (at_number xs d)) ≤ 2540) → length (names_from n k xs) ≤ 2540 * length xs
 names-most_from n k [] few = omega arith

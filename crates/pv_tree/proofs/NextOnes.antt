@@ -9,7 +9,7 @@ use Rattle.pv_dirs.specs.Listing.{IsNextNameOf}
 use Rattle.pv_tree.specs.NodeNames.{is_after, IsNextNameOfNode}
 use Rattle.pv_tree.proofs.Rising.{Named, after-cases, after-lower, after-same, never, bool_cases}
 
--- what comes after the last name: names of greater directories, and of this one those after a name
+-- the names that follow the last one: those of greater directories, and in this one those that follow a name
 pub record IsCut (last : Option Named) (first : ℕ) (following : Option Bytes) : Type 0 where
   pub low : (x : Named) → is_after last x ≡ true → first ≤ x.0
   pub here : (name : Bytes) → is_after last (first, name) ≡ is_past following name
@@ -29,12 +29,12 @@ cut-some d name = record {
     unless other isnt = never (is_after (Some (d, name)) (d, other))
         (λ is. ⊎_elim (λ (less : d < d). omega arith) (λ same. let both : true ≡ false = sym same.1 ∙ isnt in cc both) (after-cases (d, name) (d, other) is))
 
--- in a directory those after a name come after the last one
+-- in a directory, the names that follow a name also follow the last one
 pub IsFrom : Option Named → ℕ → Option Bytes → Type 0
 IsFrom last d from = (name : Bytes) → is_after last (d, name) ≡ is_past from name
 
 module _ (t : Tree) (n : ℕ) (last : Option Named) where
-  -- the names that come after the last one stand in no lower directory
+  -- no name that follows the last one is in a lower directory
   pub record IsDownTo (d : ℕ) : Type 0 where
     pub low : (x : Named) → find_entry t x.0 x.1 ≡ Some n → is_after last x ≡ true → d ≤ x.0
 
@@ -55,12 +55,12 @@ module _ (t : Tree) (n : ℕ) (last : Option Named) where
       split : (a b : ℕ) → a ≤ b → (a < b) ⊎ (a ≡ b)
       split a b le = ⊎_elim (λ less. inl less) (λ other. inr (omega arith)) (cases_lt a b)
 
-  -- where the directory has no such name
+  -- if the directory has no such name
   pub down-none : (d : ℕ) (from : Option Bytes) → IsDownTo d → IsFrom last d from → IsNextNameOf t d n from None → IsDownTo (d + 1)
   unfolding IsFrom
   down-none d from down is none = at_next d down (λ name there. is name ∙ none name there)
 
-  -- and where it is no directory
+  -- if it is not a directory
   pub down-past : (d : ℕ) → IsDownTo d → is_directory_at t d ≡ false → IsDownTo (d + 1)
   down-past d down isnt =
       at_next d down (λ name there. let both : true ≡ false = sym (has_entry-directory t d name n there) ∙ isnt in cc both)
@@ -81,7 +81,7 @@ module _ (t : Tree) (n : ℕ) (last : Option Named) where
         (after-cases x (d, name) before));
   }
 
-  -- past all directories
+  -- after all directories
   pub down-all : (d : ℕ) → IsDownTo d → length t.nodes ≤ d → IsNextNameOfNode t n last None
   down-all d down all = λ x there.
       never (is_after last x) (λ after. let low = down.low x there after in let below = directory-below t x.0 (has_entry-directory t x.0 x.1 n there) in absurd (omega arith))

@@ -10,7 +10,7 @@ use Rattle.pv_model.specs.Tree.{Tree, root, is_directory_at, find_entry, parent,
 use Rattle.pv_laws_trees.specs.Tree.{IsSound}
 use Rattle.pv_laws_trees.proofs.Trees.{ordered, parent-entry, parent-none_named, parent-unnamed, parent-root, entry-parent}
 
--- where a directory's entry stays, so does its parent
+-- if the entry of a directory does not change, its parent does not either
 pub parent-same : (t u : Tree) → IsSound t → IsSound u → (n : ℕ) → is_directory_at u n ≡ true
     → ((e : ℕ) (q : Bytes) → find_entry t e q ≡ Some n → find_entry u e q ≡ Some n)
     → ((e : ℕ) (q : Bytes) → find_entry u e q ≡ Some n → find_entry t e q ≡ Some n)
@@ -26,12 +26,12 @@ parent-same t u s r n is stays was =
     by other (Some d) up =
         let found = parent-entry t (ordered t s.each_node) n d other up in entry-parent u r n d found.0 is (stays d found.0 found.1) ∙ sym up
 
--- ---- the directories above one
+-- ---- the ancestors of a directory
 
 pub above-directory : (t : Tree) → IsWellFormed t → (d : ℕ) → d ≢ root → (p : ℕ) → parent t d ≡ Some p → is_directory_at t p ≡ true
 above-directory t w d below p up = let found = parent-entry t (ordered t w.each_node) d p below up in has_entry-directory t p found.0 d found.1
 
--- among the directory and those above it in so many steps
+-- among the directory and its ancestors within a number of steps
 abbrev pub is_among : Tree → ℕ → ℕ → ℕ → Bool
 is_among t n steps d = list_any (λ e. e == n) (ancestors_within t steps d)
 
@@ -42,13 +42,13 @@ among-all t inodes numbers n d = let same : inodes + 1 ≡ length t.nodes = omeg
 pub among-itself : (t : Tree) (n k d : ℕ) → d ≡ n → is_among t n (suc k) d ≡ true
 among-itself t n k d same = or_left (d == n) _ (eq-eqb d n same)
 
--- from another directory one step up
+-- from another directory, one step up
 pub among-above : (t : Tree) (n k d p : ℕ) → d ≢ n → d ≢ root → parent t d ≡ Some p → is_among t n (suc k) d ≡ is_among t n k p
 among-above t n k d p other below up =
     ap₂ (λ a above. a || list_any (λ e. e == n) (flat_map (ancestors_within t k) above)) (ne_eqb d n other) (ap (λ b. cond b [] (option_to_list (parent t d))) (ne_eqb d root below) ∙ ap option_to_list up)
     ∙ ap (list_any (λ e. e == n)) (append-nil (ancestors_within t k p))
 
--- nothing is above the root, nor above a removed directory
+-- the root and removed directories have no ancestors
 pub among-top : (t : Tree) (n k d : ℕ) → d ≢ n → d ≡ root → is_among t n (suc k) d ≡ false
 among-top t n k d other top =
     ap₂ (λ a above. a || list_any (λ e. e == n) (flat_map (ancestors_within t k) above)) (ne_eqb d n other) (ap (λ b. cond b [] (option_to_list (parent t d))) (eq-eqb d root top))

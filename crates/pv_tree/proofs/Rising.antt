@@ -1,4 +1,4 @@
--- The order of names with their directories, and lists that rise in it.
+-- The order of names with their directories, and lists that ascend in it.
 use Rattle.std.proofs.Common.{◌≡◌, ℕ, suc, ◌<◌, ◌≤◌, Bool, true, false, cond, ◌&&◌, ◌==◌, nat_lt, List, [], ◌∷◌, ◌++◌, map, filter, flat_map, Option, None, Some, refl, ap, sym, subst, ◌∙◌, ◌⊎◌, ⊎_elim, inl, inr, arith}
 use Rattle.std.specs.List.{list_all}
 use Rattle.std.specs.Prelude.{find}
@@ -25,7 +25,7 @@ Named = ℕ × Bytes
 
 -- ---- names of one directory
 
--- of two names that are not after each other neither is another
+-- two names are equal if neither follows the other
 same_name : (o : Ordering) (a b : Bytes) → by_name a b ≡ o → is_past (Some a) b ≡ false → is_past (Some b) a ≡ false → a ≡ b
 same_name Less a b is isnt other = let yes : is_past (Some a) b ≡ true = ap is_lt is in cc
 same_name Equal a b is isnt other = tied-same a b (ap Rattle.std.specs.Ordering.is_eq is)
@@ -57,7 +57,7 @@ pub never : (b : Bool) → (b ≡ true → ⊥) → b ≡ false
 never true none = absurd (none refl)
 never false none = refl
 
--- what is after a name after the last one is after the last one
+-- a name that follows one after the last name also follows the last name
 pub after-more : (last : Option Named) (x y : Named) → is_after last x ≡ true → is_after (Some x) y ≡ true → is_after last y ≡ true
 after-more None x y is more = refl
 after-more (Some l) x y is more =
@@ -76,7 +76,7 @@ not-after_both x y is =
     never (is_after (Some y) x)
     (λ back. let both : true ≡ false = sym (after-more (Some x) y x is back) ∙ not-after_itself x in cc both)
 
--- of two names that are not after each other neither is another
+-- two names are equal if neither follows the other
 pub same-named : (x y : Named) → is_after (Some x) y ≡ false → is_after (Some y) x ≡ false → x ≡ y
 same-named x y isnt other = pair level (same-name x.1 y.1 (unless x y isnt level) (unless y x other (sym level)))
   where
@@ -92,7 +92,7 @@ same-named x y isnt other = pair level (same-name x.1 y.1 (unless x y isnt level
     pair : x.0 ≡ y.0 → x.1 ≡ y.1 → x ≡ y
     pair a b = λ i. (a i, b i)
 
--- ---- lists that rise
+-- ---- ascending lists
 
 abbrev pub all_after : Named → List Named → Bool
 all_after x ns = list_all (λ (y : Named). is_after (Some x) y) ns
@@ -101,11 +101,11 @@ abbrev pub rises : List Named → Bool
 rises [] = true
 rises (x ∷ ns) = all_after x ns && rises ns
 
--- the names after the last one, in a list that rises
+-- the names of an ascending list that follow the last one
 abbrev pub names_after : Option Named → List Named → List Named
 names_after last ns = filter (is_after last) ns
 
--- a name that comes next, and those after it
+-- the next name, and those after it
 abbrev pub names_on : Option Named → List Named → List Named
 names_on None ns = []
 names_on (Some x) ns = x ∷ names_after (Some x) ns
@@ -114,7 +114,7 @@ pub after-none : (ns : List Named) → names_after None ns ≡ ns
 after-none [] = refl
 after-none (x ∷ ns) = ap (λ (ys : List Named). x ∷ ys) (after-none ns)
 
--- all are after the last one where they are after one that is
+-- all names follow the last one if they follow one that does
 all_after_last : (last : Option Named) (x : Named) (ns : List Named) → is_after last x ≡ true → all_after x ns ≡ true → names_after last ns ≡ ns
 all_after_last last x [] is all = refl
 all_after_last last x (y ∷ ns) is all =
@@ -129,7 +129,7 @@ all_after_itself x (y ∷ ns) all =
     ap (λ b. cond b (y ∷ names_after (Some x) ns) (names_after (Some x) ns)) parts.0
     ∙ ap (λ (ys : List Named). y ∷ ys) (all_after_itself x ns parts.1)
 
--- what passes for all passes for one that is found
+-- a test that all names pass is passed by one that is found
 found-passes : (p q : Named → Bool) (ns : List Named) (x : Named) → list_all q ns ≡ true → find p ns ≡ Some x → q x ≡ true
 found-passes p q [] x all is = cc is
 found-passes p q (y ∷ ns) x all is =
@@ -139,7 +139,7 @@ found-passes p q (y ∷ ns) x all is =
       | false ↦ λ there. found-passes p q ns x parts.1 there
     ] is
 
--- the names after the last one are the one that comes next and those after it
+-- the names that follow the last one are the next name and those after it
 pub after-next : (last : Option Named) (ns : List Named) → rises ns ≡ true → names_after last ns ≡ names_on (first_after last ns) ns
 after-next last [] up = refl
 after-next last (y ∷ ns) up =
@@ -158,7 +158,7 @@ after-next last (y ∷ ns) up =
         let back = not-after_both y x (found-passes (is_after last) (λ z. is_after (Some y) z) ns x all found) in
         ap (λ (zs : List Named). x ∷ zs) (sym (ap (λ b. cond b (y ∷ names_after (Some x) ns) (names_after (Some x) ns)) back))
 
--- ---- the one that comes next is the least
+-- ---- the next name is the least
 
 pub find-in : (p : Named → Bool) (ns : List Named) (x : Named) → find p ns ≡ Some x → In Named x ns × (p x ≡ true)
 find-in p [] x is = cc is
@@ -196,9 +196,9 @@ first-least last (z ∷ ns) x y up is within after =
           (λ later. first-least last ns x y parts.1 there later after) within
     ] refl is
 
--- ---- the names of a node rise
+-- ---- the names of a node ascend
 
--- all stand in directories with greater numbers
+-- all names are in directories with greater numbers
 abbrev all_above : ℕ → List Named → Bool
 all_above k ns = list_all (λ (y : Named). nat_lt k y.0) ns
 
@@ -208,7 +208,7 @@ above_after x (y ∷ ns) all =
     let parts = and_parts (nat_lt x.0 y.0) (all_above x.0 ns) all in
     and_from _ _ (or_left (nat_lt x.0 y.0) _ parts.0) (above_after x ns parts.1)
 
--- the names of a directory above a name of it
+-- the names of a directory above one of its names
 below_after : (n d : ℕ) (name : Bytes) (es : Entries) → below_all by_name name es ≡ true → all_after (d, name) (names_in n es d) ≡ true
 below_after n d name [] below = refl
 below_after n d name (e ∷ es) below =

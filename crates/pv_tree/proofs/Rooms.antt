@@ -1,4 +1,4 @@
--- Whether an image has room for one entry more.
+-- Whether an image has room for one more entry.
 use Rattle.std.proofs.Common.{◌≡◌, ◌≢◌, ◌↔◌, ℕ, zero, suc, ◌+◌, ◌*◌, ◌<◌, ◌≤◌, Bool, true, false, cond, ◌&&◌, ◌||◌, nat_le, nat_lt, List, [], ◌∷◌, drop, length, sum_by, Option, None, Some, Result, Ok, Err, refl, ap, ap₂, sym, subst, ◌∙◌, arith, ⊎_elim}
 use Rattle.std.specs.Prelude.{OnOk, IfErr}
 use Rattle.std.specs.FinMap.Entries.{put, is_sorted}
@@ -15,16 +15,16 @@ use Rattle.pv_dirs.specs.Trees.{total_need, LacksRoom, grown_length}
 use Rattle.pv_laws_trees.proofs.Changes.{directory-below, node_at-same, node_at-other}
 use Rattle.pv_laws_trees.proofs.Entries.{by_name}
 use Rattle.pv_laws_trees.proofs.Rooms.{too_long-at, smaller-fits, smaller-not_too_long}
-use Rattle.pv_laws_trees.proofs.Rooms.{kept-no_larger}
-use Rattle.pv_tree.specs.Holding.{held_numbers, trimmed}
+use Rattle.pv_laws_trees.proofs.Rooms.{preserved-no_larger}
+use Rattle.pv_tree.specs.Holding.{held_numbers, collected}
 use Rattle.pv_laws_trees.specs.Room.{IsNoLonger, IsNoLarger}
 use Rattle.pv_laws_trees.proofs.Trees.{ordered}
 use Rattle.pv_tree.specs.Rooms.{refusal}
-use Rattle.pv_tree.specs.Standing.{IsShaped, IsCounted}
+use Rattle.pv_tree.specs.Present.{IsShaped, IsCounted}
 use Rattle.pv_tree.proofs.Entries.{length_more}
 use Rattle.pv_tree.proofs.Limits.{entries_allowed}
 
--- ---- what a refusal says
+-- ---- errors
 
 pub refusal-none : (t : Tree) → refusal t ≡ None → (is_too_long t ≡ false) × (fits t ≡ true)
 refusal-none t none =
@@ -49,13 +49,13 @@ no_longer-self v (Some node) = Rattle.std.proofs.Common.le_refl _
 pub no_longer : (t u : Tree) → IsNoLarger u t → is_too_long t ≡ false → is_too_long u ≡ false
 no_longer t u less short = ⊎_elim (λ long. let was = smaller-not_too_long t u less long in cc) (λ no_long. no_long) (cases_Bool (is_too_long u))
 
--- a tree that needs no more is allowed
+-- a tree that needs no more room fits
 pub smaller-allowed : (t u : Tree) → IsNoLarger u t → is_too_long t ≡ false → fits t ≡ true → refusal u ≡ None
 smaller-allowed t u less short room = refusal-fits u (no_longer t u less short) (smaller-fits t u less room)
 
--- and so is what is left of it when it is trimmed
-pub trimmed-allowed : (t : Tree) (holds : List ℕ) → refusal t ≡ None → refusal (trimmed t holds) ≡ None
-trimmed-allowed t holds allowed = let room = refusal-none t allowed in smaller-allowed t (trimmed t holds) (kept-no_larger t (held_numbers holds)) room.0 room.1
+-- and it still fits after the collection
+pub collected-allowed : (t : Tree) (holds : List ℕ) → refusal t ≡ None → refusal (collected t holds) ≡ None
+collected-allowed t holds allowed = let room = refusal-none t allowed in smaller-allowed t (collected t holds) (preserved-no_larger t (held_numbers holds)) room.0 room.1
 
 -- ---- whether a tree fits
 
@@ -105,7 +105,7 @@ unfolding is_too_long
 short-with_node t n node short allowed =
     any-with_number (λ x. nat_lt (greatest_length t.version) (node_length t.version x)) t.nodes n node short (le-ltb (greatest_length t.version) (node_length t.version node) allowed)
 
--- ---- one entry more
+-- ---- one more entry
 
 pub shaped : (t : Tree) (parents names holds : List ℕ) → IsCounted t parents names holds → IsShaped t
 shaped t parents names holds c = record {
@@ -134,7 +134,7 @@ module _ (t : Tree) (d : ℕ) (sorted : is_sorted by_name (entries_at t d) ≡ t
   pub short-more : is_too_long t ≡ false → grown_length t d ≤ greatest_length t.version → is_too_long (with_entry t d name n) ≡ false
   short-more short within = short-with_node t d (directory_node more) short (omega (arith, long))
 
-  -- a directory with one more entry needs no less
+  -- a directory with one more entry needs no less room
   longer : (o : Option Node) → node_at t d ≡ o → IsNoLonger t.version o (Some (directory_node more))
   longer None at = tt
   longer (Some (directory_node es)) at =
@@ -182,7 +182,7 @@ module _ (t : Tree) (s : IsShaped t) (d : ℕ) (name : Bytes) (n : ℕ) (is : is
       (λ away. Rattle.pv_laws_trees.proofs.Changes.node_at-other t d (directory_node entered) 0 below away ∙ s.no_zero)
       (Rattle.std.proofs.lemmas.Bool.cases_eq 0 d)
 
-  -- where there is no room without the entry, there is none with it
+  -- if there is no room without the entry, there is none with it
   pub refused-before : length (entries_at t d) < greatest_entries t.version → LacksRoom t → refusal u ≡ Some Full
   refused-before few lacks =
       refusal-full u (not_too_long (entries_allowed t.version (length (entries_at t d)) few))

@@ -3,5 +3,5 @@ pub mod Holding
 pub mod NodeNames
 pub mod Places
 pub mod Rooms
-pub mod Standing
+pub mod Present
 pub use Rattle.pv_dirs.specs.Trees

@@ -1,4 +1,4 @@
--- Where a walk ends, with its name elsewhere.
+-- Places with borrowed names.
 use Rattle.std.specs.Prelude.{◌≤◌, ⊤, length}
 use Rattle.pv_model.specs.declared.limits.TheConstants.{NAME_V2}
 use Rattle.pv_model.specs.declared.place.Place.{Place}
@@ -11,7 +11,7 @@ abbrev pub place_of : Spot → Place
 place_of (At directory name node) = PlaceAt directory name.now node
 place_of (Node n) = PlaceNode n
 
--- its name is no longer than a name may be
+-- its name does not exceed the maximum length of a name
 abbrev pub IsShort : Spot → Type 0
 IsShort (At _ name _) = length name.now ≤ NAME_V2
 IsShort (Node _) = ⊤

@@ -1,13 +1,13 @@
-//! A tree of nodes by names, on the blocks of an image, with who holds what.
+//! The file tree: names, nodes and reference counts, on the blocks of an image.
 //!
-//! A contract sees a `HeldTree`: the definitions' tree, and how often each of its numbers is held. A node
-//! goes exactly when it has no name and no holder, so the tree is always trimmed, and it always fits into
-//! its image. Blocks, pointers and slots stand below; the parent of each directory, and how many names and
-//! holders each node has, are stored, and stand in the invariant alone.
+//! Contracts see a `HeldTree`: the specification's tree and the reference count of each node. A node exists as long as
+//! it has a name or a reference. The tree always fits in its image. Lower crates hide blocks, pointers and slots. The
+//! stored parents of directories and counts of names appear only in the invariant.
 //!
-//! `tree` has `Tree` and what it answers; below it `image` has the tree of an image that was written before,
-//! `making` new nodes, `names` links, unlinks and renames, `node_names` the names of a node, `holding` holders, and `contents` the bytes of
-//! files. `store` has `Store`, a tree before boot, and `place` a place whose name stands elsewhere.
+//! `tree` defines `Tree` and its queries. Its submodules: `image` reads an existing image, `making` creates nodes,
+//! `names` links, unlinks and renames, `node_names` lists the names of a node, `holding` counts references, and
+//! `contents` writes files. `store` defines `Store`, a tree before boot, and `place` defines `PlaceRef`, a place with a
+//! borrowed name.
 #![tactic(auto)]
 
 mod place;

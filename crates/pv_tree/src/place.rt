@@ -1,4 +1,4 @@
-//! Where a walk ends, with its name elsewhere.
+//! Places with borrowed names.
 ghost use Rattle.std.specs.Prelude.{◌≡◌, ◌≤◌, length, MatchOption, None, Some};
 ghost use Rattle.pv_model.specs.declared.limits.TheConstants.{NAME_V2};
 ghost use Rattle.pv_model.specs.declared.place.Place.TheVariants.{At, Node};
@@ -7,17 +7,17 @@ ghost use Rattle.pv_model.specs.Effect.{node_of, name_of};
 use pv_model::{Name, Place};
 use std::marker::Model;
 
-/// Where a walk ends, whose name stands elsewhere, as in the path: a few words to copy, where a `Place` has room for a
-/// name. A contract sees the place.
+/// The place where a path walk ends, with a borrowed name, for example a part of the path. It is a few words long and
+/// cheap to copy; a `Place` contains the name itself. Contracts see it as the place.
 #[derive(Drop)]
 pub struct PlaceRef<'a> {
     spot: Spot<'a>,
 }
 
-/// The place itself.
+/// The variants of a place.
 #[derive(Clone, Copy)]
 pub(crate) enum Spot<'a> {
-    /// An entry of a directory: its number, the name in it, and the node under the name, if there is one.
+    /// An entry of a directory: the number of the directory, the name, and the node that has the name, if there is one.
     At(u16, &'a [u8], Option<u16>),
     /// A node without a name.
     Node(u16),
@@ -35,8 +35,8 @@ impl<'a> Model for PlaceRef<'a> {
 }
 
 impl<'a> PlaceRef<'a> {
-    /// An entry of a directory: its number, the name in it, which has at most 255 bytes, and the node under the name, if
-    /// there is one.
+    /// Creates the place of an entry: the number of the directory, the name, which has at most 255 bytes, and the node
+    /// that has the name, if there is one.
     pub fn at(directory: u16, name: &'a [u8], node: Option<u16>) -> PlaceRef<'a>
         requires { length name.now ≤ NAME_V2 }
         ensures { result ≡ At directory name.now node }
@@ -46,7 +46,7 @@ impl<'a> PlaceRef<'a> {
         }
     }
 
-    /// A node without a name.
+    /// Creates the place of a node without a name.
     pub fn of_node(node: u16) -> PlaceRef<'a>
         ensures { result ≡ Node node }
     {
@@ -55,7 +55,7 @@ impl<'a> PlaceRef<'a> {
         }
     }
 
-    /// A place whose name stands in it.
+    /// Creates a reference to `place` that borrows its name.
     pub fn of(place: &'a Place) -> PlaceRef<'a>
         ensures { result ≡ place.now }
     {
@@ -65,7 +65,7 @@ impl<'a> PlaceRef<'a> {
         }
     }
 
-    /// The node at it, if there is one.
+    /// Returns the node at the place, if there is one.
     pub fn node(&self) -> Option<u16>
         ensures { result ≡ node_of self.now }
     {
@@ -75,7 +75,7 @@ impl<'a> PlaceRef<'a> {
         }
     }
 
-    /// The directory and the name of one that has a name.
+    /// Returns the directory and the name of the place, or `None` if it has no name.
     pub fn name(&self) -> Option<(u16, &'a [u8])>
         ensures { MatchOption result (name_of self.now ≡ None) (λ p. name_of self.now ≡ Some (p.0, p.1.now)) }
     {
@@ -85,7 +85,7 @@ impl<'a> PlaceRef<'a> {
         }
     }
 
-    /// The place with a name of its own.
+    /// Returns the place with a copy of the name.
     pub fn to_place(&self) -> Place
         ensures { result ≡ self.now }
     {

@@ -6,17 +6,17 @@ ghost use Rattle.pv_model.specs.Tree.{Tree as Nodes};
 ghost use Rattle.pv_dirs.specs.Images.{IsImage};
 ghost use Rattle.pv_tree.specs.Changes.{root_alone};
 ghost use Rattle.pv_tree.specs.Holding.{IsUnheld};
-ghost use Rattle.pv_tree.specs.Standing.{IsAtRest};
+ghost use Rattle.pv_tree.specs.Present.{IsAtRest};
 
 use crate::Tree;
 use pv_model::Version;
 use std::alloc::{AllocError, Global};
 use std::marker::Model;
 
-/// A tree before boot: nothing is held, so each node but the root has a name.
+/// A tree before boot. It has no references, so each node except the root has a name.
 #[derive(Drop)]
 pub struct Store {
-    // It stands apart, so that a store is small to move.
+    // The tree is boxed, so that moving a store is cheap.
     tree: Box<Tree>,
 }
 
@@ -32,12 +32,12 @@ impl Model for Store {
 }
 
 impl Store {
-    /// The tree of the root alone, in an image of this version, of so many blocks and inodes, over as many
-    /// blocks of zeros.
+    /// Creates a tree with only a root, in an image with this version and the given numbers of blocks and inodes.
+    /// `zeros` has the blocks, all zero.
     ///
     /// # Errors
     ///
-    /// Where memory for the tree, beside its blocks, was refused.
+    /// Returns `AllocError` if memory for the tree's tables cannot be allocated.
     pub fn empty(
         alloc: Global,
         zeros: Vec<u8>,
@@ -59,12 +59,12 @@ impl Store {
         })
     }
 
-    /// The tree of the image that these bytes are, of this version and with so many inodes. The bytes are its
-    /// blocks from then on: they are not copied.
+    /// Creates the tree of the image in `bytes`, which has this version and number of inodes. The vector becomes the
+    /// store of blocks, so nothing is copied.
     ///
     /// # Errors
     ///
-    /// Where memory for the tree, beside its blocks, was refused.
+    /// Returns `AllocError` if memory for the tree's tables cannot be allocated.
     pub fn of_image(
         alloc: Global,
         bytes: Vec<u8>,
@@ -80,7 +80,7 @@ impl Store {
         })
     }
 
-    /// The store of a tree of which nothing is held.
+    /// Creates the store of a tree without references.
     pub fn of_tree(tree: Box<Tree>) -> Store
         requires { IsUnheld tree.value.holds }
         ensures { result ≡ tree.value.tree }
@@ -88,23 +88,23 @@ impl Store {
         Store { tree }
     }
 
-    /// Does nothing: its contract says what holds of every store: the tree is well-formed and has room in its image, and
-    /// each node but the root has a name.
+    /// Does nothing. Its contract states the invariant of every store: the tree is well-formed and fits in its image,
+    /// and each node except the root has a name.
     pub fn invariant(&self)
         ensures { IsAtRest self.now }
     {
         self.tree.invariant();
     }
 
-    /// Puts the entries of the directories in the order of the names, where they are not known to stand so. The
-    /// tree is the same, but names are found and listed in fewer steps.
+    /// Sorts the entries of the directories by name, unless they are known to be sorted. The tree does not change, but
+    /// lookups and listings take fewer steps.
     pub fn order_entries(&mut self)
         ensures { self.new ≡ self.old }
     {
         self.tree.order_entries();
     }
 
-    /// The tree.
+    /// Returns the tree.
     pub fn tree(&self) -> &Tree
         ensures tree { result.now.tree ≡ self.now }
         ensures unheld { IsUnheld result.now.holds }
@@ -112,7 +112,7 @@ impl Store {
         &self.tree
     }
 
-    /// The tree, to be changed.
+    /// Converts the store to its tree, which can then be modified.
     pub fn into_tree(self) -> Box<Tree>
         ensures tree { result.value.tree ≡ self }
         ensures unheld { IsUnheld result.value.holds }

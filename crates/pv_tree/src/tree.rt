@@ -1,4 +1,4 @@
-//! A tree on the blocks of an image, with who holds what.
+//! A tree on the blocks of an image, with reference counts.
 ghost use Rattle.std.specs.Prelude.{◌≡◌, ◌+◌, ◌-◌, ◌*◌, ◌<◌, ◌≤◌, ◌↔◌, min, replicate, slice_set, vec_len, ◌==◌, All, false, [], ◌++◌, length, take, drop, IfOk, IfSome, IsTrue, Some, IsSome, option_map};
 ghost use Rattle.std.specs.Option.{option_copied};
 ghost use Rattle.pv_model.specs.Calls.Descriptors.{next_name};
@@ -13,7 +13,7 @@ ghost use Rattle.pv_dirs.specs.Listing.{IsNextName, IsNextNameOf};
 ghost use Rattle.pv_dirs.specs.Trees.{sort_of, bytes_at};
 ghost use Rattle.pv_tree.specs.Changes.{root_alone};
 ghost use Rattle.pv_tree.specs.Holding.{holds_at};
-ghost use Rattle.pv_tree.specs.Standing.{IsStanding};
+ghost use Rattle.pv_tree.specs.Present.{IsPresent};
 
 mod contents;
 mod holding;
@@ -28,25 +28,25 @@ use pv_model::{Kind, Name, Version};
 use std::alloc::{AllocError, Global};
 use std::marker::Model;
 
-/// The numbers of nodes: 0, which is none, and those of the greatest image.
+/// The number of node numbers: 0, which is no node, and those of the largest image.
 pub(crate) const NUMBERS: usize = INODES + 1;
 
-/// A tree of nodes by names, on the blocks of an image, and how often each node is held. To make one takes memory
-/// for an index of its entries; nothing else here takes memory.
+/// A tree of nodes by name, on the blocks of an image, with the reference count of each node. The constructors allocate
+/// an index of the entries; no other method allocates memory.
 #[derive(Drop)]
 pub struct Tree {
     directories: Directories,
-    // The directory above each directory; 0 where none is.
+    // The parent of each directory, or 0 if it has none.
     parents: [u16; NUMBERS],
-    // How many names each node has.
+    // The number of names of each node.
     names: [u32; NUMBERS],
-    // How often each node is held.
+    // The reference count of each node.
     holds: [u16; NUMBERS],
 }
 
 impl Model for Tree {
     ghost use Rattle.pv_tree.specs.Holding.{HeldTree};
-    ghost use Rattle.pv_tree.specs.Standing.{IsTied};
+    ghost use Rattle.pv_tree.specs.Present.{IsTied};
 
     ghost Value = { HeldTree };
 
@@ -55,18 +55,18 @@ impl Model for Tree {
     ghost invariant = { λ t. IsTied t.directories t.parents t.names t.holds };
 }
 
-/// The sizes of an image: how many data blocks it has, for how many nodes, and its version.
+/// The sizes of an image: the number of data blocks, the number of inodes and the version.
 #[derive(Clone, Copy, Debug, PartialEq, Eq)]
 pub struct Sizes {
-    /// The data blocks.
+    /// The number of data blocks.
     pub blocks: u16,
-    /// The greatest number of a node.
+    /// The number of inodes, which is the maximum number of a node.
     pub inodes: u16,
     /// The version of the format.
     pub version: Version,
 }
 
-// The parents of the tree of the root alone.
+// Returns the parents of a tree with only a root.
 fn root_above_itself() -> [u16; NUMBERS]
     ensures { result ≡ slice_set (replicate NUMBERS 0) 1 1 }
 {
@@ -75,14 +75,14 @@ fn root_above_itself() -> [u16; NUMBERS]
     parents
 }
 
-// No node has a name.
+// Returns name counts of zero.
 fn no_names() -> [u32; NUMBERS]
     ensures { result ≡ replicate NUMBERS 0 }
 {
     [0; NUMBERS]
 }
 
-// No node is held.
+// Returns reference counts of zero.
 fn no_holds() -> [u16; NUMBERS]
     ensures { result ≡ replicate NUMBERS 0 }
 {
@@ -90,11 +90,12 @@ fn no_holds() -> [u16; NUMBERS]
 }
 
 impl Tree {
-    /// The tree of the root alone, in an image of so many blocks and inodes over zeros; nothing is held.
+    /// Creates a tree with only a root, in an image with the given numbers of blocks and inodes, in a vector of zeros.
+    /// No node is referenced.
     ///
     /// # Errors
     ///
-    /// Where memory for its directories was refused.
+    /// Returns `AllocError` if memory for the directories cannot be allocated.
     pub(crate) fn empty(
         alloc: Global,
         zeros: Vec<u8>,
@@ -123,19 +124,19 @@ impl Tree {
         })
     }
 
-    /// Does nothing: its contract says what holds of the tree at any time.
+    /// Does nothing. Its contract states the invariant of the tree.
     pub fn invariant(&self)
-        ensures { IsStanding self.now }
+        ensures { IsPresent self.now }
     {
         let _ = self.sizes();
     }
 
-    /// The sizes of the image. They say too what is true of every tree.
+    /// Returns the sizes of the image. The contract also states the invariant of every tree.
     pub fn sizes(&self) -> Sizes
         ensures blocks { result.blocks ≡ self.now.tree.blocks }
         ensures inodes { result.inodes ≡ self.now.tree.inodes }
         ensures version { result.version ≡ self.now.tree.version }
-        ensures standing { IsStanding self.now }
+        ensures present { IsPresent self.now }
     {
         Sizes {
             blocks: self.directories.blocks(),
@@ -144,21 +145,21 @@ impl Tree {
         }
     }
 
-    /// Whether a number is that of a node.
+    /// Returns whether `node` is the number of a node.
     pub fn is_used(&self, node: u16) -> bool
         ensures { IsTrue result ↔ IsSome (node_at self.now.tree node) }
     {
         self.directories.is_used(node)
     }
 
-    /// Whether a number is that of a directory.
+    /// Returns whether `node` is the number of a directory.
     pub fn is_directory(&self, node: u16) -> bool
         ensures { result ≡ is_directory_at self.now.tree node }
     {
         self.directories.is_directory(node)
     }
 
-    /// What a node is.
+    /// Returns the kind of a node.
     pub fn kind(&self, node: u16) -> Kind
         requires { IsSome (node_at self.now.tree node) }
         ensures { option_map sort_of (node_at self.now.tree node) ≡ Some result }
@@ -166,8 +167,8 @@ impl Tree {
         self.directories.kind(node)
     }
 
-    /// The size of a node, as stat(2) gives it: the number of a directory's entries, of a file's bytes, or
-    /// of those of a link's text.
+    /// Returns the size of a node as stat(2) reports it: the number of entries of a directory, the number of bytes of a
+    /// file, or the length of a symbolic link's target.
     pub fn size(&self, node: u16) -> u32
         requires { IsSome (node_at self.now.tree node) }
         ensures value { option_map size_of (node_at self.now.tree node) ≡ Some result }
@@ -176,7 +177,7 @@ impl Tree {
         self.directories.size(node)
     }
 
-    /// The directory above a directory: the root is above itself, and none is above a removed one.
+    /// Returns the parent of a directory. The root is its own parent, and a removed directory has none.
     pub fn parent(&self, directory: u16) -> Option<u16>
         requires { IsTrue (is_directory_at self.now.tree directory) }
         ensures { result ≡ parent self.now.tree directory }
@@ -185,7 +186,8 @@ impl Tree {
         if above == 0 { None } else { Some(above) }
     }
 
-    /// Whether a node is a directory itself, or stands above it: where rename(2) may not put the node.
+    /// Returns whether `node` is the directory itself or one of its ancestors. rename(2) cannot move a node to such a
+    /// directory.
     pub fn contains(&self, node: u16, directory: u16) -> bool
         requires { IsTrue (is_directory_at self.now.tree directory) }
         ensures { result ≡ contains_directory self.now.tree node directory }
@@ -206,7 +208,7 @@ impl Tree {
         false
     }
 
-    /// How many names a node has.
+    /// Returns the number of names of a node.
     pub fn names(&self, node: u16) -> u32
         requires { IsSome (node_at self.now.tree node) }
         ensures { result ≡ length (names_of self.now.tree node) }
@@ -214,7 +216,7 @@ impl Tree {
         self.names[node as usize]
     }
 
-    /// How often a node is held.
+    /// Returns the reference count of a node.
     pub fn holds(&self, node: u16) -> u16
         requires { IsSome (node_at self.now.tree node) }
         ensures { result ≡ holds_at self.now node }
@@ -222,7 +224,7 @@ impl Tree {
         self.holds[node as usize]
     }
 
-    /// The number of the node under a name of a directory.
+    /// Returns the number of the node that a directory has under `name`.
     pub fn find(&self, directory: u16, name: &[u8]) -> Option<u16>
         requires { IsTrue (is_directory_at self.now.tree directory) }
         ensures { result ≡ find_entry self.now.tree directory name.now }
@@ -230,8 +232,8 @@ impl Tree {
         self.directories.find(directory, name)
     }
 
-    /// The least name of a directory, in byte order, that comes after the last one; without a last one
-    /// the least of all. None where no name comes after it.
+    /// Returns the least name of a directory, in byte order, that follows `last`, or the least name of all if there is
+    /// no `last`. Returns `None` if no name follows.
     pub fn next_after(&self, directory: u16, last: Option<&[u8]>) -> Option<Name>
         requires { IsTrue (is_directory_at self.now.tree directory) }
         ensures value { result ≡ next_name (option_copied last.entry) (entries_at self.now.tree directory) }
@@ -240,9 +242,11 @@ impl Tree {
         self.directories.next_after(directory, last)
     }
 
-    /// The least name of a directory, in byte order, that comes after the last one, and the number of its node; without
-    /// a last one the least of all. None where no name comes after it. `before` is a guess of how many names come before
-    /// the answer: it is the same with any, and found at once where the guess is right and the names ascend from slot to slot.
+    /// Returns the least name of a directory, in byte order, that follows `last`, with the number of its node. If there
+    /// is no `last`, it returns the least name of all. Returns `None` if no name follows.
+    ///
+    /// `before` is a guess of the number of names that precede the result. It does not affect the result. If the guess
+    /// is right and the names ascend from slot to slot, the name is found in one step.
     pub fn next_entry(
         &self,
         directory: u16,
@@ -257,8 +261,8 @@ impl Tree {
         self.directories.next_entry(directory, last, before)
     }
 
-    /// The least name of a directory, in byte order, that names a node and comes after the last one; without a last one
-    /// the least of all that do. None where no such name comes after it.
+    /// Returns the least name of a directory, in byte order, that names `node` and follows `last`. If there is no
+    /// `last`, it returns the least name of `node` in the directory. Returns `None` if there is no such name.
     pub fn next_name_of(&self, directory: u16, node: u16, last: Option<&[u8]>) -> Option<Name>
         requires { IsTrue (is_directory_at self.now.tree directory) }
         ensures { IsNextNameOf self.now.tree directory node (option_copied last.entry) result }
@@ -266,7 +270,7 @@ impl Tree {
         self.directories.next_name_of(directory, node, last)
     }
 
-    /// Whether a directory has no entry.
+    /// Returns whether a directory has no entry.
     pub fn is_empty(&self, directory: u16) -> bool
         requires { IsTrue (is_directory_at self.now.tree directory) }
         ensures { IsTrue result ↔ (entries_at self.now.tree directory ≡ []) }
@@ -274,8 +278,8 @@ impl Tree {
         self.directories.is_empty(directory)
     }
 
-    /// A run of the bytes of a file, or of a link's text, from `at` on, where they stand: at least one, and as many as
-    /// stand together there.
+    /// Returns the contents of a file, or the target of a symbolic link, from offset `at`, without a copy: at least one
+    /// byte, and as many as are contiguous in memory.
     pub fn lend(&self, node: u16, at: u32) -> &[u8]
         requires used { IsSome (node_at self.now.tree node) }
         requires other { is_directory_at self.now.tree node ≡ false }
@@ -287,8 +291,9 @@ impl Tree {
         self.directories.lend(node, at)
     }
 
-    /// Copies the bytes of a file, or of a link's text, from `at` on, to the front of the buffer. The result
-    /// is how many: as many as the buffer takes, or fewer where the bytes end, or none past their end.
+    /// Copies the contents of a file, or the target of a symbolic link, from offset `at` to the front of `buffer`.
+    /// Returns the number of bytes copied: it is less than the length of `buffer` if the contents end before that, and
+    /// 0 at or past their end.
     pub fn read_at(&self, node: u16, at: u32, buffer: &mut [u8]) -> usize
         requires used { IsSome (node_at self.now.tree node) }
         requires other { is_directory_at self.now.tree node ≡ false }

@@ -1,4 +1,4 @@
--- One step of climbing, and from where places are climbed.
+-- One step of a climb, and the start of a climb for a place.
 use Rattle.std.proofs.Common.{◌≡◌, ◌≢◌, ℕ, zero, suc, ◌<◌, ◌≤◌, Bool, true, false, cond, nat_lt, ◌==◌, ◌⊎◌, inl, inr, [], ◌∷◌, length, Option, None, Some, is_none, Ok, refl, sym, ap, subst, ◌∙◌, arith}
 use Rattle.std.specs.Prelude.{option_and_then, unwrap_or}
 use Rattle.std.proofs.lemmas.Bool.{lt-ltb, le-ltb, ne_eqb}
@@ -13,7 +13,7 @@ use Rattle.pv_model.specs.Tree.{Tree, root, is_directory_at, parent, IsWellForme
 use Rattle.pv_model.specs.Unveil.{Table, entry_for, Governs, own, from_above, climb, directory_rights}
 use Rattle.pv_model.specs.Walk.{resolve}
 use Rattle.pv_laws_trees.proofs.Places.{IsGoodPlace, parent-directory, resolve-good}
-use Rattle.pv_laws_trees.proofs.Above.{IsBelow, at_root, one_below, stands-reached, reached-below, depth-below}
+use Rattle.pv_laws_trees.proofs.Above.{IsBelow, at_root, one_below, appears-reached, reached-below, depth-below}
 use Rattle.pv_laws_trees.proofs.Trees.{sound}
 use Rattle.pv_unveil.specs.Up.{up, directory_of}
 
@@ -26,19 +26,19 @@ at_the_top f true p is = refl
 at_the_top f false p is = rw is refl
 
 module _ (t : Tree) (table : Table) (steps d : ℕ) where
-  -- a directory's own entry
+  -- a directory with an entry
   pub climb-own : (k : ℕ) → entry_for table (Directory d) ≡ Some k → climb t table (suc steps) d ≡ Some k
   climb-own k is = rw is refl
 
-  -- that of the directory above
+  -- a directory without one, with a parent
   pub climb-above : (above : ℕ) → entry_for table (Directory d) ≡ None → up t d ≡ Some above → climb t table (suc steps) d ≡ climb t table steps above
   climb-above above none is = rw none (on_the_way (climb t table steps) (d == root) (parent t d) above is)
 
-  -- none at the top
+  -- a directory without one at the top
   pub climb-top : entry_for table (Directory d) ≡ None → up t d ≡ None → climb t table (suc steps) d ≡ None
   climb-top none is = rw none (at_the_top (climb t table steps) (d == root) (parent t d) is)
 
--- what is above a directory is a directory
+-- the parent of a directory is a directory
 under_root : (b : Bool) (p : Option ℕ) (above : ℕ) → cond b None p ≡ Some above → p ≡ Some above
 under_root true p above is = cc
 under_root false p above is = is
@@ -46,12 +46,12 @@ under_root false p above is = is
 pub up-directory : (t : Tree) → IsWellFormed t → (d above : ℕ) → up t d ≡ Some above → is_directory_at t above ≡ true
 up-directory t well d above is = parent-directory (λ b. true) t (sound t well) d above (under_root (d == root) (parent t d) above is)
 
--- ---- as a loop climbs: 0 stands for the directory above a removed one
+-- ---- the loop: 0 represents the missing parent of a removed directory
 
 abbrev pub next : Tree → ℕ → ℕ
 next t d = unwrap_or (parent t d) 0
 
--- how often it climbs, at most so many times
+-- the number of steps of a climb, up to a limit
 pub height : Tree → ℕ → ℕ → ℕ
 height t zero d = 0
 height t (suc n) d = cond (nat_lt 1 d) (suc (height t n (next t d))) 0
@@ -66,7 +66,7 @@ module _ (t : Tree) where
   height-end zero d end = refl
   height-end (suc n) d end = ap (λ b. cond b (suc (height t n (next t d))) 0) (le-ltb 1 d end)
 
-  -- more times than there are steps to the root make no difference
+  -- a limit above the number of steps to the root does not matter
   height-enough : (d k : ℕ) → IsBelow t d k → (n : ℕ) → k ≤ n → height t n d ≡ height t (suc n) d
   unfolding height
   height-enough _ _ at_root n enough = height-end n root (omega arith) ∙ sym (height-end (suc n) root (omega arith))
@@ -80,7 +80,7 @@ module _ (t : Tree) where
   steps_above _ _ above (one_below d above' k other' rises' below) other rises =
       let same : above' ≡ above = cc in (k, refl, subst (λ a. IsBelow t a k) same below)
 
-  -- the way from the next directory on is shorter
+  -- the climb from the next directory is shorter
   pub height-smaller : IsWellFormed t → (d : ℕ) → 1 < d → is_directory_at t d ≡ true → height t (suc t.inodes) (next t d) < height t (suc t.inodes) d
   height-smaller well d more is = by (parent t d) refl
     where
@@ -93,7 +93,7 @@ module _ (t : Tree) where
           smaller (height-end t.inodes (next t d) end ∙ sym (height-end (suc t.inodes) (next t d) end))
       by (Some above) rises =
           let s = sound t well in
-          let below = reached-below t s d (stands-reached t s d (ap is_none rises)) is in
+          let below = reached-below t s d (appears-reached t s d (ap is_none rises)) is in
           let rest = steps_above d below.0 above below.1 (λ e. omega (arith, more, e)) rises in
           let enough : rest.0 ≤ t.inodes = omega (arith, depth-below t s d below.0 below.1, rest.1, well.numbers) in
           smaller (subst (λ (o : Option ℕ). height t t.inodes (unwrap_or o 0) ≡ height t (suc t.inodes) (unwrap_or o 0)) (sym rises) (height-enough above rest.0 rest.2 t.inodes enough))
@@ -103,7 +103,7 @@ module _ (t : Tree) (table : Table) where
   governs-above _ _ (own d k is) none above rises = cc
   governs-above _ _ (from_above d other k not_root none' rises' below) none above rises = let same : other ≡ above = cc in subst (λ a. Governs t table a k) same below
 
-  -- a directory without an entry has the rights of the one above
+  -- a directory without an entry has the rights of its parent
   same-rights : (d above : ℕ) → d ≢ root → entry_for table (Directory d) ≡ None → parent t d ≡ Some above → directory_rights t table above ≡ directory_rights t table d
   same-rights d above other none rises = by (directory_rights t table d) (directory_rights t table above) refl refl
     where
@@ -112,7 +112,7 @@ module _ (t : Tree) (table : Table) where
       by None (Some k) is are = let found = directory_rights-Governs t table d k (from_above d above k other none rises (Governs-directory_rights t table above k are)) in cc
       by None None is are = are ∙ sym is
 
-  -- what a directory has of its own, and where none is above
+  -- the rights of a directory with an entry, and of one without entry and parent
   rights-own : (d k : ℕ) → entry_for table (Directory d) ≡ Some k → directory_rights t table d ≡ Some k
   unfolding directory_rights
   rights-own d k is = climb-own t table (length t.nodes) d k is
@@ -121,7 +121,7 @@ module _ (t : Tree) (table : Table) where
   unfolding directory_rights
   rights-top d none top = climb-top t table (length t.nodes) d none top
 
-  -- climbing from a directory is at one with the same rights, or at none, where there are no rights
+  -- the climb is at a directory with the same rights, or at 0 if there are no rights
   abbrev pub IsClimbed : ℕ → ℕ → Type 0
   IsClimbed directory d =
       ((d ≡ 0) × (directory_rights t table directory ≡ None)) ⊎ ((is_directory_at t d ≡ true) × (directory_rights t table d ≡ directory_rights t table directory))
@@ -175,7 +175,6 @@ module _ (t : Tree) (table : Table) where
           let yes = subst (λ n. is_directory_at t n ≡ true) zero is.0 in cc
     ]
 
--- each byte passes the test that all pass
 all_pass : (bytes : Bytes) → list_all (λ b. true) bytes ≡ true
 all_pass [] = refl
 all_pass (b ∷ bytes) = all_pass bytes
@@ -184,7 +183,7 @@ good-directory : (t : Tree) (place : Place) → IsGoodPlace (λ b. true) t place
 good-directory t (Unnamed d) is = is
 good-directory t (At d name n) is = is.0
 
--- where a path leads from a directory
+-- the place to which a path leads from a directory
 pub resolve-directory : (t : Tree) → IsWellFormed t → (follow : Follow) (start : ℕ) (path : Bytes) (place : Place) → is_directory_at t start ≡ true
     → resolve t follow start path ≡ Ok place → is_directory_at t (directory_of place) ≡ true
 resolve-directory t well follow start path place dir is =

@@ -1,4 +1,4 @@
--- An entry's number and its permissions, after another takes its place and after one comes.
+-- The number and the permissions of an entry, after an entry is replaced or appended.
 use Rattle.std.proofs.Common.{◌≡◌, ℕ, ◌+◌, ◌<◌, ◌≤◌, Bool, true, false, cond, not, nat_lt, bytes_eq, List, [], ◌∷◌, ◌++◌, length, slice_set, None, Some, ◌∙◌, sym, ap, refl, arith}
 use Rattle.std.proofs.lemmas.Bool.{eq-eqb, ltb-false, lt-ltb}
 use Rattle.std.proofs.lemmas.List.{get_or_push, get_or-set_same, length-set, length_push}
@@ -42,7 +42,7 @@ same_target-same (Directory d) = eq-eqb d d refl
 same_target-same (Name d name) = rw (eq-eqb d d refl, bytes_eq-same name) refl
 
 module _ (table : Table) (target : Target) (permissions : Perms) where
-  -- an entry for the target in the place of the one that is there
+  -- replacing the entry of a target
   pub entry_for-set : (k : ℕ) → entry_for table target ≡ Some k → entry_for (slice_set table k (target, permissions)) target ≡ Some k
   entry_for-set k found = position-set (λ e. same_target e.0 target) table (target, permissions) (same_target-same target) k found
 
@@ -51,7 +51,7 @@ module _ (table : Table) (target : Target) (permissions : Perms) where
       let within' : k < length (slice_set table k (target, permissions)) = rw length-set within in
       ap permissions_of (slice_get_read (slice_set table k (target, permissions)) _ k (target, permissions) refl within' (sym (get_or-set_same table k (target, permissions) (target, permissions) within)))
 
-  -- a new entry
+  -- appending an entry
   pub entry_for-push : entry_for table target ≡ None → entry_for (table ++ (target, permissions) ∷ []) target ≡ Some (length table)
   entry_for-push none = position-push (λ e. same_target e.0 target) table (target, permissions) (same_target-same target) none
 

@@ -1,4 +1,4 @@
--- The judgement that is computed is one by the entry that governs.
+-- The computed judgement is by the entry that governs.
 use Rattle.std.proofs.Common.{List, ◌≡◌, ℕ, Bool, true, false, cond, inl, inr, Option, None, Some, ◌∙◌, sym, refl}
 use Rattle.std.specs.Option.{option_or}
 use Rattle.pv_model.proofs.Rights.{Governs-directory_rights, directory_rights-Governs}
@@ -14,7 +14,7 @@ use Rattle.pv_model.specs.Unveil.{Table, entry_for, permissions_at, target_of, d
 use Rattle.pv_unveil.specs.Judged.{GovernsTarget, IsJudged}
 
 module _ (t : Tree) (table : Table) where
-  -- the entry that governs a target, as it is found
+  -- the entry that governs a target, as the code computes it
   abbrev target_entry : Target → Option ℕ
   target_entry (Directory d) = directory_rights t table d
   target_entry (Name d name) = option_or (entry_for table (Name d name)) (directory_rights t table d)

@@ -1,4 +1,4 @@
--- What keys of entries tell of the entries.
+-- Keys and their entries.
 use Rattle.std.proofs.Common.{◌≡◌, ℕ, zero, suc, ◌+◌, ◌<◌, ◌≤◌, Bool, true, false, cond, not, nat_lt, bytes_eq, List, [], ◌∷◌, ◌++◌, length, map, drop, get_or, slice_set, Option, None, Some, ◌∙◌, sym, ap, ap₂, refl, arith}
 use Rattle.std.specs.Prelude.{position, ◌&&◌, ◌==◌}
 use Rattle.std.specs.List.{list_all, position_or_len, position_from}
@@ -17,7 +17,7 @@ use Rattle.pv_unveil.specs.Keys.{key_of, keys_of, is_own, is_name_in, is_target_
 use Rattle.pv_unveil.specs.Marks.{is_marked, has_mark}
 use Rattle.pv_unveil.specs.declared.marks.Marks.{Marks}
 
--- a test of what is made of each element
+-- a test on the images of elements
 module _ {X Y : Type 0} (f : X → Y) (q : Y → Bool) (p : X → Bool) (same : (x : X) → q (f x) ≡ p x) where
   position_or_len-map : (xs : List X) → position_or_len q (map f xs) ≡ position_or_len p xs
   position_or_len-map [] = refl
@@ -30,14 +30,14 @@ own-same : (d : ℕ) (e : Target × Perms) → is_own d (key_of e.0) ≡ same_ta
 own-same d (Directory n, permissions) = refl
 own-same d (Name n name, permissions) = refl
 
--- the key of a directory's own entry stands where the entry does
+-- the key of a directory's own entry has the index of the entry
 pub own-entry : (table : Table) (keys : List Key) (d : ℕ) → keys ≡ keys_of table → position (λ key. is_own d key) keys ≡ entry_for table (Directory d)
 own-entry table keys d is =
     ap (position (λ key. is_own d key)) is ∙ position-map (λ e. key_of e.0) (λ key. is_own d key) (λ e. same_target e.0 (Directory d)) (own-same d) table
 
 -- ---- marks
 
--- what is the same target falls on the same mark
+-- equal targets have the same mark
 same-mark : (marks : Marks) (one other : Target) → same_target one other ≡ true → has_mark marks one ≡ has_mark marks other
 same-mark marks (Directory d) (Directory e) same = ap (is_marked marks.directories) (eqb-true d e same)
 same-mark marks (Directory d) (Name e name) same = cc same
@@ -46,11 +46,11 @@ same-mark marks (Name d name) (Name e other) same =
     let parts = and_parts (d == e) (bytes_eq name other) same in
     ap₂ (λ (n : ℕ) (bytes : List ℕ). is_marked marks.names (n + length bytes)) (eqb-true d e parts.0) ((bytes_eq-Decides name other).0 parts.1)
 
--- each entry's target has its mark
+-- the mark of each entry's target is set
 abbrev are_marked : Marks → Table → Bool
 are_marked marks table = list_all (λ (e : Target × Perms). has_mark marks e.0) table
 
--- the marks of one are those of another too
+-- one set of marks includes another
 abbrev Keeps : Marks → Marks → Type 0
 Keeps old new = (target : Target) → has_mark old target ≡ true → has_mark new target ≡ true
 
@@ -80,7 +80,7 @@ no-entry marks (e ∷ es) target unmarked is =
     let one_more : 1 + length es ≡ suc (length es) = omega arith in
     ap₂ (λ b n. cond (not b) (1 + n) 0) (no-same marks e.0 target unmarked parts.0) (no-entry marks es target unmarked parts.1) ∙ one_more
 
--- no entry is for a target that falls on no mark
+-- there is no entry for a target whose mark is not set
 pub unmarked-entry : (table : Table) (keys : List Key) (marks : Marks) (capacity : ℕ) (target : Target) → IsKeyed table keys marks capacity → has_mark marks target ≡ false
     → entry_for table target ≡ None
 unmarked-entry table keys marks capacity target is unmarked =
@@ -89,7 +89,7 @@ unmarked-entry table keys marks capacity target is unmarked =
 
 module _ (table : Table) (keys : List Key) (old new : Marks) (capacity : ℕ) (target : Target) (permissions : Perms)
     (is : IsKeyed table keys old capacity) (keeps : Keeps old new) (own : has_mark new target ≡ true) where
-  -- another entry in the place of one, and its key
+  -- replacing an entry and its key
   pub keyed-set : (k : ℕ) → IsKeyed (slice_set table k (target, permissions)) (slice_set keys k (key_of target)) new capacity
   keyed-set k = record {
     keys = ap (λ ks. slice_set ks k (key_of target)) is.keys ∙ sym (map-set (λ e. key_of e.0) table k (target, permissions));
@@ -98,7 +98,7 @@ module _ (table : Table) (keys : List Key) (old new : Marks) (capacity : ℕ) (t
     room = is.room;
   }
 
-  -- another entry after them, and its key
+  -- appending an entry and its key
   pub keyed-push : length table < UNVEILS → IsKeyed (table ++ (target, permissions) ∷ []) (keys ++ key_of target ∷ []) new capacity
   keyed-push less = record {
     keys = ap (λ ks. ks ++ key_of target ∷ []) is.keys ∙ sym (map_push (λ e. key_of e.0) table (target, permissions));
@@ -128,7 +128,7 @@ named-same : (d : ℕ) (name : List ℕ) (e : Target × Perms) → is_name_in d 
 named-same d name (Directory n, permissions) = refl
 named-same d name (Name n other, permissions) = refl
 
--- the key of the entry and the name in it tell whether it is this one
+-- the key and the name of an entry determine whether it is the one searched for
 module _ (table : Table) (keys : List Key) (d : ℕ) (name : List ℕ) (k : ℕ) (key : Key) (e : Target × Perms) (is : keys ≡ keys_of table) (within : k < length keys) where
   inside : k < length table
   inside = omega (arith, within, ap length is, length-map table (λ (f : Target × Perms). key_of f.0))

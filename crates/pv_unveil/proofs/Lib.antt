@@ -1,5 +1,5 @@
--- Lemmas of tables: EntryLemmas and KeyLemmas (entries, by number and by key), Climbing (from where places are climbed), JudgedLemmas (the
--- judgement that is computed is by the entry that governs).
+-- Lemmas of tables: EntryLemmas and KeyLemmas (entries by number and by key), Climbing (climbs to parent directories),
+-- JudgedLemmas (the computed judgement is by the entry that governs).
 pub mod Climbing
 pub mod EntryLemmas
 pub mod JudgedLemmas

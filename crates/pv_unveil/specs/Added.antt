@@ -1,4 +1,4 @@
--- What it is to add an entry: unveil(2).
+-- Adding an entry: unveil(2).
 use Rattle.std.specs.Prelude.{Some}
 use Rattle.pv_model.specs.declared.errno.Errno.TheVariants.{EPERM, E2BIG}
 use Rattle.pv_model.specs.declared.outcome.Cause.TheVariants.{Unveil as ByUnveil, Locked as ByLock}
@@ -11,16 +11,16 @@ use Rattle.pv_unveil.specs.declared.table.AddFault.{AddFault}
 use Rattle.pv_unveil.specs.declared.table.AddFault.TheVariants.{Locked, Increase, Many}
 use Rattle.pv_unveil.specs.Unveiled.{Unveiled}
 
--- what a fault answers
+-- the result of a fault
 abbrev pub refusal : AddFault → Attempt Table
 refusal Locked = refused 0 EPERM ByLock
 refusal (Increase k) = refused 0 EPERM (ByUnveil (Some k))
 refusal Many = refuse E2BIG
 
--- an entry that is there may only lose permissions, and a new one is the next
+-- an existing entry can only lose permissions; a new entry is appended
 abbrev pub put_in : Table → Target → Perms → Attempt Table
 put_in table target permissions = add_entry table target permissions (entry_for table target)
 
--- the same, refused under the lock
+-- the same, but it fails if the table is locked
 abbrev pub add_to : Unveiled → Target → Perms → Attempt Table
 add_to unveiled target permissions = refuse_if_locked unveiled.locked >> put_in (entries_of_table unveiled.table) target permissions

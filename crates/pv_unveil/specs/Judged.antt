@@ -1,4 +1,4 @@
--- What a table says of a place, by the entry that governs it: unveil(2).
+-- The answer of a table for a place, by the entry that governs it: unveil(2).
 use Rattle.std.specs.Prelude.{◌≡◌, ◌⊎◌, ℕ, false, IsTrue, Option, None, Some}
 use Rattle.pv_model.specs.declared.judgement.Judgement.{Judgement}
 use Rattle.pv_model.specs.declared.judgement.Judgement.TheVariants.{Allowed, Hidden, Denied}
@@ -10,15 +10,15 @@ use Rattle.pv_model.specs.Perms.{covers}
 use Rattle.pv_model.specs.Tree.{Tree}
 use Rattle.pv_model.specs.Unveil.{Table, entry_for, permissions_at, target_of, Governs}
 
--- an entry governs a target: a directory's flows down to it, and a name's is its own, or else the one that
--- governs its directory
+-- an entry governs a target: a directory is governed as `Governs` defines; a name is governed by its own entry, or else
+-- by the one that governs its directory
 abbrev pub GovernsTarget : Tree → Table → Target → ℕ → Type 0
 GovernsTarget t table (Directory d) k = Governs t table d k
 GovernsTarget t table (Name d name) k =
     (entry_for table (Name d name) ≡ Some k) ⊎ ((entry_for table (Name d name) ≡ None) × Governs t table d k)
 
--- no table hides nothing; else a place is allowed by an entry that governs it and has the permissions, hidden
--- where none governs it, and denied by one that lacks a permission
+-- without a table, nothing is hidden; otherwise a place is allowed if an entry governs it and has the permissions,
+-- hidden if none governs it, and denied if the entry that governs it lacks a permission
 abbrev pub IsJudged : Tree → Option Table → Place → Perms → Judgement → Type 0
 IsJudged t None place needed judged = judged ≡ Allowed
 IsJudged t (Some table) place needed Allowed =

@@ -1,4 +1,4 @@
--- The way up from a directory, and from which one a place's rights come.
+-- The parent from which a directory inherits its rights, and the directory of a place.
 use Rattle.std.specs.Prelude.{◌≡◌, ℕ, IsTrue, Option, None, Ok, if◌then◌else◌, ◌==◌}
 use Rattle.pv_model.specs.declared.follow.Follow.{Follow}
 use Rattle.pv_model.specs.declared.place.Place.{Place}
@@ -7,11 +7,11 @@ use Rattle.pv_model.specs.Bytes.{Bytes}
 use Rattle.pv_model.specs.Tree.{Tree, root, is_directory_at, parent, IsWellFormed}
 use Rattle.pv_model.specs.Walk.{resolve}
 
--- the directory above, which neither the root nor a removed directory has
+-- the parent of a directory; the root and removed directories have none here
 abbrev pub up : Tree → ℕ → Option ℕ
 up t d = if d == root then None else parent t d
 
--- the directory of a place: the one in which its name stands, or the node itself where it has no name
+-- the directory of a place: the one that contains its name, or the node itself if it has no name
 abbrev pub directory_of : Place → ℕ
 directory_of (Unnamed d) = d
 directory_of (At d name n) = d

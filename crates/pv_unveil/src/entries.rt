@@ -1,4 +1,4 @@
-//! Entries of a table, in the order in which they came.
+//! The entries of an unveil table, in the order in which they were added.
 ghost use Rattle.std.specs.Prelude.{◌≡◌, ◌<◌, length, position, slice_set, IfSome};
 ghost use Rattle.pv_model.specs.declared.limits.TheConstants.{UNVEILS};
 ghost use Rattle.pv_model.specs.Bytes.{Bytes};
@@ -13,7 +13,7 @@ use pv_model::{Perms, Target};
 use std::alloc::{AllocError, Global};
 use std::marker::Model;
 
-// Whether a target is for this name.
+// Returns whether a target is for this name.
 fn has_name(target: &Target, name: &[u8]) -> bool
     ensures { result ≡ is_target_named name.now target.now }
 {
@@ -23,15 +23,15 @@ fn has_name(target: &Target, name: &[u8]) -> bool
     }
 }
 
-// The index of a directory's own entry.
+// Returns the index of the entry for a directory itself.
 fn index_of_directory(keys: &[Key], directory: u16) -> Option<usize>
     ensures { result ≡ position (λ key. is_own directory key) keys.now }
 {
     keys.iter().position(|key| key.is_own(directory))
 }
 
-// The index of a name's entry: names are compared only of entries for names in the directory. It stands apart, so that
-// most calls of `for_name` end after the test of a mark.
+// Returns the index of the entry for a name in a directory. Only entries for names in this directory are compared by
+// name. It is a separate function, so that most calls of `for_name` end after the test of a mark.
 #[inline(never)]
 fn index_of_name(
     keys: &[Key],
@@ -50,7 +50,7 @@ fn index_of_name(
     None
 }
 
-// The number of an entry at an index.
+// Converts an index of an entry to its number.
 fn number_of(index: Option<usize>) -> Option<u8>
     requires { IfSome index (λ k. k < UNVEILS) }
     ensures { result ≡ index }
@@ -61,7 +61,7 @@ fn number_of(index: Option<usize>) -> Option<u8>
     }
 }
 
-// Puts another key in place of key `k`.
+// Replaces key `k`.
 fn replace_key(keys: &mut ArrayVec<Key, UNVEILS>, k: u8, key: Key)
     requires { k < length keys.old.items }
     ensures { keys.new.items ≡ slice_set keys.old.items k key }
@@ -69,12 +69,12 @@ fn replace_key(keys: &mut ArrayVec<Key, UNVEILS>, k: u8, key: Key)
     keys.as_mut_slice()[k as usize] = key;
 }
 
-/// At most 64 entries by arrival, with a row of their keys.
+/// At most 64 entries in the order of their arrival, with an array of their keys.
 #[derive(Drop)]
 pub(crate) struct Entries {
     entries: Vec<(Target, Perms)>,
     keys: ArrayVec<Key, UNVEILS>,
-    // Of which targets there may be entries: none is for a target that falls on no mark.
+    // A filter of the targets that can have entries: a target without a mark has no entry.
     marks: Marks,
 }
 
@@ -94,11 +94,11 @@ impl Entries {
     ghost use Rattle.std.specs.Prelude.{◌≤◌, ◌↔◌, [], ◌∷◌, ◌++◌, IfOk, IsTrue, Some, option_map, slice_get};
     ghost use Rattle.pv_model.specs.Unveil.{permissions_at};
 
-    /// No entries, with room for 64.
+    /// Creates an empty list with a capacity of 64 entries.
     ///
     /// # Errors
     ///
-    /// Where there is no memory for them.
+    /// Returns `AllocError` if memory for the entries cannot be allocated.
     pub(crate) fn new(alloc: Global) -> Result<Entries, AllocError>
         ensures { IfOk result (λ entries. entries ≡ []) }
     {
@@ -109,7 +109,7 @@ impl Entries {
         })
     }
 
-    /// How many there are, at most 64.
+    /// Returns the number of entries, at most 64.
     pub(crate) fn len(&self) -> usize
         ensures value { result ≡ length self.now }
         ensures few { result ≤ UNVEILS }
@@ -117,14 +117,14 @@ impl Entries {
         self.entries.len()
     }
 
-    /// Whether there is none.
+    /// Returns whether there are no entries.
     pub(crate) fn is_empty(&self) -> bool
         ensures { IsTrue result ↔ (self.now ≡ []) }
     {
         self.entries.is_empty()
     }
 
-    /// The target of entry `k`.
+    /// Returns the target of entry `k`.
     pub(crate) fn target(&self, k: u8) -> &Target
         requires { k < length self.now }
         ensures { option_map (λ e. e.0) (slice_get self.now k) ≡ Some result.now }
@@ -132,7 +132,7 @@ impl Entries {
         &self.entries.as_slice()[k as usize].0
     }
 
-    /// The permissions of entry `k`.
+    /// Returns the permissions of entry `k`.
     pub(crate) fn permissions_at(&self, k: u8) -> Perms
         ensures { result ≡ permissions_at self.now k }
     {
@@ -142,7 +142,7 @@ impl Entries {
         }
     }
 
-    /// The entry for a directory.
+    /// Returns the number of the entry for a directory.
     pub(crate) fn for_directory(&self, directory: u16) -> Option<u8>
         ensures value { result ≡ entry_for self.now (Target.Directory directory) }
         ensures in_table { IfSome result (λ k. k < length self.now) }
@@ -153,7 +153,7 @@ impl Entries {
         number_of(index_of_directory(self.keys.as_slice(), directory))
     }
 
-    /// The entry for a name in a directory.
+    /// Returns the number of the entry for a name in a directory.
     pub(crate) fn for_name(&self, directory: u16, name: &[u8]) -> Option<u8>
         ensures value { result ≡ entry_for self.now (Target.Name directory name.now) }
         ensures in_table { IfSome result (λ k. k < length self.now) }
@@ -169,7 +169,7 @@ impl Entries {
         ))
     }
 
-    /// The entry for a target.
+    /// Returns the number of the entry for a target.
     pub(crate) fn for_target(&self, target: &Target) -> Option<u8>
         ensures value { result ≡ entry_for self.now target.now }
         ensures in_table { IfSome result (λ k. k < length self.now) }
@@ -180,7 +180,7 @@ impl Entries {
         }
     }
 
-    /// Adds an entry after the others.
+    /// Appends an entry.
     pub(crate) fn push(&mut self, target: Target, permissions: Perms)
         requires { length self.old < UNVEILS }
         ensures { self.new ≡ self.old ++ (target, permissions) ∷ [] }
@@ -191,7 +191,7 @@ impl Entries {
         self.entries.push_reserved((target, permissions));
     }
 
-    /// Puts another entry in place of entry `k`.
+    /// Replaces entry `k`.
     pub(crate) fn replace(&mut self, k: u8, target: Target, permissions: Perms)
         requires { k < length self.old }
         ensures { self.new ≡ slice_set self.old k (target, permissions) }
@@ -202,7 +202,7 @@ impl Entries {
         self.entries[k as usize] = (target, permissions);
     }
 
-    /// Removes all.
+    /// Removes all entries.
     pub(crate) fn clear(&mut self)
         ensures { self.new ≡ [] }
     {
@@ -211,7 +211,7 @@ impl Entries {
         self.entries.clear();
     }
 
-    /// Becomes as others.
+    /// Replaces the entries by those of `other`.
     pub(crate) fn copy_from(&mut self, other: &Entries)
         ensures { self.new ≡ other.now }
     {

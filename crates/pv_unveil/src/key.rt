@@ -4,7 +4,7 @@ ghost use Rattle.pv_unveil.specs.Keys.{key_of, is_own, is_name_in};
 
 use pv_model::Target;
 
-/// What an entry is for, without the name: a search compares keys, which stand close together.
+/// The target of an entry without the name. A search compares keys, because they are small and contiguous in memory.
 #[derive(Clone, Copy)]
 pub(crate) enum Key {
     /// The directory with this number.
@@ -13,7 +13,7 @@ pub(crate) enum Key {
     Name(u16),
 }
 
-/// A blank for the unused places of a row: number 0 is no node's.
+/// A placeholder for unused elements of an array: no node has number 0.
 impl Default for Key {
     ghost use Rattle.std.specs.Prelude.{◌≡◌};
     ghost use Rattle.pv_unveil.specs.declared.key.Key.TheVariants.{Directory};
@@ -26,7 +26,7 @@ impl Default for Key {
 }
 
 impl Key {
-    /// The key of an entry for a target.
+    /// Returns the key of an entry for a target.
     pub(crate) fn of(target: &Target) -> Key
         ensures { result ≡ key_of target.now }
     {
@@ -36,7 +36,7 @@ impl Key {
         }
     }
 
-    /// Whether the entry is a directory's own.
+    /// Returns whether the entry is for the directory itself.
     #[inline]
     pub(crate) fn is_own(self, directory: u16) -> bool
         ensures { result ≡ is_own directory self }
@@ -47,7 +47,7 @@ impl Key {
         }
     }
 
-    /// Whether the entry is for a name in a directory.
+    /// Returns whether the entry is for a name in the directory.
     #[inline]
     pub(crate) fn is_name_in(self, directory: u16) -> bool
         ensures { result ≡ is_name_in directory self }

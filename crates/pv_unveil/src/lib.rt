@@ -1,12 +1,11 @@
-//! The table of unveil(2): what a process has unveiled, its lock, and what it says of a place.
+//! The unveil table of a process: its entries, its lock, and its answer for a place.
 //!
-//! An entry is for a directory's node, or for a name in a directory: no text of a path is kept or compared.
-//! `table` has the table and its lock; `entries` holds the entries, with a row of their keys, those of `key`, over
-//! which it searches, and with `marks`, which spare it most searches; and `rights` finds the entry that governs a
-//! place of a tree, climbing its stored parents.
-//! `law` says that the entry found by climbing is the one that flows down from above, and that a path leads to a
-//! place that can be judged. Only `Table::new` takes memory. Clauses see a `Table` as the record of
-//! `specs/Unveiled.antt`.
+//! An entry is for the node of a directory, or for a name in a directory. Texts of paths are neither stored nor
+//! compared. `table` defines the table and its lock. `entries` stores the entries and searches an array of their keys.
+//! `key` defines the keys, and `marks` a filter that avoids most searches. `rights` finds the entry that governs a
+//! place of a tree, by climbing to parent directories. `law` states that this climb gives each directory the rights of
+//! its parent unless it has an entry, and that every path leads to a place that can be checked. Only `Table::new`
+//! allocates memory. Contracts see a `Table` as the record of `specs/Unveiled.antt`.
 #![tactic(auto)]
 
 mod entries;

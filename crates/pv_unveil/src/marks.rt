@@ -1,11 +1,11 @@
-//! Marks, which tell of most targets that no entry is for them.
+//! A filter that rules out most targets without an entry.
 ghost use Rattle.std.specs.Prelude.{◌≡◌, ℕ, true};
 ghost use Rattle.pv_model.specs.Bytes.{Bytes};
 ghost use Rattle.pv_unveil.specs.Marks.{is_marked, has_mark};
 
 use pv_model::Target;
 
-// Whether a number falls on a mark in a row of 64: those with the same rest by 64 fall on one.
+// Returns whether a number has a mark in a row of 64 bits. Numbers that are equal modulo 64 share a mark.
 #[inline]
 fn is_marked(row: u64, number: usize) -> bool
     ensures { result ≡ is_marked row number }
@@ -13,7 +13,7 @@ fn is_marked(row: u64, number: usize) -> bool
     (row >> (number % 64)) & 1 == 1
 }
 
-// The row with a mark where a number falls.
+// Returns the row with the mark of `number` set.
 fn with_mark(row: u64, number: usize) -> u64
     ensures own { is_marked result number ≡ true }
     ensures others { (other : ℕ) → is_marked row other ≡ true → is_marked result other ≡ true }
@@ -21,7 +21,8 @@ fn with_mark(row: u64, number: usize) -> u64
     row | 1 << (number % 64)
 }
 
-/// Marks on which targets fall: a directory by its number, and a name by that of its directory and by its length.
+/// The marks of targets. The mark of a directory depends on its number; that of a name depends on the number of its
+/// directory and on the length of the name.
 #[derive(Drop)]
 pub(crate) struct Marks {
     directories: u64,
@@ -29,7 +30,7 @@ pub(crate) struct Marks {
 }
 
 impl Marks {
-    /// No marks.
+    /// Creates an empty set of marks.
     pub(crate) fn none() -> Marks {
         Marks {
             directories: 0,
@@ -37,7 +38,7 @@ impl Marks {
         }
     }
 
-    /// Whether a directory falls on a mark.
+    /// Returns whether the mark of a directory is set.
     #[inline]
     pub(crate) fn has_directory(&self, directory: u16) -> bool
         ensures { result ≡ has_mark self.now (Target.Directory directory) }
@@ -45,7 +46,7 @@ impl Marks {
         is_marked(self.directories, directory as usize)
     }
 
-    /// Whether a name in a directory falls on a mark.
+    /// Returns whether the mark of a name in a directory is set.
     #[inline]
     pub(crate) fn has_name(&self, directory: u16, name: &[u8]) -> bool
         ensures { result ≡ has_mark self.now (Target.Name directory name.now) }
@@ -53,7 +54,7 @@ impl Marks {
         is_marked(self.names, directory as usize + name.len())
     }
 
-    /// Marks where a target falls, and leaves the other marks.
+    /// Sets the mark of a target. The other marks do not change.
     pub(crate) fn set(&mut self, target: &Target)
         ensures own { has_mark self.new target.now ≡ true }
         ensures others { (other : Target) → has_mark self.old other ≡ true → has_mark self.new other ≡ true }

@@ -1,4 +1,4 @@
-//! The entry that governs a place, and what it says.
+//! The entry that governs a place, and its answer.
 ghost use Rattle.std.specs.Prelude.{◌≡◌, ◌<◌, length, IfSome, IsTrue};
 ghost use Rattle.std.specs.Option.{option_or};
 ghost use Rattle.pv_model.specs.Tree.{is_directory_at};
@@ -11,8 +11,8 @@ use pv_model::limits::ROOT;
 use pv_model::{Judgement, Perms, Target};
 use pv_tree::{PlaceRef, Tree};
 
-/// The directory from which a directory has its rights where it has no entry, unveil(2): none for the root, and none
-/// for a removed one.
+/// Returns the directory whose rights a directory without an entry inherits, unveil(2): its parent. The root and
+/// removed directories inherit none.
 #[inline]
 pub fn above(tree: &Tree, directory: u16) -> Option<u16>
     requires { IsTrue (is_directory_at tree.now.tree directory) }
@@ -25,16 +25,17 @@ pub fn above(tree: &Tree, directory: u16) -> Option<u16>
     }
 }
 
-// The entry that governs a directory: its own, or else that of the nearest directory above.
+// Returns the entry that governs a directory: its own, or that of the nearest ancestor with an entry.
 fn directory_rights(entries: &Entries, tree: &Tree, directory: u16) -> Option<u8>
     requires { IsTrue (is_directory_at tree.now.tree directory) }
     ensures value { result ≡ directory_rights tree.now.tree entries.now directory }
     ensures in_table { IfSome result (λ k. k < length entries.now) }
 {
-    // What the sizes tell with them: the tree is well-formed, so each way up comes to the root or to a removed directory.
+    // The contract of `invariant` shows that the tree is well-formed, so each climb ends at the root or at a removed
+    // directory.
     tree.invariant();
     let mut at = directory;
-    // (one test for both ends: 0, which is no node's number, stands for the directory above a removed one)
+    // One test covers both ends: 0, which is no node, represents the missing parent of a removed directory.
     while at > ROOT {
         if let Some(k) = entries.for_directory(at) {
             return Some(k);
@@ -48,8 +49,8 @@ fn directory_rights(entries: &Entries, tree: &Tree, directory: u16) -> Option<u8
     }
 }
 
-/// The entry that governs a name in a directory, under which no directory stands: its own, or else the one that
-/// governs the directory.
+/// Returns the entry that governs a name in a directory: the entry of the name, or else the one that governs the
+/// directory. The name must not name a directory.
 pub(crate) fn name_rights(entries: &Entries, tree: &Tree, directory: u16, name: &[u8]) -> Option<u8>
     requires { IsTrue (is_directory_at tree.now.tree directory) }
     ensures value { result ≡ option_or (entry_for entries.now (Target.Name directory name.now)) (directory_rights tree.now.tree entries.now directory) }
@@ -61,8 +62,8 @@ pub(crate) fn name_rights(entries: &Entries, tree: &Tree, directory: u16, name: 
     }
 }
 
-/// The entry that governs a place: of a directory the one that governs it, and of a name its own, or else
-/// the one that governs the directory in which it stands.
+/// Returns the entry that governs a place. For a directory, it is the entry that governs the directory. For a name, it
+/// is the entry of the name, or else the one that governs its directory.
 #[tactic(auto, unfolding(pv_model::specs::Unveil::governing_entry))]
 pub(crate) fn governing_entry(entries: &Entries, tree: &Tree, place: &PlaceRef<'_>) -> Option<u8>
     requires { IsTrue (is_directory_at tree.now.tree (directory_of place.now)) }
@@ -80,7 +81,7 @@ pub(crate) fn governing_entry(entries: &Entries, tree: &Tree, place: &PlaceRef<'
     }
 }
 
-/// What an entry says, where one governs.
+/// Returns the answer of the governing entry, if there is one.
 pub(crate) fn judge_entry(entries: &Entries, governing: Option<u8>, needed: Perms) -> Judgement
     ensures { result ≡ judge_entry entries.now needed governing }
 {
@@ -96,7 +97,8 @@ pub(crate) fn judge_entry(entries: &Entries, governing: Option<u8>, needed: Perm
     }
 }
 
-/// What the entries say of a place, for the permissions that are needed: without entries each is allowed.
+/// Returns the answer of the entries for a place and the required permissions. If there are no entries, every place is
+/// allowed.
 #[tactic(auto, unfolding(pv_model::specs::Unveil::judgement))]
 pub(crate) fn judge_in(
     entries: &Entries,

@@ -1,4 +1,4 @@
-//! What a process has unveiled.
+//! Unveil tables.
 ghost use Rattle.std.specs.Prelude.{◌≡◌, ◌<◌, ◌≤◌, length, OnOk, OnErr, IfOk, IfErr, None, Some, true, false, ◌↔◌, IsTrue, if◌then◌else◌, ◌&&◌, option_map, slice_get, slice_set, IfSome};
 ghost use Rattle.pv_model.specs.Attempt.{give};
 ghost use Rattle.pv_model.specs.Unveil.{directory_rights, entry_for, permissions_at};
@@ -12,20 +12,20 @@ use pv_tree::{PlaceRef, Tree};
 use std::alloc::{AllocError, Global};
 use std::marker::Model;
 
-/// Why an entry cannot be added, unveil(2): the first of these that applies.
+/// Why an entry cannot be added, unveil(2). The first variant that applies is returned.
 #[derive(Clone, Copy, Debug, PartialEq, Eq)]
 pub enum AddFault {
     /// The table is locked: EPERM.
     Locked,
-    /// This entry is for the target, and lacks a permission that is asked for: EPERM.
+    /// The target has this entry, and the entry lacks a permission that is requested: EPERM.
     Increase(u8),
-    /// The target is new, and there are 64 entries: E2BIG.
+    /// The target is new, and there are 64 entries already: E2BIG.
     Many,
 }
 
-/// What a process has unveiled, unveil(2): at most 64 entries by arrival, and whether they are locked.
+/// The unveil table of a process, unveil(2): at most 64 entries in the order of their arrival, and a lock.
 ///
-/// There is no table before the first entry, and then nothing is hidden.
+/// A process without entries has no table, and nothing is hidden from it.
 #[derive(Drop)]
 pub struct Table {
     entries: Entries,
@@ -40,7 +40,7 @@ impl Model for Table {
     ghost view = { λ t. record { table = in_force t.entries; locked = t.locked } };
 }
 
-// Adds an entry, or puts fewer permissions in the one for the target.
+// Adds an entry, or reduces the permissions of the entry for the target.
 fn put(entries: &mut Entries, target: Target, permissions: Perms) -> Result<u8, AddFault>
     ensures added { OnOk result (put_in entries.old target permissions ≡ give entries.new) }
     ensures number { IfOk result (λ k. entry_for entries.new target ≡ Some k) }
@@ -76,11 +76,11 @@ impl Table {
     ghost use Rattle.pv_unveil.specs.Up.{directory_of};
     ghost use Rattle.pv_unveil.specs.Added.{add_to};
 
-    /// No table, and no lock.
+    /// Creates a table without entries and unlocked.
     ///
     /// # Errors
     ///
-    /// Where there is no memory for the entries. No other call of `Table` asks for any.
+    /// Returns `AllocError` if memory for the entries cannot be allocated. No other method of `Table` allocates memory.
     pub fn new(alloc: Global) -> Result<Table, AllocError>
         ensures table { IfOk result (λ t. t.table ≡ None) }
         ensures unlocked { IfOk result (λ t. t.locked ≡ false) }
@@ -91,21 +91,21 @@ impl Table {
         })
     }
 
-    /// Whether the table is locked.
+    /// Returns whether the table is locked.
     pub fn is_locked(&self) -> bool
         ensures { result ≡ self.now.locked }
     {
         self.locked
     }
 
-    /// Locks the table: `add` is refused from then on, and what is hidden stays as it is.
+    /// Locks the table. From then on `add` fails, so the entries stay as they are.
     pub fn lock(&mut self)
         ensures { self.new ≡ record self.old { locked = true } }
     {
         self.locked = true;
     }
 
-    /// The number of entries, at most 64.
+    /// Returns the number of entries, at most 64.
     pub fn len(&self) -> usize
         ensures value { result ≡ length (entries_of_table self.now.table) }
         ensures few { result ≤ UNVEILS }
@@ -113,14 +113,14 @@ impl Table {
         self.entries.len()
     }
 
-    /// Whether there is no entry, and so no table.
+    /// Returns whether there are no entries, and thus no table.
     pub fn is_empty(&self) -> bool
         ensures { IsTrue result ↔ (self.now.table ≡ None) }
     {
         self.entries.is_empty()
     }
 
-    /// The target of entry `k`.
+    /// Returns the target of entry `k`.
     pub fn target(&self, k: u8) -> &Target
         requires { k < length (entries_of_table self.now.table) }
         ensures { option_map (λ e. e.0) (slice_get (entries_of_table self.now.table) k)
@@ -129,7 +129,7 @@ impl Table {
         self.entries.target(k)
     }
 
-    /// The permissions of entry `k`.
+    /// Returns the permissions of entry `k`.
     pub fn permissions(&self, k: u8) -> Perms
         requires { k < length (entries_of_table self.now.table) }
         ensures { result ≡ permissions_at (entries_of_table self.now.table) k }
@@ -137,7 +137,7 @@ impl Table {
         self.entries.permissions_at(k)
     }
 
-    /// The entry for a directory itself, if there is one.
+    /// Returns the number of the entry for the directory itself, if there is one.
     pub fn directory_entry(&self, directory: u16) -> Option<u8>
         ensures value { result ≡ entry_for (entries_of_table self.now.table) (Target.Directory directory) }
         ensures in_table { IfSome result (λ k. k < length (entries_of_table self.now.table)) }
@@ -145,7 +145,7 @@ impl Table {
         self.entries.for_directory(directory)
     }
 
-    /// The entry for a name in a directory itself, if there is one.
+    /// Returns the number of the entry for the name itself, if there is one.
     pub fn own_name_entry(&self, directory: u16, name: &[u8]) -> Option<u8>
         ensures value { result ≡ entry_for (entries_of_table self.now.table) (Target.Name directory name.now) }
         ensures in_table { IfSome result (λ k. k < length (entries_of_table self.now.table)) }
@@ -153,7 +153,7 @@ impl Table {
         self.entries.for_name(directory, name)
     }
 
-    /// The entry for a target itself, if there is one.
+    /// Returns the number of the entry for the target itself, if there is one.
     pub fn entry_for(&self, target: &Target) -> Option<u8>
         ensures value { result ≡ entry_for (entries_of_table self.now.table) target.now }
         ensures in_table { IfSome result (λ k. k < length (entries_of_table self.now.table)) }
@@ -161,8 +161,8 @@ impl Table {
         self.entries.for_target(target)
     }
 
-    /// The entry that governs a name in a directory of a tree, under which no directory stands: its own, or else the one
-    /// that governs the directory.
+    /// Returns the number of the entry that governs a name in a directory of a tree: the entry of the name, or else the
+    /// one that governs the directory. The name must not name a directory.
     pub fn name_entry(&self, tree: &Tree, directory: u16, name: &[u8]) -> Option<u8>
         requires { IsTrue (is_directory_at tree.now.tree directory) }
         ensures value { result ≡ option_or (entry_for (entries_of_table self.now.table) (Target.Name directory name.now)) (directory_rights tree.now.tree (entries_of_table self.now.table) directory) }
@@ -171,9 +171,10 @@ impl Table {
         name_rights(&self.entries, tree, directory, name)
     }
 
-    /// The entry that governs a place of a tree: of a directory its own, or else the one that governs the directory above,
-    /// and of a name its own, or else the one that governs the directory in which it stands. None where none does. The
-    /// place's name stands in a directory of the tree, or its node is one.
+    /// Returns the number of the entry that governs a place of a tree, or `None` if no entry governs it. A directory is
+    /// governed by its own entry, or else by the one that governs its parent. A name is governed by its own entry, or
+    /// else by the one that governs its directory. The name of the place must be in a directory of the tree, or its
+    /// node must be a directory.
     pub fn governing(&self, tree: &Tree, place: &PlaceRef<'_>) -> Option<u8>
         requires { IsTrue (is_directory_at tree.now.tree (directory_of place.now)) }
         ensures value { result ≡ governing_entry tree.now.tree (entries_of_table self.now.table) place.now }
@@ -182,10 +183,12 @@ impl Table {
         governing_entry(&self.entries, tree, place)
     }
 
-    /// Adds an entry for a target, or leaves the one for it with these permissions, which must be among its own.
+    /// Adds an entry for a target, or sets the permissions of the target's entry to a subset. Returns the number of the
+    /// entry; entries are numbered from 0 in the order of their arrival. The first entry activates the table.
     ///
-    /// The answer is the number of the entry: the entries have theirs by arrival, from 0. A fault leaves the
-    /// table as it was. The first entry brings the table into force.
+    /// # Errors
+    ///
+    /// Returns the first variant of `AddFault` that applies. If the call fails, the table does not change.
     pub fn add(&mut self, target: Target, permissions: Perms) -> Result<u8, AddFault>
         ensures added { OnOk result
             (IsSomeAnd self.new.table (λ table. add_to self.old target permissions ≡ give table)) }
@@ -195,7 +198,7 @@ impl Table {
             (λ k. permissions_at (entries_of_table self.new.table) k ≡ permissions) }
         ensures lock_stays { self.new.locked ≡ self.old.locked }
 
-        // The first that applies, in the order of `AddFault`.
+        // The first variant that applies, in the order of `AddFault`.
         ensures refused { IfErr result (λ fault. add_to self.old target permissions ≡ refusal fault) }
         ensures unchanged { OnErr result (self.new ≡ self.old) }
     {
@@ -205,8 +208,7 @@ impl Table {
         put(&mut self.entries, target, permissions)
     }
 
-    /// Becomes as another: the same entries and lock, as fork(2) gives the child. Only the entries that are there are
-    /// copied.
+    /// Copies the entries and the lock of `other`, as fork(2) does for the child. Unused elements are not copied.
     pub fn copy_from(&mut self, other: &Table)
         ensures { self.new ≡ other.now }
     {
@@ -214,7 +216,7 @@ impl Table {
         self.locked = other.locked;
     }
 
-    /// What execve(2) leaves: where it does not keep the table, neither entries nor lock.
+    /// Applies the effect of execve(2): unless `keeps` is true, it removes the entries and the lock.
     pub fn after_exec(&mut self, keeps: bool)
         ensures table { self.new.table ≡ (if keeps then self.old.table else None) }
         ensures lock { self.new.locked ≡ (keeps && self.old.locked) }
@@ -225,11 +227,11 @@ impl Table {
         }
     }
 
-    /// What the table says of a place, for the permissions that a call needs, unveil(2).
+    /// Returns the answer of the table for a place and the permissions that a call needs, unveil(2).
     ///
-    /// Where there is no entry, each place is allowed. Else it is judged by the entry that governs it: a place
-    /// that none governs is hidden, and one whose entry lacks a permission is denied. The place's name stands in a
-    /// directory of the tree, or its node is one: so it is with each place that a path leads to.
+    /// If there are no entries, every place is allowed. Otherwise the entry that governs the place decides. If no entry
+    /// governs the place, it is hidden. If the entry lacks a permission, access is denied. The name of the place must
+    /// be in a directory of the tree, or its node must be a directory; this holds for each place that a path leads to.
     pub fn judge(&self, tree: &Tree, place: &PlaceRef<'_>, needed: Perms) -> Judgement
         requires { IsTrue (is_directory_at tree.now.tree (directory_of place.now)) }
         ensures value { result ≡ judgement tree.now.tree self.now.table place.now needed }

@@ -1,12 +1,11 @@
-//! Names of a tree, each with what a process may do there, in the order of a listing.
-ghost use Rattle.std.specs.Prelude.{◌≡◌, flat_map, IsTrue, OnOk, OnErr};
+//! The permissions of a process at the names of a tree, in the order of a listing.
+ghost use Rattle.std.specs.Prelude.{◌≡◌, flat_map, IsTrue};
 ghost use Rattle.pv_answers.specs.Reaching.{lines_within, listed_line, listed_lines, path_of, state_of};
 ghost use Rattle.pv_model.specs.Answers.Reach.{listed_names};
 ghost use Rattle.pv_model.specs.Listing.{listed_path};
-ghost use Rattle.pv_model.specs.Stream.{Rose};
 ghost use Rattle.pv_model.specs.Trace.{quote, quote_byte};
 ghost use Rattle.pv_model.specs.Tree.{is_directory_at, IsWellFormed};
-ghost use Rattle.pv_streams.specs.Sinks.{and_all, TellsBeginning};
+ghost use Rattle.pv_streams.specs.Sinks.{Writes};
 ghost use Rattle.pv_unveil.specs.Up.{directory_of};
 
 use crate::fragments::{Fragment, Plain};
@@ -17,21 +16,19 @@ use pv_model::limits::ROOT;
 use pv_streams::{Failed, Sink, write_whole};
 use pv_tree::PlaceRef;
 
-/// A path of a tree, name by name from its end: each link stands in the walk that came so far, and no bytes are copied.
+/// A path of a tree, as a linked list of names from its end. Each link is in the stack frame of the traversal, so no
+/// bytes are copied.
 #[derive(Clone, Copy)]
 pub(crate) enum LinkedPath<'a> {
-    /// The root's.
+    /// The path of the root.
     Root,
-    /// That of a name in the directory with this path.
+    /// The path of a name in the directory with this path.
     Below(&'a LinkedPath<'a>, &'a [u8]),
 }
 
-// Writes the names of a path, as a text has them.
+// Writes the names of a path in escaped form.
 fn write_names<W: Sink>(out: &mut W, path: &LinkedPath<'_>) -> Result<(), Failed>
-    ensures whole { OnOk result (W.written out.new ≡ and_all (W.written out.old) (flat_map quote_byte (path_of path.now))) }
-    ensures beginning { OnErr result (TellsBeginning (flat_map quote_byte (path_of path.now)) (W.written out.old) (W.written out.new)) }
-    ensures failed { OnErr result (Rose (W.failures out.old) (W.failures out.new)) }
-    ensures quiet { OnOk result (W.failures out.new ≡ W.failures out.old) }
+    ensures { Writes W.Sink (flat_map quote_byte (path_of path.now)) out.old out.new result }
 {
     match path {
         LinkedPath::Root => Ok(()),
@@ -42,7 +39,7 @@ fn write_names<W: Sink>(out: &mut W, path: &LinkedPath<'_>) -> Result<(), Failed
     }
 }
 
-// The names of a path, as a text has them.
+// The names of a path in escaped form.
 #[derive(Clone, Copy)]
 struct Names<'a>(&'a LinkedPath<'a>);
 
@@ -54,7 +51,7 @@ impl<'a> Fragment for Names<'a> {
     }
 }
 
-// A path as a text: the root's as a slash.
+// A path as a quoted text. The path of the root is a slash.
 #[derive(Clone, Copy)]
 struct PathText<'a>(&'a LinkedPath<'a>);
 
@@ -71,7 +68,8 @@ impl<'a> Fragment for PathText<'a> {
     }
 }
 
-// The line of a name of the tree. It stands apart, so that a step of `write_within` takes little room.
+// Writes the line of a name of the tree. This is a function of its own so that `write_within` needs little stack at
+// each level.
 #[inline(never)]
 fn write_name<W: Sink>(
     out: &mut W,
@@ -81,10 +79,7 @@ fn write_name<W: Sink>(
     node: u16,
 ) -> Result<(), Failed>
     requires { IsTrue (is_directory_at (state_of reacher.now).tree (directory_of place.now)) }
-    ensures whole { OnOk result (W.written out.new ≡ and_all (W.written out.old) (listed_line reacher.now (record { path = path_of path.now; place = place.now; node = node }))) }
-    ensures beginning { OnErr result (TellsBeginning (listed_line reacher.now (record { path = path_of path.now; place = place.now; node = node })) (W.written out.old) (W.written out.new)) }
-    ensures failed { OnErr result (Rose (W.failures out.old) (W.failures out.new)) }
-    ensures quiet { OnOk result (W.failures out.new ≡ W.failures out.old) }
+    ensures { Writes W.Sink (listed_line reacher.now (record { path = path_of path.now; place = place.now; node = node })) out.old out.new result }
 {
     let entry = governing(reacher, place);
     let letters = Letters(permitted(reacher.owned, entry));
@@ -107,7 +102,7 @@ fn write_name<W: Sink>(
     write_may(out, reacher, text)
 }
 
-// The lines of a name of the tree and of all that is in it, so deep.
+// Writes the lines of a name of the tree and of all names below it, up to the given depth.
 fn write_within<W: Sink>(
     out: &mut W,
     reacher: &Reacher<'_>,
@@ -118,10 +113,7 @@ fn write_within<W: Sink>(
 ) -> Result<(), Failed>
     requires well_formed { IsWellFormed (state_of reacher.now).tree }
     requires directory { IsTrue (is_directory_at (state_of reacher.now).tree (directory_of place.now)) }
-    ensures whole { OnOk result (W.written out.new ≡ and_all (W.written out.old) (lines_within reacher.now depth (path_of path.now) place.now node)) }
-    ensures beginning { OnErr result (TellsBeginning (lines_within reacher.now depth (path_of path.now) place.now node) (W.written out.old) (W.written out.new)) }
-    ensures failed { OnErr result (Rose (W.failures out.old) (W.failures out.new)) }
-    ensures quiet { OnOk result (W.failures out.new ≡ W.failures out.old) }
+    ensures { Writes W.Sink (lines_within reacher.now depth (path_of path.now) place.now node) out.old out.new result }
 {
     if depth == 0 {
         return Ok(());
@@ -143,17 +135,14 @@ fn write_within<W: Sink>(
     Ok(())
 }
 
-/// Writes a line for each name of the tree in the order of the listing, the root first: what a process may do there, who
-/// governs the place, and the descriptors on the node.
+/// Writes a line for each name of the tree, in the order of a listing, with the root first: the permissions of a
+/// process there, the governing entry, and the descriptors on the node.
 ///
 /// # Errors
 ///
-/// `Failed` where a write failed: the sink was given a beginning of the lines.
+/// `Failed`, if a write failed. The sink received a prefix of the lines.
 pub(crate) fn write_listed<W: Sink>(out: &mut W, reacher: &Reacher<'_>) -> Result<(), Failed>
-    ensures whole { OnOk result (W.written out.new ≡ and_all (W.written out.old) (listed_lines reacher.now (listed_names (state_of reacher.now).tree))) }
-    ensures beginning { OnErr result (TellsBeginning (listed_lines reacher.now (listed_names (state_of reacher.now).tree)) (W.written out.old) (W.written out.new)) }
-    ensures failed { OnErr result (Rose (W.failures out.old) (W.failures out.new)) }
-    ensures quiet { OnOk result (W.failures out.new ≡ W.failures out.old) }
+    ensures { Writes W.Sink (listed_lines reacher.now (listed_names (state_of reacher.now).tree)) out.old out.new result }
 {
     let depth = reacher.parts.tree().sizes().inodes + 1;
     let place = PlaceRef::of_node(ROOT);

@@ -1,13 +1,12 @@
-//! Who reaches places, and what it may do there by the entry that governs.
-ghost use Rattle.std.specs.Prelude.{◌≡◌, ◌<◌, length, option_map, IfSome, IsTrue, OnOk, OnErr};
+//! A process and its permissions by the governing entry.
+ghost use Rattle.std.specs.Prelude.{◌≡◌, ◌<◌, length, option_map, IfSome, IsTrue};
 ghost use Rattle.pv_answers.specs.Reaching.{all_on, descriptor_words, given_by, may_line, opened_at, permitted_by, state_of, table_of, who_by, words_on};
 ghost use Rattle.pv_model.specs.Calls.Restraints.{entries_of_table};
 ghost use Rattle.pv_model.specs.Numbered.{at_number};
 ghost use Rattle.pv_model.specs.Promises.{holds};
-ghost use Rattle.pv_model.specs.Stream.{Rose};
 ghost use Rattle.pv_model.specs.Tree.{is_directory_at};
 ghost use Rattle.pv_model.specs.Unveil.{governing_entry};
-ghost use Rattle.pv_streams.specs.Sinks.{and_all, TellsBeginning};
+ghost use Rattle.pv_streams.specs.Sinks.{Writes};
 ghost use Rattle.pv_unveil.specs.Up.{directory_of};
 
 use crate::fragments::{Fragment, Plain};
@@ -27,26 +26,23 @@ use pv_unveil::Table;
 pub(crate) struct Reacher<'a> {
     /// The state.
     pub(crate) parts: &'a Parts,
-    /// What the process owns.
+    /// The record of the process.
     pub(crate) owned: &'a ProcessRecord,
-    /// Its number.
+    /// The number of the process.
     pub(crate) pid: u32,
 }
 
-/// Writes a line MAY of a process.
+/// Writes a MAY line of a process.
 ///
 /// # Errors
 ///
-/// `Failed` where a write failed: the sink was given a beginning of the line.
+/// `Failed`, if a write failed. The sink received a prefix of the line.
 pub(crate) fn write_may<W: Sink, P: Fragment + Copy>(
     out: &mut W,
     reacher: &Reacher<'_>,
     text: P,
 ) -> Result<(), Failed>
-    ensures whole { OnOk result (W.written out.new ≡ and_all (W.written out.old) (may_line reacher.now (P.text text))) }
-    ensures beginning { OnErr result (TellsBeginning (may_line reacher.now (P.text text)) (W.written out.old) (W.written out.new)) }
-    ensures failed { OnErr result (Rose (W.failures out.old) (W.failures out.new)) }
-    ensures quiet { OnOk result (W.failures out.new ≡ W.failures out.old) }
+    ensures { Writes W.Sink (may_line reacher.now (P.text text)) out.old out.new result }
 {
     let line = Line {
         pid: reacher.pid,
@@ -56,7 +52,7 @@ pub(crate) fn write_may<W: Sink, P: Fragment + Copy>(
     line.write(out)
 }
 
-// Whether a promise is held, which a process that is not pledged holds all of.
+// Returns whether a promise is held. A process that is not pledged holds all promises.
 fn holds(pledge: &Pledge, promise: Promise) -> bool
     ensures { result ≡ holds pledge.now.promises promise }
 {
@@ -66,7 +62,7 @@ fn holds(pledge: &Pledge, promise: Promise) -> bool
     }
 }
 
-// The permissions that a table gives by the entry that governs a place: all where there is no table.
+// Returns the permissions that a table gives by the governing entry: all of them if there is no table.
 fn given(table: &Table, entry: Option<u8>) -> Perms
     requires { IfSome entry (λ k. k < length (entries_of_table table.now.table)) }
     ensures { result ≡ given_by table.now.table entry }
@@ -85,8 +81,8 @@ fn given(table: &Table, entry: Option<u8>) -> Perms
     }
 }
 
-/// The permissions that a process may ask of a place, by the entry that governs it: those that the table gives, where the
-/// promises have what goes with them.
+/// Returns the permissions of a process at a place by its governing entry: those that the table gives and whose
+/// promises the process holds.
 pub(crate) fn permitted(owned: &ProcessRecord, entry: Option<u8>) -> Perms
     requires { IfSome entry (λ k. k < length (entries_of_table owned.now.unveiled.table)) }
     ensures { result ≡ permitted_by owned.now entry }
@@ -101,7 +97,7 @@ pub(crate) fn permitted(owned: &ProcessRecord, entry: Option<u8>) -> Perms
     }
 }
 
-/// The entry that governs a place, at which a link is not followed: none where none does.
+/// Returns the entry that governs a place, if there is one. A link at the place is not followed.
 pub(crate) fn governing(reacher: &Reacher<'_>, place: &PlaceRef<'_>) -> Option<u8>
     requires { IsTrue (is_directory_at (state_of reacher.now).tree (directory_of place.now)) }
     ensures value { result ≡ governing_entry (state_of reacher.now).tree (entries_of_table (table_of reacher.now)) place.now }
@@ -111,12 +107,12 @@ pub(crate) fn governing(reacher: &Reacher<'_>, place: &PlaceRef<'_>) -> Option<u
     reacher.owned.unveiled.governing(tree, place)
 }
 
-/// Who governs a place, by the entry that does: `no table`, `none`, or the entry with its number.
+/// The governor of a place: `no table`, `none`, or the governing entry with its number.
 #[derive(Clone, Copy)]
 pub(crate) struct Governor<'a> {
     /// The table of the process.
     pub(crate) table: &'a Table,
-    /// The entry that governs, if one does.
+    /// The governing entry, if there is one.
     pub(crate) entry: Option<u8>,
 }
 
@@ -134,12 +130,12 @@ impl<'a> Fragment for Governor<'a> {
     }
 }
 
-/// A descriptor, after what is said of a node on which it is.
+/// A descriptor, as it follows the words of the node to which it refers.
 #[derive(Clone, Copy)]
 pub(crate) struct AndDescriptor {
-    /// Its number.
+    /// The number of the descriptor.
     pub(crate) number: u8,
-    /// What its file is open for.
+    /// The mode of its open file.
     pub(crate) mode: Mode,
 }
 
@@ -153,14 +149,14 @@ impl Fragment for AndDescriptor {
     }
 }
 
-// The number of the open file of a descriptor, where there is one.
+// Returns the open file of a descriptor, if it is open.
 fn file_at(descriptors: &Descriptors, number: u8) -> Option<usize>
     ensures { result ≡ option_map (λ e. e.file) (at_number descriptors.now number) }
 {
     descriptors.at(i32::from(number)).ok()
 }
 
-// The node and the mode of an open file, where there is one.
+// Returns the node and the mode of an open file, if it exists.
 fn opened_file(files: &OpenFiles, file: usize) -> Option<(u16, Mode)>
     ensures { result ≡ option_map (λ f. (f.node, f.mode)) (at_number files.now.files file) }
 {
@@ -171,7 +167,7 @@ fn opened_file(files: &OpenFiles, file: usize) -> Option<(u16, Mode)>
     }
 }
 
-/// The node and the mode of the open file that a descriptor is on, where there is one.
+/// Returns the node and the mode of a descriptor's open file, if the descriptor is open.
 pub(crate) fn opened(reacher: &Reacher<'_>, number: u8) -> Option<(u16, Mode)>
     ensures { result ≡ opened_at reacher.now number }
 {
@@ -179,17 +175,14 @@ pub(crate) fn opened(reacher: &Reacher<'_>, number: u8) -> Option<(u16, Mode)>
     opened_file(reacher.parts.files(), file)
 }
 
-// Writes a descriptor after a node, where it is on it.
+// Writes a descriptor if it refers to the given node.
 fn write_where_on<W: Sink>(
     out: &mut W,
     node: u16,
     number: u8,
     opened: Option<(u16, Mode)>,
 ) -> Result<(), Failed>
-    ensures whole { OnOk result (W.written out.new ≡ and_all (W.written out.old) (words_on node number opened)) }
-    ensures beginning { OnErr result (TellsBeginning (words_on node number opened) (W.written out.old) (W.written out.new)) }
-    ensures failed { OnErr result (Rose (W.failures out.old) (W.failures out.new)) }
-    ensures quiet { OnOk result (W.failures out.new ≡ W.failures out.old) }
+    ensures { Writes W.Sink (words_on node number opened) out.old out.new result }
 {
     match opened {
         Some((on, mode)) if on == node => AndDescriptor { number, mode }.write(out),
@@ -197,16 +190,13 @@ fn write_where_on<W: Sink>(
     }
 }
 
-// Writes each descriptor of a process on a node, by their numbers, after what is said of the node.
+// Writes each descriptor of a process on a node, by ascending number, as it follows the words of the node.
 fn write_descriptors_on<W: Sink>(
     out: &mut W,
     reacher: &Reacher<'_>,
     node: u16,
 ) -> Result<(), Failed>
-    ensures whole { OnOk result (W.written out.new ≡ and_all (W.written out.old) (all_on reacher.now node)) }
-    ensures beginning { OnErr result (TellsBeginning (all_on reacher.now node) (W.written out.old) (W.written out.new)) }
-    ensures failed { OnErr result (Rose (W.failures out.old) (W.failures out.new)) }
-    ensures quiet { OnOk result (W.failures out.new ≡ W.failures out.old) }
+    ensures { Writes W.Sink (all_on reacher.now node) out.old out.new result }
 {
     reacher.owned.descriptors.invariant();
     for number in 0..DESCRIPTORS as u8 {
@@ -215,7 +205,7 @@ fn write_descriptors_on<W: Sink>(
     Ok(())
 }
 
-/// Each descriptor of a process on a node, by their numbers, after what is said of the node.
+/// The descriptors of a process on a node, by ascending number, as they follow the words of the node.
 #[derive(Clone, Copy)]
 pub(crate) struct AndDescriptors<'a> {
     /// The process.

@@ -1,11 +1,11 @@
-//! What a process may do where no name of the tree leads: absent names, removed directories, files without a name.
-ghost use Rattle.std.specs.Prelude.{◌≡◌, ◌<◌, length, IsNone, OnOk, OnErr};
+//! The permissions of a process where no name of the tree leads: absent names, removed directories, files without a
+//! name.
+ghost use Rattle.std.specs.Prelude.{◌≡◌, ◌<◌, length, IsNone};
 ghost use Rattle.pv_answers.specs.Reaching.{absent_line, absent_lines, directory_lines, is_absent_in, may_line, opened_at, removed_words, state_of, table_of, unnamed_line, unnamed_lines, unnamed_words};
 ghost use Rattle.pv_model.specs.Answers.Nodes.{node_path};
 ghost use Rattle.pv_model.specs.Calls.Restraints.{entries_of_table};
-ghost use Rattle.pv_model.specs.Stream.{Rose};
 ghost use Rattle.pv_model.specs.Tree.{is_removed};
-ghost use Rattle.pv_streams.specs.Sinks.{and_all, TellsBeginning};
+ghost use Rattle.pv_streams.specs.Sinks.{Writes};
 
 use crate::fragments::{Fragment, Plain};
 use crate::lines::{Decimal, Letters};
@@ -16,16 +16,16 @@ use pv_model::limits::DESCRIPTORS;
 use pv_streams::{Failed, Sink};
 use pv_tree::Tree;
 
-// Whether a directory stands in no entry.
+// Returns whether a directory is in no entry.
 fn is_removed(tree: &Tree, directory: u16) -> bool
     ensures { result ≡ is_removed tree.now.tree directory }
 {
-    // What the sizes tell with them: the tree is well-formed.
+    // The contract of `sizes` states that the tree is well-formed.
     let _ = tree.sizes();
     !has_path(tree, directory)
 }
 
-// Whether a name is not there, in a directory that is.
+// Returns whether a name does not exist, in a directory that is not removed.
 fn is_absent(tree: &Tree, directory: u16, name: &[u8]) -> bool
     ensures { result ≡ is_absent_in tree.now.tree directory name.now }
 {
@@ -35,13 +35,10 @@ fn is_absent(tree: &Tree, directory: u16, name: &[u8]) -> bool
     !tree.is_directory(directory) || tree.find(directory, name).is_none()
 }
 
-// The line of an entry of the table, where it is for an absent name: the first entry for that name governs it.
+// Writes the line of a table entry if its target is an absent name. The first entry for that name governs it.
 fn write_absent<W: Sink>(out: &mut W, reacher: &Reacher<'_>, number: u8) -> Result<(), Failed>
     requires { number < length (entries_of_table (table_of reacher.now)) }
-    ensures whole { OnOk result (W.written out.new ≡ and_all (W.written out.old) (absent_line reacher.now number)) }
-    ensures beginning { OnErr result (TellsBeginning (absent_line reacher.now number) (W.written out.old) (W.written out.new)) }
-    ensures failed { OnErr result (Rose (W.failures out.old) (W.failures out.new)) }
-    ensures quiet { OnOk result (W.failures out.new ≡ W.failures out.old) }
+    ensures { Writes W.Sink (absent_line reacher.now number) out.old out.new result }
 {
     let table = &reacher.owned.unveiled;
     let tree = reacher.parts.tree();
@@ -70,17 +67,14 @@ fn write_absent<W: Sink>(out: &mut W, reacher: &Reacher<'_>, number: u8) -> Resu
     write_may(out, reacher, text)
 }
 
-/// Writes a line for each entry of the table, by its number, whose target is a name that is not there, in a directory that
-/// is not removed: what a process may do there.
+/// Writes a line for each table entry, by ascending number, whose target is an absent name in a directory that is not
+/// removed: the permissions of a process there.
 ///
 /// # Errors
 ///
-/// `Failed` where a write failed: the sink was given a beginning of the lines.
+/// `Failed`, if a write failed. The sink received a prefix of the lines.
 pub(crate) fn write_absents<W: Sink>(out: &mut W, reacher: &Reacher<'_>) -> Result<(), Failed>
-    ensures whole { OnOk result (W.written out.new ≡ and_all (W.written out.old) (absent_lines reacher.now)) }
-    ensures beginning { OnErr result (TellsBeginning (absent_lines reacher.now) (W.written out.old) (W.written out.new)) }
-    ensures failed { OnErr result (Rose (W.failures out.old) (W.failures out.new)) }
-    ensures quiet { OnOk result (W.failures out.new ≡ W.failures out.old) }
+    ensures { Writes W.Sink (absent_lines reacher.now) out.old out.new result }
 {
     for number in 0..reacher.owned.unveiled.len() as u8 {
         write_absent(out, reacher, number)?;
@@ -88,7 +82,7 @@ pub(crate) fn write_absents<W: Sink>(out: &mut W, reacher: &Reacher<'_>) -> Resu
     Ok(())
 }
 
-// A removed directory, with what a process may do there and who governs it: its own entry alone.
+// A removed directory, with the permissions of a process there and its governor. Only its own entry can govern it.
 #[derive(Clone, Copy)]
 struct Removed<'a> {
     reacher: Reacher<'a>,
@@ -111,16 +105,13 @@ impl<'a> Fragment for Removed<'a> {
     }
 }
 
-/// Writes a line for the working directory, where it is removed: what a process may do there.
+/// Writes a line for the working directory, if it is removed: the permissions of a process there.
 ///
 /// # Errors
 ///
-/// `Failed` where a write failed: the sink was given a beginning of the line.
+/// `Failed`, if a write failed. The sink received a prefix of the line.
 pub(crate) fn write_directory<W: Sink>(out: &mut W, reacher: &Reacher<'_>) -> Result<(), Failed>
-    ensures whole { OnOk result (W.written out.new ≡ and_all (W.written out.old) (directory_lines reacher.now)) }
-    ensures beginning { OnErr result (TellsBeginning (directory_lines reacher.now) (W.written out.old) (W.written out.new)) }
-    ensures failed { OnErr result (Rose (W.failures out.old) (W.failures out.new)) }
-    ensures quiet { OnOk result (W.failures out.new ≡ W.failures out.old) }
+    ensures { Writes W.Sink (directory_lines reacher.now) out.old out.new result }
 {
     let node = reacher.owned.directory;
     if !is_removed(reacher.parts.tree(), node) {
@@ -133,7 +124,7 @@ pub(crate) fn write_directory<W: Sink>(out: &mut W, reacher: &Reacher<'_>) -> Re
     write_may(out, reacher, (removed, Plain(b", working directory")))
 }
 
-// The line of a descriptor on a node without a path: nothing may be done at a file or a link.
+// Writes the line of a descriptor on a node without a path. At a file or link no permission applies.
 fn write_on_unnamed<W: Sink>(
     out: &mut W,
     reacher: &Reacher<'_>,
@@ -141,13 +132,10 @@ fn write_on_unnamed<W: Sink>(
     descriptor: AndDescriptor,
 ) -> Result<(), Failed>
     requires { IsNone (node_path (state_of reacher.now).tree node) }
-    ensures whole { OnOk result (W.written out.new ≡ and_all (W.written out.old) (may_line reacher.now (unnamed_words reacher.now node descriptor.number descriptor.mode))) }
-    ensures beginning { OnErr result (TellsBeginning (may_line reacher.now (unnamed_words reacher.now node descriptor.number descriptor.mode)) (W.written out.old) (W.written out.new)) }
-    ensures failed { OnErr result (Rose (W.failures out.old) (W.failures out.new)) }
-    ensures quiet { OnOk result (W.failures out.new ≡ W.failures out.old) }
+    ensures { Writes W.Sink (may_line reacher.now (unnamed_words reacher.now node descriptor.number descriptor.mode)) out.old out.new result }
 {
     let tree = reacher.parts.tree();
-    // What the sizes tell with them: the tree is well-formed.
+    // The contract of `sizes` states that the tree is well-formed.
     let _ = tree.sizes();
     if tree.is_directory(node) {
         let removed = Removed {
@@ -161,12 +149,9 @@ fn write_on_unnamed<W: Sink>(
     }
 }
 
-// The line of a descriptor, where it is on a node without a path.
+// Writes the line of a descriptor if its node has no path.
 fn write_unnamed<W: Sink>(out: &mut W, reacher: &Reacher<'_>, number: u8) -> Result<(), Failed>
-    ensures whole { OnOk result (W.written out.new ≡ and_all (W.written out.old) (unnamed_line reacher.now number (opened_at reacher.now number))) }
-    ensures beginning { OnErr result (TellsBeginning (unnamed_line reacher.now number (opened_at reacher.now number)) (W.written out.old) (W.written out.new)) }
-    ensures failed { OnErr result (Rose (W.failures out.old) (W.failures out.new)) }
-    ensures quiet { OnOk result (W.failures out.new ≡ W.failures out.old) }
+    ensures { Writes W.Sink (unnamed_line reacher.now number (opened_at reacher.now number)) out.old out.new result }
 {
     match opened(reacher, number) {
         Some((node, mode)) if !has_path(reacher.parts.tree(), node) => {
@@ -176,17 +161,14 @@ fn write_unnamed<W: Sink>(out: &mut W, reacher: &Reacher<'_>, number: u8) -> Res
     }
 }
 
-/// Writes a line for each descriptor, by its number, that is on a node without a path: what a process may do there, if the
-/// node is a directory.
+/// Writes a line for each descriptor on a node without a path, by ascending number. If the node is a directory, the
+/// line has the permissions of the process there.
 ///
 /// # Errors
 ///
-/// `Failed` where a write failed: the sink was given a beginning of the lines.
+/// `Failed`, if a write failed. The sink received a prefix of the lines.
 pub(crate) fn write_descriptors<W: Sink>(out: &mut W, reacher: &Reacher<'_>) -> Result<(), Failed>
-    ensures whole { OnOk result (W.written out.new ≡ and_all (W.written out.old) (unnamed_lines reacher.now)) }
-    ensures beginning { OnErr result (TellsBeginning (unnamed_lines reacher.now) (W.written out.old) (W.written out.new)) }
-    ensures failed { OnErr result (Rose (W.failures out.old) (W.failures out.new)) }
-    ensures quiet { OnOk result (W.failures out.new ≡ W.failures out.old) }
+    ensures { Writes W.Sink (unnamed_lines reacher.now) out.old out.new result }
 {
     reacher.owned.descriptors.invariant();
     for number in 0..DESCRIPTORS as u8 {

@@ -1,23 +1,23 @@
-//! Descriptors, and their open files.
+//! Descriptors and their open files.
 ghost use Rattle.std.specs.Prelude.{◌≡◌, ◌≢◌, ℕ, ◌+◌, ◌<◌, [], ◌∷◌, if◌then◌else◌, IsSome, IsTrue, IfOk, IfErr, OnOk, OnErr, Some, None, IfSome, MatchOption, option_map, ok_or};
 ghost use Rattle.pv_files.specs.Counted.{with_opened};
 ghost use Rattle.pv_files.specs.Descriptors.{descriptor_under};
-ghost use Rattle.pv_laws_states.specs.States.{IsWhole};
+ghost use Rattle.pv_laws_states.specs.States.{IsValid};
 ghost use Rattle.pv_model.specs.declared.errno.Errno.TheVariants.{EBADF, EMFILE};
 ghost use Rattle.pv_model.specs.declared.limits.TheConstants.{DESCRIPTORS, OPEN_FILES};
 ghost use Rattle.pv_model.specs.Calls.Descriptors.{close, dup, dup2, new_open_file, with_content, within};
-ghost use Rattle.pv_model.specs.Held.{trim};
+ghost use Rattle.pv_model.specs.Held.{collect};
 ghost use Rattle.pv_model.specs.Numbered.{at_number, least_free};
 ghost use Rattle.pv_model.specs.State.{Process, process_at, writes};
 ghost use Rattle.pv_model.specs.Sealed.{is_file};
 ghost use Rattle.pv_model.specs.Tree.{node_at, find_entry, is_name, is_directory_at};
-ghost use Rattle.pv_calls_state.specs.Attempts.{plainly, trimmed};
+ghost use Rattle.pv_calls_state.specs.Attempts.{plainly, collected};
 ghost use Rattle.pv_calls_state.specs.Changes.{with_closed_descriptor, with_descriptor_at, with_opened_descriptor, with_node_opened, with_file_made};
 ghost use Rattle.pv_calls_state.specs.Releasing.{at_most, HoldsOpened, Releases};
 ghost use Rattle.pv_procs.specs.ProcessTable.{process_in, update};
 ghost use Rattle.pv_tree.specs.Holding.{holds_at};
 ghost use Rattle.pv_tree.specs.Rooms.{refusal};
-ghost use Rattle.pv_laws_trees.specs.Tree.{Stands};
+ghost use Rattle.pv_laws_trees.specs.Tree.{Appears};
 
 use super::Parts;
 use pv_files::{Descriptors, OpenFiles};
@@ -26,7 +26,8 @@ use pv_model::{Errno, NewNode, OpenFlags};
 use pv_procs::Processes;
 use pv_tree::{Space, Tree};
 
-/// Takes a user of an open file away; where none is left, its node is let go.
+/// Removes one user of an open file. If that was the last user, the open file and its reference to its node are
+/// dropped.
 pub(super) fn release(tree: &mut Tree, files: &mut OpenFiles, file: usize)
     requires opened { IsSome (at_number files.old.files file) }
     requires held { HoldsOpened tree.old files.old }
@@ -35,18 +36,18 @@ pub(super) fn release(tree: &mut Tree, files: &mut OpenFiles, file: usize)
     tree.invariant();
     files.invariant();
     if let Some(node) = files.release(file) {
-        tree.let_go(node);
+        tree.unreference(node);
     }
 }
 
-/// The open file of a descriptor, where the number is one.
+/// Returns the number of the open file of descriptor `d`, or `None` if `d` is not open.
 pub(super) fn file_at(descriptors: &Descriptors, d: u8) -> Option<usize>
     ensures { result ≡ option_map (λ e. e.file) (at_number descriptors.now d) }
 {
     descriptors.at(i32::from(d)).ok()
 }
 
-// Takes a user of an open file away, where there is one.
+// Removes one user of an open file, if there is an open file.
 fn release_some(tree: &mut Tree, files: &mut OpenFiles, file: Option<usize>)
     requires opened { IfSome file (λ k. IsSome (at_number files.old.files k)) }
     requires held { HoldsOpened tree.old files.old }
@@ -58,7 +59,8 @@ fn release_some(tree: &mut Tree, files: &mut OpenFiles, file: Option<usize>)
     }
 }
 
-// Closes a descriptor of a live process. The answer is the number of its open file, which has a user less.
+// Closes a descriptor of a live process and returns the number of its open file. The caller must still remove one user
+// of that open file.
 fn close_descriptor(processes: &mut Processes, pid: u32, d: i32) -> Result<usize, Errno>
     requires { IsSome (process_in processes.old pid) }
     ensures file { (me : Process) → process_in processes.old pid ≡ Some me → result ≡ ok_or (option_map (λ e. e.file) (descriptor_under me.descriptors d)) EBADF }
@@ -69,7 +71,7 @@ fn close_descriptor(processes: &mut Processes, pid: u32, d: i32) -> Result<usize
     processes.record_mut(pid).descriptors.close(d)
 }
 
-// Gives a live process a descriptor of an open file, under the least free number, which is the answer.
+// Gives a live process a descriptor for an open file. The descriptor is the lowest free number, which is returned.
 fn give_descriptor(
     processes: &mut Processes,
     pid: u32,
@@ -91,7 +93,7 @@ fn give_descriptor(
         .give(file, close_on_exec)
 }
 
-// Makes a number from 0 to 15 a descriptor of an open file in a live process, whatever it was.
+// Makes a number from 0 to 15 a descriptor for an open file in a live process, whether or not it was in use.
 fn set_descriptor(processes: &mut Processes, pid: u32, number: u8, file: usize)
     requires live { IsSome (process_in processes.old pid) }
     requires in_range { number < DESCRIPTORS }
@@ -101,15 +103,15 @@ fn set_descriptor(processes: &mut Processes, pid: u32, number: u8, file: usize)
 }
 
 impl Parts {
-    /// Closes a descriptor of a live process, close(2): the answer is 0.
+    /// Closes a descriptor of a live process, as close(2), and returns 0.
     ///
     /// # Errors
     ///
-    /// `EBADF` where it is not open; nothing has then changed.
+    /// `EBADF`, if the descriptor is not open. The state is then unchanged.
     pub fn close(&mut self, pid: u32, d: i32) -> Result<u32, Errno>
-        requires whole { IsWhole self.old }
+        requires whole { IsValid self.old }
         requires live { IsSome (process_at self.old pid) }
-        ensures performed { (me : Process) → process_at self.old pid ≡ Some me → trimmed (close self.old pid me d) ≡ plainly self.new result }
+        ensures performed { (me : Process) → process_at self.old pid ≡ Some me → collected (close self.old pid me d) ≡ plainly self.new result }
         ensures unchanged { OnErr result (self.new ≡ self.old) }
     {
         self.tree.invariant();
@@ -120,15 +122,18 @@ impl Parts {
         Ok(0)
     }
 
-    /// Makes another descriptor of an open file, the least that is free, dup(2): the answer is the descriptor.
+    /// Duplicates a descriptor onto the lowest free number, as dup(2), and returns that number.
     ///
     /// # Errors
     ///
-    /// `EBADF` where the one given is not open, else `EMFILE` where no number is free; nothing has then changed.
+    /// - `EBADF`, if the descriptor is not open.
+    /// - `EMFILE`, if no number is free.
+    ///
+    /// The state is unchanged after an error.
     pub fn dup(&mut self, pid: u32, d: i32) -> Result<u32, Errno>
-        requires whole { IsWhole self.old }
+        requires whole { IsValid self.old }
         requires live { IsSome (process_at self.old pid) }
-        ensures performed { (me : Process) → process_at self.old pid ≡ Some me → trimmed (dup self.old pid me d) ≡ plainly self.new result }
+        ensures performed { (me : Process) → process_at self.old pid ≡ Some me → collected (dup self.old pid me d) ≡ plainly self.new result }
         ensures unchanged { OnErr result (self.new ≡ self.old) }
     {
         self.tree.invariant();
@@ -140,15 +145,16 @@ impl Parts {
         Ok(u32::from(number))
     }
 
-    /// Makes a number the descriptor of an open file, whatever it was, dup2(2): the answer is the number.
+    /// Duplicates descriptor `d` onto number `e`, as dup2(2), and returns `e`. If `e` is open, it is closed first. If
+    /// `d` and `e` are equal, nothing changes.
     ///
     /// # Errors
     ///
-    /// `EBADF` where the descriptor is not open, or the number is not from 0 to 15; nothing has then changed.
+    /// `EBADF`, if `d` is not open or `e` is not from 0 to 15. The state is then unchanged.
     pub fn dup2(&mut self, pid: u32, d: i32, e: i32) -> Result<u32, Errno>
-        requires whole { IsWhole self.old }
+        requires whole { IsValid self.old }
         requires live { IsSome (process_at self.old pid) }
-        ensures performed { (me : Process) → process_at self.old pid ≡ Some me → trimmed (dup2 self.old pid me d e) ≡ plainly self.new result }
+        ensures performed { (me : Process) → process_at self.old pid ≡ Some me → collected (dup2 self.old pid me d e) ≡ plainly self.new result }
         ensures unchanged { OnErr result (self.new ≡ self.old) }
     {
         self.tree.invariant();
@@ -169,17 +175,17 @@ impl Parts {
         Ok(u32::from(number))
     }
 
-    /// Opens a file or a directory that is there, cut to no bytes where the flags say so, under the least free
-    /// descriptor, which is the answer.
+    /// Opens an existing file or directory and returns its descriptor, the lowest free number. If the flags ask for it,
+    /// the file is truncated to no bytes.
     pub fn open(&mut self, pid: u32, node: u16, flags: OpenFlags) -> u8
-        requires whole { IsWhole self.old }
+        requires whole { IsValid self.old }
         requires live { IsSome (process_at self.old pid) }
         requires there { IsSome (node_at self.old.tree node) }
         requires cuts_a_file { IsTrue flags.truncate → IsTrue (is_file (node_at self.old.tree node)) }
         requires descriptor { (me : Process) → process_at self.old pid ≡ Some me → least_free me.descriptors < DESCRIPTORS }
         requires file { least_free self.old.files < OPEN_FILES }
         ensures number { (me : Process) → process_at self.old pid ≡ Some me → least_free me.descriptors ≡ result }
-        ensures opened { (me : Process) → process_at self.old pid ≡ Some me → self.new ≡ trim (with_node_opened self.old pid me flags node) }
+        ensures opened { (me : Process) → process_at self.old pid ≡ Some me → self.new ≡ collect (with_node_opened self.old pid me flags node) }
     {
         self.tree.invariant();
         self.files.invariant();
@@ -197,12 +203,14 @@ impl Parts {
         number
     }
 
-    /// Makes a file under a name that a directory has not, and opens it as `open` does.
+    /// Makes a file under a name that does not exist in a directory, and opens it as `open` does.
     ///
     /// # Errors
     ///
-    /// `TooBig` where the directory would be longer than any may be, else `Full` where the image has not the inode
-    /// or the blocks; nothing has then changed.
+    /// - `TooBig`, if the directory would exceed its maximum length.
+    /// - `Full`, if the image has no free inode or too few free blocks.
+    ///
+    /// The state is unchanged after an error.
     pub fn create(
         &mut self,
         pid: u32,
@@ -210,16 +218,16 @@ impl Parts {
         name: &[u8],
         flags: OpenFlags,
     ) -> Result<u8, Space>
-        requires whole { IsWhole self.old }
+        requires whole { IsValid self.old }
         requires live { IsSome (process_at self.old pid) }
-        requires directory { Stands self.old.tree directory }
+        requires directory { Appears self.old.tree directory }
         requires name { IsTrue (is_name self.old.tree.version name.now) }
         requires absent { find_entry self.old.tree directory name.now ≡ None }
         requires descriptor { (me : Process) → process_at self.old pid ≡ Some me → least_free me.descriptors < DESCRIPTORS }
         requires file { least_free self.old.files < OPEN_FILES }
         ensures number { IfOk result (λ d. (me : Process) → process_at self.old pid ≡ Some me → least_free me.descriptors ≡ d) }
-        ensures opened { OnOk result ((me : Process) → process_at self.old pid ≡ Some me → self.new ≡ trim (with_file_made self.old pid me flags directory name.now)) }
-        ensures refused { IfErr result (λ why. (me : Process) → process_at self.old pid ≡ Some me → refusal (trim (with_file_made self.old pid me flags directory name.now)).tree ≡ Some why) }
+        ensures opened { OnOk result ((me : Process) → process_at self.old pid ≡ Some me → self.new ≡ collect (with_file_made self.old pid me flags directory name.now)) }
+        ensures refused { IfErr result (λ why. (me : Process) → process_at self.old pid ≡ Some me → refusal (collect (with_file_made self.old pid me flags directory name.now)).tree ≡ Some why) }
         ensures unchanged { OnErr result (self.new ≡ self.old) }
     {
         self.tree.invariant();
@@ -239,7 +247,7 @@ impl Parts {
     }
 }
 
-// Cuts a file to no bytes, where the flags say so.
+// Truncates a file to no bytes, if `cuts`.
 fn cut_if(tree: &mut Tree, node: u16, cuts: bool)
     requires { IsTrue cuts → IsTrue (is_file (node_at tree.old.tree node)) }
     ensures tree { tree.new.tree ≡ (if cuts then with_content tree.old.tree node [] else tree.old.tree) }
@@ -253,7 +261,7 @@ fn cut_if(tree: &mut Tree, node: u16, cuts: bool)
     }
 }
 
-// Opens a node under the least free numbers.
+// Opens a node under the lowest free numbers of an open file and of a descriptor.
 fn open_node(
     tree: &mut Tree,
     files: &mut OpenFiles,
@@ -284,7 +292,7 @@ fn open_node(
     number
 }
 
-// The number of a descriptor that a call gives, from 0 to 15.
+// Converts a descriptor number of a call. Returns `None` if it is not from 0 to 15.
 fn number_of(e: i32) -> Option<u8>
     ensures { result ≡ within 15 e }
 {

@@ -1,15 +1,15 @@
-//! Children, ends and new programs of processes.
+//! Creation and end of processes, and program images: fork(2), wait(2), exit(3), execve(2).
 ghost use Rattle.std.specs.Prelude.{◌≡◌, if◌then◌else◌, ℕ, ◌+◌, ◌<◌, ◌≤◌, [], IsSome, is_some, OnErr, Some, option_map, slice_index};
-ghost use Rattle.pv_laws_states.specs.States.{IsWhole};
+ghost use Rattle.pv_laws_states.specs.States.{IsValid};
 ghost use Rattle.pv_model.specs.Answer.{update};
 ghost use Rattle.pv_model.specs.Calls.Processes.{end_process, fork, wait, with_program};
-ghost use Rattle.pv_model.specs.Held.{trim, held_by_table};
+ghost use Rattle.pv_model.specs.Held.{collect, held_by_table};
 ghost use Rattle.pv_model.specs.Numbered.{at_number};
 ghost use Rattle.pv_model.specs.State.{Process, process_at};
 ghost use Rattle.pv_model.specs.Tree.{node_at};
-ghost use Rattle.pv_calls_state.specs.Attempts.{plainly, trimmed};
+ghost use Rattle.pv_calls_state.specs.Attempts.{plainly, collected};
 ghost use Rattle.pv_calls_state.specs.Counts.{times};
-ghost use Rattle.pv_calls_state.specs.Releasing.{files_on, if_marked, marked_of, HoldsOpened, Releases, Shares, LetsGo};
+ghost use Rattle.pv_calls_state.specs.Releasing.{files_on, if_marked, marked_of, HoldsOpened, Releases, Shares, Unreferences};
 ghost use Rattle.pv_procs.specs.Reaping.{waited};
 ghost use Rattle.pv_tree.specs.Holding.{holds_at};
 
@@ -26,17 +26,18 @@ use pv_tree::Tree;
 use pv_unveil::Table;
 
 impl Parts {
-    /// The child that fork(2) makes of a live process: its number is the answer. It uses its parent's open files, and
-    /// holds what its parent holds.
+    /// Makes a child of a live process, as fork(2), and returns its number.
+    ///
+    /// The child shares the open files of its parent and references the same nodes.
     ///
     /// # Errors
     ///
-    /// `EAGAIN` where 32 processes are live or have ended and are not waited for, or where the last number given was
-    /// 99,999, and only there; nothing has then changed.
+    /// `EAGAIN`, if there are 32 processes, live or ended and not yet waited for, or if the last number given was
+    /// 99,999. The state is then unchanged.
     pub fn fork(&mut self, pid: u32) -> Result<u32, Errno>
-        requires whole { IsWhole self.old }
+        requires whole { IsValid self.old }
         requires live { IsSome (process_at self.old pid) }
-        ensures performed { (me : Process) → process_at self.old pid ≡ Some me → trimmed (fork self.old pid me) ≡ plainly self.new result }
+        ensures performed { (me : Process) → process_at self.old pid ≡ Some me → collected (fork self.old pid me) ≡ plainly self.new result }
         ensures unchanged { OnErr result (self.new ≡ self.old) }
     {
         self.tree.invariant();
@@ -51,10 +52,10 @@ impl Parts {
         Ok(child)
     }
 
-    /// Waits for a child that has ended, wait(2): the one with the least number is told, and is gone.
+    /// Waits for an ended child, as wait(2). The ended child with the lowest number is reported and removed.
     pub fn reap(&mut self, pid: u32) -> Reap
         requires { IsSome (process_at self.old pid) }
-        ensures performed { (me : Process) → process_at self.old pid ≡ Some me → trimmed (wait self.old pid me) ≡ waited result self.new }
+        ensures performed { (me : Process) → process_at self.old pid ≡ Some me → collected (wait self.old pid me) ≡ waited result self.new }
         ensures blocked { result ≡ Reap.Blocked → self.new ≡ self.old }
         ensures unchanged { result ≡ Reap.NoChild → self.new ≡ self.old }
     {
@@ -64,48 +65,49 @@ impl Parts {
         self.processes.reap(pid)
     }
 
-    /// Ends a live process, with the status that a parent's wait(2) tells. What it used and held is let go.
+    /// Ends a live process with the status that wait(2) will report to its parent. The open files and nodes that only
+    /// this process used are dropped.
     pub fn end(&mut self, pid: u32, status: u32)
-        requires whole { IsWhole self.old }
+        requires whole { IsValid self.old }
         requires live { IsSome (process_at self.old pid) }
-        ensures { (me : Process) → process_at self.old pid ≡ Some me → self.new ≡ trim (end_process self.old pid me status) }
+        ensures { (me : Process) → process_at self.old pid ≡ Some me → self.new ≡ collect (end_process self.old pid me status) }
     {
         self.tree.invariant();
         self.files.invariant();
         let record = self.processes.record(pid);
         release_all(&mut self.tree, &mut self.files, &record.descriptors);
-        let_go_targets(&mut self.tree, &record.unveiled);
-        self.tree.let_go(record.directory);
+        unreference_targets(&mut self.tree, &record.unveiled);
+        self.tree.unreference(record.directory);
         self.processes.end(pid, status);
         self.files.invariant();
     }
 
-    /// Gives a live process another program, execve(2). The descriptors that execve closes are closed, and without
-    /// execpromises what its table held is let go.
+    /// Gives a live process another program, as execve(2). Descriptors marked close-on-exec are closed. If the process
+    /// has no execpromises, its unveil table is removed and the nodes that only the table referenced are dropped.
     pub fn load(&mut self, pid: u32, program: Program)
-        requires whole { IsWhole self.old }
+        requires whole { IsValid self.old }
         requires live { IsSome (process_at self.old pid) }
-        ensures { self.new ≡ trim (update self.old pid (λ me. with_program self.old pid me program)) }
+        ensures { self.new ≡ collect (update self.old pid (λ me. with_program self.old pid me program)) }
     {
         self.tree.invariant();
         self.files.invariant();
         let record = self.processes.record(pid);
         release_marked(&mut self.tree, &mut self.files, &record.descriptors);
         let keeps = keeps_table(&record.pledge);
-        let_go_unless(&mut self.tree, &record.unveiled, keeps);
+        unreference_unless(&mut self.tree, &record.unveiled, keeps);
         self.processes.load(pid, program);
         self.files.invariant();
     }
 }
 
-// Whether an execve keeps the unveil table: there are execpromises.
+// Returns whether execve keeps the unveil table, that is, whether there are execpromises.
 fn keeps_table(pledge: &Pledge) -> bool
     ensures { result ≡ is_some pledge.now.execpromises }
 {
     pledge.execpromises().is_some()
 }
 
-// The open file of a descriptor that execve closes, where the number is one.
+// Returns the number of the open file of descriptor `d`, or `None` if `d` is not open or not marked close-on-exec.
 fn marked_file_at(descriptors: &Descriptors, d: u8) -> Option<usize>
     ensures { result ≡ option_map (λ e. e.file) (if_marked (at_number descriptors.now d)) }
 {
@@ -116,7 +118,7 @@ fn marked_file_at(descriptors: &Descriptors, d: u8) -> Option<usize>
     }
 }
 
-// Each open file that the descriptors are on has another user for each.
+// Adds one user to the open file of each descriptor.
 fn share(files: &mut OpenFiles, descriptors: &Descriptors)
     requires opened { (k : ℕ) → 0 < times k (files_on descriptors.now) → IsSome (at_number files.old.files k) }
     requires room { (k : ℕ) → slice_index files.old.users k + times k (files_on descriptors.now) ≤ 65535 }
@@ -131,7 +133,7 @@ fn share(files: &mut OpenFiles, descriptors: &Descriptors)
     }
 }
 
-// Takes the users away that the descriptors are.
+// Removes one user from the open file of each descriptor.
 fn release_all(tree: &mut Tree, files: &mut OpenFiles, descriptors: &Descriptors)
     requires used { (k : ℕ) → times k (files_on descriptors.now) ≤ slice_index files.old.users k }
     requires held { HoldsOpened tree.old files.old }
@@ -147,7 +149,7 @@ fn release_all(tree: &mut Tree, files: &mut OpenFiles, descriptors: &Descriptors
     }
 }
 
-// Takes the users away that the descriptors are which execve closes.
+// Removes one user from the open file of each descriptor that is marked close-on-exec.
 fn release_marked(tree: &mut Tree, files: &mut OpenFiles, descriptors: &Descriptors)
     requires used { (k : ℕ) → times k (files_on (marked_of descriptors.now)) ≤ slice_index files.old.users k }
     requires held { HoldsOpened tree.old files.old }
@@ -163,7 +165,7 @@ fn release_marked(tree: &mut Tree, files: &mut OpenFiles, descriptors: &Descript
     }
 }
 
-// Each target's directory is held once more.
+// Adds one reference to the directory of each target.
 fn hold_targets(tree: &mut Tree, table: &Table)
     requires there { (n : ℕ) → 0 < times n (held_by_table table.now.table) → IsSome (node_at tree.old.tree n) }
     requires room { (n : ℕ) → holds_at tree.old n + times n (held_by_table table.now.table) ≤ 65535 }
@@ -175,24 +177,24 @@ fn hold_targets(tree: &mut Tree, table: &Table)
     }
 }
 
-// Each target's directory is held once less.
-fn let_go_targets(tree: &mut Tree, table: &Table)
+// Removes one reference from the directory of each target.
+fn unreference_targets(tree: &mut Tree, table: &Table)
     requires { (n : ℕ) → times n (held_by_table table.now.table) ≤ holds_at tree.old n }
-    ensures { LetsGo (held_by_table table.now.table) tree.old tree.new }
+    ensures { Unreferences (held_by_table table.now.table) tree.old tree.new }
 {
     tree.invariant();
     for k in 0..table.len() as u8 {
-        tree.let_go(directory_of(table.target(k)));
+        tree.unreference(directory_of(table.target(k)));
     }
 }
 
-// The same, but where the table is kept.
-fn let_go_unless(tree: &mut Tree, table: &Table, keeps: bool)
+// Removes one reference from the directory of each target, unless the table is kept.
+fn unreference_unless(tree: &mut Tree, table: &Table, keeps: bool)
     requires { (n : ℕ) → times n (held_by_table table.now.table) ≤ holds_at tree.old n }
-    ensures { LetsGo (if keeps then [] else held_by_table table.now.table) tree.old tree.new }
+    ensures { Unreferences (if keeps then [] else held_by_table table.now.table) tree.old tree.new }
 {
     tree.invariant();
     if !keeps {
-        let_go_targets(tree, table);
+        unreference_targets(tree, table);
     }
 }

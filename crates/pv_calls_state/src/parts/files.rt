@@ -1,10 +1,10 @@
-//! What a call does with an open file and its bytes.
+//! Offsets and bytes of open files.
 ghost use Rattle.std.specs.Prelude.{ℕ, ◌≡◌, ◌≤◌, ◌<◌, take, IsSome, IsTrue, IfErr, OnOk, OnErr, Some, option_map};
-ghost use Rattle.pv_laws_states.specs.States.{IsWhole};
+ghost use Rattle.pv_laws_states.specs.States.{IsValid};
 ghost use Rattle.pv_model.specs.declared.limits.TheConstants.{BUFFER};
 ghost use Rattle.pv_model.specs.Calls.Descriptors.{with_bytes_written};
 ghost use Rattle.pv_model.specs.Effect.{with_file};
-ghost use Rattle.pv_model.specs.Held.{trim};
+ghost use Rattle.pv_model.specs.Held.{collect};
 ghost use Rattle.pv_model.specs.Numbered.{at_number};
 ghost use Rattle.pv_model.specs.Sealed.{is_file};
 ghost use Rattle.pv_model.specs.State.{OpenFile, Process, process_at, with_tree};
@@ -17,7 +17,7 @@ use pv_model::Name;
 use pv_tree::Space;
 
 impl Parts {
-    /// Moves the offset of an open file, for all its users.
+    /// Sets the offset of an open file, for all its users.
     pub fn set_offset(&mut self, file: usize, offset: u32)
         requires { IsSome (at_number self.old.files file) }
         ensures { option_map (λ f. with_file self.old file (record f { offset = offset })) (at_number self.old.files file) ≡ Some self.new }
@@ -25,7 +25,7 @@ impl Parts {
         self.files.set_offset(file, offset);
     }
 
-    /// Keeps a name as the last one that an open file gave.
+    /// Sets the last name that getdents(2) gave from an open file.
     pub fn set_last_name(&mut self, file: usize, name: Name)
         requires { IsSome (at_number self.old.files file) }
         ensures { option_map (λ f. with_file self.old file (record f { listed = Some name })) (at_number self.old.files file) ≡ Some self.new }
@@ -33,24 +33,26 @@ impl Parts {
         self.files.set_last_name(file, name);
     }
 
-    /// Writes the first bytes of a live process's buffer, at least one and at most 4,096, through an open file, from
-    /// `at` on, and moves its offset after them. A gap past the end is filled with zeros.
+    /// Writes the first `count` bytes of a live process's buffer, 1 to 4,096, through an open file at offset `at`, and
+    /// moves the offset past them. If `at` is past the end, the gap is filled with zeros.
     ///
     /// # Errors
     ///
-    /// `TooBig` where the file would be longer than any may be, else `Full` where the image has not the blocks;
-    /// nothing has then changed.
+    /// - `TooBig`, if the file would exceed its maximum length.
+    /// - `Full`, if the image has too few free blocks.
+    ///
+    /// The state is unchanged after an error.
     pub fn write_front(&mut self, pid: u32, file: usize, at: u32, count: usize) -> Result<(), Space>
-        requires whole { IsWhole self.old }
+        requires whole { IsValid self.old }
         requires live { IsSome (process_at self.old pid) }
         requires some { 0 < count }
         requires few { count ≤ BUFFER }
         requires opened { (f : OpenFile) → at_number self.old.files file ≡ Some f → IsTrue (is_file (node_at self.old.tree f.node)) }
         requires there { IsSome (at_number self.old.files file) }
         ensures written { OnOk result ((me : Process) (f : OpenFile) → process_at self.old pid ≡ Some me → at_number self.old.files file ≡ Some f
-            → self.new ≡ trim (with_bytes_written self.old pid me file f at (take count me.buffer))) }
+            → self.new ≡ collect (with_bytes_written self.old pid me file f at (take count me.buffer))) }
         ensures refused { IfErr result (λ why. (me : Process) (f : OpenFile) → process_at self.old pid ≡ Some me → at_number self.old.files file ≡ Some f
-            → refusal (trim (with_bytes_written self.old pid me file f at (take count me.buffer))).tree ≡ Some why) }
+            → refusal (collect (with_bytes_written self.old pid me file f at (take count me.buffer))).tree ≡ Some why) }
         ensures unchanged { OnErr result (self.new ≡ self.old) }
     {
         self.tree.invariant();
@@ -62,16 +64,16 @@ impl Parts {
         Ok(())
     }
 
-    /// Cuts a file's bytes to a length, or fills them up to it with zeros.
+    /// Truncates a file to `size` bytes, or extends it to them with zeros.
     ///
     /// # Errors
     ///
-    /// As `write_front`.
+    /// As for `write_front`.
     pub fn resize(&mut self, node: u16, size: u32) -> Result<(), Space>
-        requires whole { IsWhole self.old }
+        requires whole { IsValid self.old }
         requires file { IsTrue (is_file (node_at self.old.tree node)) }
-        ensures resized { OnOk result (self.new ≡ trim (with_tree self.old (resized self.old.tree node size))) }
-        ensures refused { IfErr result (λ why. refusal (trim (with_tree self.old (resized self.old.tree node size))).tree ≡ Some why) }
+        ensures resized { OnOk result (self.new ≡ collect (with_tree self.old (resized self.old.tree node size))) }
+        ensures refused { IfErr result (λ why. refusal (collect (with_tree self.old (resized self.old.tree node size))).tree ≡ Some why) }
         ensures unchanged { OnErr result (self.new ≡ self.old) }
     {
         self.tree.invariant();

@@ -1,11 +1,11 @@
-//! Working directories and targets of tables, which hold nodes.
+//! Working directories and unveil targets: the references of a process to nodes.
 ghost use Rattle.std.specs.Prelude.{◌≡◌, ◌<◌, ◌+◌, ℕ, [], ◌∷◌, length, nat_lt, if◌then◌else◌, IsSome, IfErr, IfOk, OnOk, OnErr, Some};
 ghost use Rattle.std.specs.Option.{IsSomeAnd};
-ghost use Rattle.pv_laws_states.specs.States.{IsWhole};
+ghost use Rattle.pv_laws_states.specs.States.{IsValid};
 ghost use Rattle.pv_model.specs.Answer.{update};
 ghost use Rattle.pv_model.specs.Attempt.{give};
 ghost use Rattle.pv_model.specs.Calls.Restraints.{entries_of_table};
-ghost use Rattle.pv_model.specs.Held.{trim};
+ghost use Rattle.pv_model.specs.Held.{collect};
 ghost use Rattle.pv_model.specs.State.{Process, process_at};
 ghost use Rattle.pv_model.specs.Tree.{node_at};
 ghost use Rattle.pv_model.specs.Unveil.{target_directory};
@@ -21,7 +21,7 @@ use pv_procs::Processes;
 use pv_tree::Tree;
 use pv_unveil::{AddFault, Table};
 
-// The directory that an entry for a target holds.
+// Returns the directory that an unveil entry for a target references.
 pub(super) fn directory_of(target: &Target) -> u16
     ensures { result ≡ target_directory target.now }
 {
@@ -31,7 +31,7 @@ pub(super) fn directory_of(target: &Target) -> u16
     }
 }
 
-// Gives a live process another working directory.
+// Sets the working directory of a live process, without counting references.
 fn put_directory(processes: &mut Processes, pid: u32, directory: u16)
     requires { IsSome (process_in processes.old pid) }
     ensures { processes.new ≡ process_updated processes.old pid (with_directory directory) }
@@ -39,8 +39,8 @@ fn put_directory(processes: &mut Processes, pid: u32, directory: u16)
     processes.record_mut(pid).directory = directory;
 }
 
-// Adds an entry for a target to a table, or leaves the one that is there with these permissions. The answer is whether the
-// entry is new.
+// Adds an entry for a target to a table, or sets the permissions of the existing entry. Returns whether the entry is
+// new.
 fn add_to_table(table: &mut Table, target: Target, permissions: Perms) -> Result<bool, AddFault>
     ensures added { OnOk result (IsSomeAnd table.new.table (λ entries. add_to table.old target permissions ≡ give entries)) }
     ensures longer { IfOk result (λ is_new. is_new ≡ nat_lt (length (entries_of_table table.old.table)) (length (entries_of_table table.new.table))) }
@@ -53,7 +53,8 @@ fn add_to_table(table: &mut Table, target: Target, permissions: Perms) -> Result
     Ok(table.len() > count)
 }
 
-// The same, of the table of a live process.
+// Adds an entry to the table of a live process, or sets the permissions of the existing entry. Returns whether the
+// entry is new.
 fn add_entry(
     processes: &mut Processes,
     pid: u32,
@@ -69,7 +70,7 @@ fn add_entry(
     add_to_table(&mut processes.record_mut(pid).unveiled, target, permissions)
 }
 
-// Holds a directory once more, where an entry for it is new.
+// Adds one reference to a directory, if its entry is new.
 fn hold_if(tree: &mut Tree, directory: u16, is_new: bool)
     requires node { IsSome (node_at tree.old.tree directory) }
     requires few { holds_at tree.old directory < 65535 }
@@ -82,29 +83,28 @@ fn hold_if(tree: &mut Tree, directory: u16, is_new: bool)
 }
 
 impl Parts {
-    /// Gives a live process another working directory, and lets the earlier one go.
+    /// Sets the working directory of a live process, and drops the reference to the earlier one.
     pub fn set_directory(&mut self, pid: u32, directory: u16)
-        requires whole { IsWhole self.old }
+        requires whole { IsValid self.old }
         requires live { IsSome (process_at self.old pid) }
         requires there { IsSome (node_at self.old.tree directory) }
-        ensures { self.new ≡ trim (update self.old pid (with_directory directory)) }
+        ensures { self.new ≡ collect (update self.old pid (with_directory directory)) }
     {
         self.tree.invariant();
         self.files.invariant();
         let left = self.processes.record(pid).directory;
         self.tree.hold(directory);
         put_directory(&mut self.processes, pid, directory);
-        self.tree.let_go(left);
+        self.tree.unreference(left);
     }
 
-    /// Adds an entry for a target to the unveil table of a live process, or leaves the one that is there with these
-    /// permissions.
+    /// Adds an entry for a target to the unveil table of a live process, or sets the permissions of the existing entry.
     ///
     /// # Errors
     ///
-    /// The first fault of `Table::add`; nothing has then changed.
+    /// The first error of `Table::add`. The state is then unchanged.
     pub fn unveil(&mut self, pid: u32, target: Target, permissions: Perms) -> Result<(), AddFault>
-        requires whole { IsWhole self.old }
+        requires whole { IsValid self.old }
         requires live { IsSome (process_at self.old pid) }
         requires there { IsSome (node_at self.old.tree (target_directory target)) }
         ensures added { OnOk result ((me : Process) → process_at self.old pid ≡ Some me → Unveils self.old pid me target permissions self.new) }

@@ -1,4 +1,4 @@
-//! What changes in a process alone.
+//! Changes within one process.
 ghost use Rattle.std.specs.Prelude.{◌≡◌, ◌<◌, ◌≤◌, ◌++◌, drop, length, IsSome, IsTrue, true};
 ghost use Rattle.pv_model.specs.Answer.{at_next_line, with_front, update};
 ghost use Rattle.pv_model.specs.Calls.Processes.{with_result};
@@ -15,7 +15,7 @@ use pv_promises::Pledge;
 use pv_script::CallTexts;
 use pv_tree::Tree;
 
-// Reads at most so many bytes of a file, from `at` on, to the front of a buffer: answers how many.
+// Reads at most `count` bytes of a file, from offset `at`, to the front of a buffer. Returns the number of bytes read.
 fn read_part(tree: &Tree, node: u16, at: u32, count: usize, buffer: &mut [u8]) -> usize
     requires file { IsTrue (is_file (node_at tree.now.tree node)) }
     requires room { count ≤ length buffer.old }
@@ -26,8 +26,8 @@ fn read_part(tree: &Tree, node: u16, at: u32, count: usize, buffer: &mut [u8]) -
 }
 
 impl Parts {
-    /// What comes next in a process: an instruction on registers or a jump, which is made, or a call, with its texts
-    /// kept: past the last line, an exit.
+    /// Takes the next instruction of a process. An instruction on registers or a jump is carried out. A call is
+    /// returned, with its texts kept in `texts`; past the last line the call is `exit 0`.
     pub fn step_or_fetch<'a>(&mut self, pid: u32, texts: &'a mut CallTexts) -> Fetched<'a>
         ensures { IsRegistered result pid self.old self.new }
     {
@@ -35,8 +35,8 @@ impl Parts {
         self.processes.step_or_fetch(pid, texts)
     }
 
-    /// Makes the instructions on registers and the jumps that come next in a process, at most so many, one after
-    /// another: answers how many. Where the process is not live, they are none.
+    /// Carries out the next register instructions and jumps of a process, at most `most`, and returns their number: 0
+    /// if the process is not live.
     pub fn pass(&mut self, pid: u32, most: u32) -> u32
         ensures few { result ≤ most }
         ensures made { PassesInside result pid self.old self.new }
@@ -46,7 +46,7 @@ impl Parts {
         self.processes.pass(pid, most)
     }
 
-    /// A live process goes on to its next line, at most to the one after the last.
+    /// Moves a live process to its next line, at most to the one after the last.
     pub fn advance(&mut self, pid: u32)
         requires { IsSome (process_at self.old pid) }
         ensures { self.new ≡ update self.old pid at_next_line }
@@ -55,16 +55,16 @@ impl Parts {
         self.processes.advance(pid);
     }
 
-    /// Tells a live process what a call came to: r0 has the value, and r1 the error, 0 where there is none.
-    pub fn tell(&mut self, pid: u32, value: i32, error: u16)
+    /// Reports the result of a call to a live process: `value` in r0 and `error` in r1, which is 0 on success.
+    pub fn report(&mut self, pid: u32, value: i32, error: u16)
         requires { IsSome (process_at self.old pid) }
         ensures { self.new ≡ update self.old pid (λ p. with_result p value error) }
     {
         self.processes.invariant();
-        self.processes.tell(pid, value, error);
+        self.processes.report(pid, value, error);
     }
 
-    /// Puts bytes, at most 4,096, to the front of a live process's buffer.
+    /// Copies bytes, at most 4,096, to the front of a live process's buffer.
     pub fn put_front(&mut self, pid: u32, bytes: &[u8])
         requires live { IsSome (process_at self.old pid) }
         requires size { length bytes.now ≤ BUFFER }
@@ -74,8 +74,8 @@ impl Parts {
         self.processes.put_front(pid, bytes);
     }
 
-    /// Reads at most so many bytes of a file, 4,096 at most, from `at` on to the front of a live process's buffer:
-    /// answers how many, fewer where the file ends, and none past its end.
+    /// Reads at most `count` bytes of a file, 4,096 at most, from offset `at` to the front of a live process's buffer.
+    /// Returns the number of bytes read: fewer than `count` if the file ends, and 0 past its end.
     pub fn read_front(&mut self, pid: u32, node: u16, at: u32, count: usize) -> usize
         requires live { IsSome (process_at self.old pid) }
         requires file { IsTrue (is_file (node_at self.old.tree node)) }
@@ -88,7 +88,7 @@ impl Parts {
         read_part(&self.tree, node, at, count, buffer)
     }
 
-    /// Gives a live process other promises and execpromises.
+    /// Sets the promises and execpromises of a live process.
     pub fn set_pledge(&mut self, pid: u32, pledge: Pledge)
         requires { IsSome (process_at self.old pid) }
         ensures { self.new ≡ update self.old pid (λ p. record p { promises = pledge.promises; execpromises = pledge.execpromises }) }

@@ -1,4 +1,4 @@
-//! How often the entries of a directory are for a node.
+//! Counting the entries for each node.
 ghost use Rattle.std.specs.Prelude.{◌≡◌, ℕ, ◌+◌, ◌<◌, ◌≤◌, if◌then◌else◌, nat_lt, length, slice_index, IsTrue, Some};
 ghost use Rattle.pv_model.specs.Bytes.{Bytes};
 ghost use Rattle.pv_model.specs.declared.version.Version.TheVariants.{V2};
@@ -10,8 +10,8 @@ use super::Directories;
 use crate::dir::Dir;
 
 impl Directories {
-    /// Counts the entries of a directory by the nodes that they are for, in one pass. Where so many are for
-    /// node `n`, `counts[n]` grows by that, and where one is, `parents[n]` becomes the directory.
+    /// Counts the entries of a directory for each node, in one pass. Adds the number of entries for node `n` to
+    /// `counts[n]`, and sets `parents[n]` to the directory if it has an entry for `n`.
     pub fn count_entries(&self, directory: u16, counts: &mut [u32], parents: &mut [u16])
         requires directory { IsTrue (is_directory_at self.now directory) }
         requires nodes { (name : Bytes) (n : ℕ) → find_entry self.now directory name ≡ Some n → n < length counts.old }

@@ -1,4 +1,4 @@
-//! The directories of an image that was written before.
+//! The directories of an existing image.
 ghost use Rattle.std.specs.Prelude.{◌≡◌, IfOk};
 ghost use Rattle.pv_model.specs.Image.{IsImageOf};
 ghost use Rattle.pv_model.specs.Tree.{Tree};
@@ -13,12 +13,12 @@ use pv_model::limits::BLOCK;
 use std::alloc::{AllocError, Global};
 
 impl Directories {
-    /// The tree of the image that these bytes are, of this version and with so many inodes. The bytes are
-    /// its blocks from then on, so nothing is copied, and its slots stand where they stood.
+    /// Creates the tree of the image in `bytes`, which has this version and number of inodes. The vector becomes the
+    /// store of blocks, so nothing is copied, and the slots stay where they are.
     ///
     /// # Errors
     ///
-    /// `AllocError` where memory for the index was refused.
+    /// Returns `AllocError` if memory for the index cannot be allocated.
     pub fn of_image(
         alloc: Global,
         bytes: Vec<u8>,

@@ -1,4 +1,4 @@
-//! The slots of directories in the order of their names.
+//! Sorting the slots of directories by name.
 ghost use Rattle.std.specs.Prelude.{◌≡◌};
 
 use super::Directories;
@@ -6,9 +6,9 @@ use crate::indexing::add_all;
 use crate::sorting::{any_unordered, sort_all};
 
 impl Directories {
-    /// Puts the slots of each directory in the order of the names, where they are not known to stand so. The
-    /// tree is the same, since its entries have no order but that of their names. But where the names ascend
-    /// from slot to slot, a listing goes from each name to the next in one step, and a name is found by binary search.
+    /// Sorts the slots of each directory by name, unless they are known to be sorted. The tree does not change, because
+    /// its entries have no other order. With sorted slots, a listing finds each next name in one step, and a lookup is
+    /// a binary search.
     pub fn sort_slots(&mut self)
         ensures { self.new ≡ self.old }
     {

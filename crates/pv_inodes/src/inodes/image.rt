@@ -1,4 +1,4 @@
-//! The inodes of an image that was written before.
+//! The inodes of an existing image.
 ghost use Rattle.std.specs.Prelude.{◌≡◌, ◌+◌, ◌*◌, ◌/◌, ◌%◌, ◌≤◌, vec_len};
 ghost use Rattle.pv_model.specs.declared.limits.TheConstants.{BLOCK, BLOCKS_V2};
 ghost use Rattle.pv_model.specs.Image.{inode_blocks};
@@ -11,8 +11,8 @@ use pv_model::Version;
 use pv_model::limits::{BLOCK, INODES};
 
 impl Inodes {
-    /// The inodes of an image that these bytes are, with what they hold. The bytes are its blocks, at most
-    /// 65,535 of 512, so nothing is copied.
+    /// Creates the inodes of the image in `bytes`, with their contents. The vector becomes the store of blocks, at most
+    /// 65,535 of 512 bytes, so nothing is copied.
     pub fn of_image(bytes: Vec<u8>, inodes: u16, version: Version) -> Inodes
         requires whole { vec_len bytes % BLOCK ≡ 0 }
         requires few_blocks { vec_len bytes ≤ BLOCK * BLOCKS_V2 }

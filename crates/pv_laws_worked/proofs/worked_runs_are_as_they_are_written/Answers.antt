@@ -1,4 +1,4 @@
--- All worked runs are proved.
+-- All worked examples are proved.
 use Rattle.pv_laws_worked.specs.Audits
 use Rattle.pv_laws_worked.specs.Errors
 use Rattle.pv_laws_worked.specs.Execve
@@ -70,7 +70,7 @@ returns c = record {
   explored = record {
     a_loop_has_two_states = Explored.a_loop_has_two_states;
     a_loop_leads_back = Explored.a_loop_leads_back;
-    each_text_has_its_way = Explored.each_text_has_its_way;
+    each_text_has_its_witness = Explored.each_text_has_its_witness;
     a_state_is_left_out = Explored.a_state_is_left_out;
     two_orders_end_apart = Explored.two_orders_end_apart;
   };
@@ -196,11 +196,11 @@ returns c = record {
     create_without_promise = Promises.create_without_promise;
   };
   questions = record {
-    each_is_told = Questions.each_is_told;
+    each_is_reported = Questions.each_is_reported;
     places_are_reached = Questions.places_are_reached;
     removed_is_reached = Questions.removed_is_reached;
     refusals_are_explained = Questions.refusals_are_explained;
-    stints_ask = Questions.stints_ask;
+    process_images_ask = Questions.process_images_ask;
     turns_are_taken = Questions.turns_are_taken;
   };
   rooms = record {
@@ -226,7 +226,7 @@ returns c = record {
     faults_of_the_tree = Sources.faults_of_the_tree;
     init_is_a_directory = Sources.init_is_a_directory;
     exec_at_fault = Sources.exec_at_fault;
-    twenty_are_told = Sources.twenty_are_told;
+    twenty_are_reported = Sources.twenty_are_reported;
     instructions_too_many = Sources.instructions_too_many;
   };
   starts = record {
@@ -266,7 +266,7 @@ returns c = record {
     child_has_table = Unveils.child_has_table;
   };
   walks = record {
-    kept_link = Walks.kept_link;
+    preserved_link = Walks.preserved_link;
     link_with_slash = Walks.link_with_slash;
     file_with_slash = Walks.file_with_slash;
     absent_with_slash = Walks.absent_with_slash;

@@ -1,4 +1,4 @@
--- A trace with what a reader asks beside it: the text of `explain`.
+-- The text of `explain`: a trace with explanations.
 use Rattle.std.specs.Prelude.{ℕ, ◌+◌, ◌/◌, Bool, true, false, not, ◌&&◌, ◌==◌, if◌then◌else◌, List, [], ◌∷◌, ◌++◌, map, flat_map, codes, Option, None, Some, slice_index, slice_get, take, drop}
 use Rattle.std.specs.Fmt.{decimal}
 use Rattle.std.specs.List.{join_by}
@@ -13,7 +13,7 @@ use Rattle.pv_model.specs.Answer.{Answered, answer}
 use Rattle.pv_model.specs.Answers.Levels.{Level, levels}
 use Rattle.pv_model.specs.Answers.Lines.{AnswerLine, answer_line, of_trace, permissions_in_places, keyword_list, pledged_text}
 use Rattle.pv_model.specs.Answers.Nodes.{node_path, node_words, name_words}
-use Rattle.pv_model.specs.Answers.ProcessRecord.{standings}
+use Rattle.pv_model.specs.Answers.ProcessRecord.{locations}
 use Rattle.pv_model.specs.Answers.Settings.{Setting, Settings, settings_of, settings_after}
 use Rattle.pv_model.specs.Bytes.{Bytes}
 use Rattle.pv_model.specs.Calls.Restraints.{entries_of_table}
@@ -31,13 +31,13 @@ use Rattle.pv_model.specs.Trace.{PromiseVerdict, for_kill, for_refusal, for_incr
 use Rattle.pv_model.specs.Unveil.{permissions_at}
 use Rattle.pv_model.specs.Walks.{Walk, walks_of, walk_number}
 
--- ---- why a promise refused
+-- ---- decisions by promises
 
--- a need in words: its promise, or those of which one would do
+-- a need: its promise, or its alternatives
 abbrev pub need_text : Need → Bytes
 need_text need = join_by promise_name (codes "|") need
 
--- what a call needs and what is held
+-- the needs of a call, and the promises that the process has
 abbrev pub lack_text : Call → Option Promises → Bytes
 lack_text call held = call_name call ++ codes " needs " ++ keyword_list (map need_text (needs call)) ++ codes ", has " ++ pledged_text held
 
@@ -48,7 +48,7 @@ asked_set (Some text) = read_promises text
 abbrev pub increase_text : Bytes → Option Promises → Option Promises → Bytes
 increase_text what asked held = what ++ codes " asked " ++ pledged_text asked ++ codes ", has " ++ pledged_text held
 
--- the first of two values of a pledge that is refused
+-- the first refused argument of a pledge
 abbrev pub first_increase_text : Process → Option Promises → Option Promises → Bytes
 first_increase_text p asked exec_asked =
     if is_err (narrow_promises (is_lenient p.promises) p.promises asked) then increase_text (codes "promises") asked p.promises
@@ -63,19 +63,19 @@ promise_reason p call for_kill = lack_text call p.promises
 promise_reason p call for_refusal = lack_text call p.promises
 promise_reason p call for_increase = pledge_text p call
 
--- ---- why a table refused
+-- ---- decisions by tables
 
--- the permissions of the second that the first has not
+-- the permissions of the second set that the first lacks
 abbrev pub permissions_lacked : Perms → Perms → Perms
 permissions_lacked has asked =
     record { r = asked.r && not has.r; w = asked.w && not has.w; x = asked.x && not has.x; c = asked.c && not has.c }
 
 module _ (s : State) (p : Process) (source : ℕ → Bytes) where
-  -- the permissions of an entry, and where it was set
+  -- the permissions of an entry
   abbrev pub entry_has : ℕ → Bytes
   entry_has k = codes "entry " ++ decimal k ++ codes " has " ++ permissions_in_places (permissions_at (entries_of_table p.table) k)
 
-  -- an unveil would widen an entry
+  -- the reason to refuse an unveil that would widen an entry
   abbrev pub widening_text : ℕ → Perms → Bytes
   widening_text k asked = entry_has k ++ codes ", asked " ++ permissions_in_places asked ++ source k
 
@@ -103,7 +103,7 @@ module _ (s : State) (p : Process) (source : ℕ → Bytes) where
   place_walked None = None
   place_walked (Some w) = place_found (end_of s p w)
 
-  -- how the judgement of a call's last walk came about
+  -- the levels of the decision about a call's last walk
   abbrev pub walk_reasons : Call → ℕ → List Bytes
   walk_reasons call walks = judgement_texts (asked_permissions call walks) (place_walked (walk_number (walks_of call) walks))
 
@@ -112,7 +112,7 @@ module _ (s : State) (p : Process) (source : ℕ → Bytes) where
   unveil_reasons (Unveil path permissions) walks (entry_lacks k asked) = widening_text k asked ∷ []
   unveil_reasons call walks _ = walk_reasons call walks
 
--- ---- what bytes are
+-- ---- the meaning of bytes
 
 abbrev pub sort_words : ℕ → Bytes
 sort_words sort =
@@ -135,7 +135,7 @@ abbrev pub node_of_file : State → Option (ℕ × OpenFile) → Bytes
 node_of_file s None = []
 node_of_file s (Some (k, file)) = codes ", " ++ node_words s.tree file.node
 
--- what the bytes of a call are, in the state after it
+-- the meaning of the bytes that a call transferred, in the state after it
 abbrev pub moved_text : State → Process → Call → Bytes → Bytes
 moved_text after p Wait bytes = ended_words (number_of bytes)
 moved_text after p (Stat path) bytes = status_words bytes
@@ -148,11 +148,11 @@ moved_text after p call bytes = quote bytes
 -- ---- the lines of a step
 
 module _ (s : State) (pid : ℕ) (p : Process) (source : ℕ → Bytes) (call : Call) (a : Answered) where
-  -- what is said after a line of a trace
+  -- the explanations after a line of a trace
   abbrev pub remarks : Word → List AnswerLine
   remarks (pldg_word by promise verdict) = answer_line pid (codes "WHY") (promise_reason p call verdict) ∷ []
   remarks (unvl_word verdict) = map (answer_line pid (codes "WHY")) (unveil_reasons s p source call a.walks verdict)
-  remarks (gio_word way (b ∷ bs)) = answer_line pid (codes "TEXT") (moved_text a.after p call (b ∷ bs)) ∷ []
+  remarks (gio_word direction (b ∷ bs)) = answer_line pid (codes "TEXT") (moved_text a.after p call (b ∷ bs)) ∷ []
   remarks _ = []
 
   abbrev pub with_remarks : Line → List AnswerLine
@@ -171,7 +171,7 @@ module _ (program_of : Bytes → Option Program) where
     explained_of None = map of_trace (gone_lines pid)
     explained_of (Some p) = explained_next p (next p)
 
-    -- the lines of a step with what is said of them; `source` tells where an entry was set
+    -- the lines of a step with their explanations; `source` gives the place where an entry was set
     unfoldable pub explained_step : List AnswerLine
     explained_step = explained_of (process_at s pid)
 
@@ -185,17 +185,17 @@ module _ (program_of : Bytes → Option Program) where
   setting_text None = []
   setting_text (Some setting) = codes ", set at line " ++ decimal setting.line ++ earlier_text setting.earlier
 
-  -- where an entry of a process was set
+  -- the place where an entry of a process was set
   abbrev pub set_text : List Setting → ℕ → Bytes
   set_text mine k = setting_text (slice_get mine k)
 
-  abbrev pub standing_at : Option Process → Bytes
-  standing_at None = []
-  standing_at (Some p) = codes ", line " ++ decimal p.line
+  abbrev pub location_at : Option Process → Bytes
+  location_at None = []
+  location_at (Some p) = codes ", line " ++ decimal p.line
 
-  -- the number of a step, and the line at which its process stands
+  -- the number of a step, and the line that its process is at
   abbrev pub step_line : ℕ → State → ℕ → AnswerLine
-  step_line k s pid = answer_line pid (codes "STEP") (decimal k ++ standing_at (process_at s pid))
+  step_line k s pid = answer_line pid (codes "STEP") (decimal k ++ location_at (process_at s pid))
 
   abbrev pub settings_by : State → ℕ → Settings → Process → Next → Settings
   settings_by s pid all p (inside q) = all
@@ -205,18 +205,18 @@ module _ (program_of : Bytes → Option Program) where
   settings_of_step s pid all None = all
   settings_of_step s pid all (Some p) = settings_by s pid all p (next p)
 
-  -- where entries were set, after a step
+  -- the settings after a step
   abbrev pub settings_next : State → ℕ → Settings → Settings
   settings_next s pid all = settings_of_step s pid all (process_at s pid)
 
-  -- the steps from number k on, and then who is where
+  -- the steps from number k on, followed by the position of each process
   abbrev pub explain_from : ℕ → Settings → List ℕ → State → List AnswerLine
-  explain_from k all [] s = standings s
+  explain_from k all [] s = locations s
   explain_from k all (pid ∷ pids) s =
       step_line k s pid
       ∷ explained_step (set_text (settings_of all pid)) s pid
       ++ explain_from (k + 1) (settings_next s pid all) pids (step program_of s pid).after
 
-  -- a run explained
+  -- the lines of a run with their explanations
   unfoldable pub explain_lines : List ℕ → State → List AnswerLine
   explain_lines pids s = explain_from 1 [] pids s

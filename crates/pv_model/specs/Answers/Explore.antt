@@ -1,4 +1,4 @@
--- What can happen under any schedule: the states that steps reach, in breadth first order, and what their steps tell: the text of `explore`.
+-- The text of `explore`: the states that any schedule can reach, in breadth-first order, and the texts of their steps.
 use Rattle.std.specs.Prelude.{ℕ, zero, suc, Bool, true, false, ◌||◌, if◌then◌else◌, ◌==◌, nat_le, List, [], ◌∷◌, ◌++◌, length, map, flat_map, filter, fold, codes, bytes_eq, slice_get, Option, None, Some}
 use Rattle.std.specs.Fmt.{decimal}
 use Rattle.std.specs.List.{join_by, list_any, list_all}
@@ -11,36 +11,35 @@ use Rattle.pv_model.specs.Step.{Schedule, Stepped, step}
 use Rattle.pv_model.specs.Trace.{trace_bytes}
 use Rattle.pv_model.specs.Tree.{Tree}
 
--- ---- what is found
+-- ---- the states
 
--- a state that is found, and the way there: the process numbers of the steps that lead to it
+-- a visited state with its witness: the process numbers of the steps that lead to it
 pub record Found : Type 0 where
-  pub way : List ℕ
+  pub witness : List ℕ
   pub state : State
 
--- a step of a live process in a state that is found: the way up to and with it, whose it is, and what it does
+-- a step of a live process from a visited state: its witness, which includes the step, the process and the result
 pub record Move : Type 0 where
-  pub way : List ℕ
+  pub witness : List ℕ
   pub pid : ℕ
   pub stepped : Stepped
 
 abbrev pub is_found : State → List Found → Bool
 is_found s found = list_any (λ f. same_state f.state s) found
 
--- the state that a step leads to
 abbrev pub found_by : Move → Found
-found_by m = record { way = m.way; state = m.stepped.after }
+found_by m = record { witness = m.witness; state = m.stepped.after }
 
 module _ (program_of : Bytes → Option Program) where
   abbrev pub move : Found → ℕ → Move
-  move f pid = record { way = f.way ++ pid ∷ []; pid = pid; stepped = step program_of f.state pid }
+  move f pid = record { witness = f.witness ++ pid ∷ []; pid = pid; stepped = step program_of f.state pid }
 
-  -- the steps in a state: one of each live process, by ascending number
+  -- the steps from a state: one for each live process, by ascending number
   abbrev pub moves_of : Found → List Move
   moves_of f = map (λ p. move f p.0) (live_processes f.state.processes)
 
   module _ (limit : ℕ) where
-    -- a step leads to the next state found, where that was not found before and is not one too many
+    -- the visited states after a step, which adds its next state if that is new and the limit is not reached
     abbrev pub with_move : List Found → Move → List Found
     with_move found m = if is_found m.stepped.after found || nat_le limit (length found) then found else found ++ found_by m ∷ []
 
@@ -48,45 +47,44 @@ module _ (program_of : Bytes → Option Program) where
     found_after rest found None = found
     found_after rest found (Some f) = rest (fold with_move found (moves_of f))
 
-    -- what is found once the steps are made in so many more of the states found, number k being the next
+    -- the visited states after the steps from `states` more of them, beginning with number k
     abbrev pub found_from : ℕ → ℕ → List Found → List Found
     found_from zero k found = found
     found_from (suc states) k found = found_after (found_from states (suc k)) found (slice_get found k)
 
-    -- the states that steps reach from one, each once, in breadth first order: at most so many
+    -- the states that steps reach from a state, each once, in breadth-first order, up to the limit
     unfoldable pub states_found : State → List Found
-    states_found s = found_from limit 0 (record { way = []; state = s } ∷ [])
+    states_found s = found_from limit 0 (record { witness = []; state = s } ∷ [])
 
-    -- the steps of all of them, in the order of the search
+    -- the steps from all visited states, in the order of the search
     abbrev pub moves : State → List Move
     moves s = flat_map moves_of (states_found s)
 
-    -- no state was left out
+    -- whether every step leads to a visited state
     abbrev pub is_complete : State → Bool
     is_complete s = list_all (λ m. is_found m.stepped.after (states_found s)) (moves s)
 
--- ---- what is told
+-- ---- the reported steps
 
 module _ {X : Type 0} (key : X → Numbers) where
-  -- those that are like none before them, nor like what was had
+  -- the elements whose key equals neither an earlier element's key nor one of the given keys
   abbrev pub new_ones : List Numbers → List X → List X
   new_ones had [] = []
   new_ones had (x ∷ xs) = if list_any (bytes_eq (key x)) had then new_ones had xs else x ∷ new_ones (key x ∷ had) xs
 
--- the text of a step
 abbrev pub move_text : Move → Bytes
 move_text m = trace_bytes m.stepped.lines
 
--- the steps with a text that no step before them has
-abbrev pub told_moves : List Move → List Move
-told_moves ms = new_ones move_text ([] ∷ []) ms
+-- the steps whose text no earlier step has
+abbrev pub reported_moves : List Move → List Move
+reported_moves ms = new_ones move_text ([] ∷ []) ms
 
 -- one more step before turns
 abbrev pub onto_turns : ℕ → Schedule → Schedule
 onto_turns pid [] = (pid, 1) ∷ []
 onto_turns pid ((other, count) ∷ turns) = if pid == other then (pid, suc count) ∷ turns else (pid, 1) ∷ (other, count) ∷ turns
 
--- steps as turns, those of one process together
+-- steps as turns: consecutive steps of one process are joined
 abbrev pub in_turns : List ℕ → Schedule
 in_turns [] = []
 in_turns (pid ∷ pids) = onto_turns pid (in_turns pids)
@@ -94,19 +92,19 @@ in_turns (pid ∷ pids) = onto_turns pid (in_turns pids)
 abbrev pub turn_text : ℕ × ℕ → Bytes
 turn_text (pid, count) = decimal pid ++ codes " " ++ decimal count
 
-abbrev pub way_text : List ℕ → Bytes
-way_text way = join_by turn_text (codes ", ") (in_turns way)
+abbrev pub witness_text : List ℕ → Bytes
+witness_text witness = join_by turn_text (codes ", ") (in_turns witness)
 
--- a step with the way there
+-- a step with its witness
 abbrev pub move_lines : Move → List AnswerLine
-move_lines m = answer_line m.pid (codes "BY") (way_text m.way) ∷ map of_trace m.stepped.lines
+move_lines m = answer_line m.pid (codes "BY") (witness_text m.witness) ∷ map of_trace m.stepped.lines
 
--- ---- how it ends
+-- ---- the endings
 
 abbrev pub has_ended : State → Bool
 has_ended s = is_empty (live_processes s.processes)
 
--- the different trees in which it ends
+-- the distinct trees of the visited states without live processes
 abbrev pub endings : List Found → List Tree
 endings found = new_ones tree_numbers [] (map (λ f. named_tree f.state.tree) (filter (λ f. has_ended f.state) found))
 
@@ -121,12 +119,11 @@ abbrev pub endings_line : ℕ → AnswerLine
 endings_line count = answer_line 0 (codes "DONE") (decimal count ++ codes " endings")
 
 module _ (program_of : Bytes → Option Program) (limit : ℕ) where
-  -- how many states there are, and whether that is all
+  -- the number of visited states, and whether the search is complete
   abbrev pub done_line : State → AnswerLine
   done_line s = states_line (length (states_found program_of limit s)) (is_complete program_of limit s)
 
-  -- what can happen from a state on
   unfoldable pub explore_lines : State → List AnswerLine
   explore_lines s =
-      flat_map move_lines (told_moves (moves program_of limit s))
+      flat_map move_lines (reported_moves (moves program_of limit s))
       ++ done_line s ∷ endings_line (length (endings (states_found program_of limit s))) ∷ []

@@ -1,4 +1,4 @@
--- The states that steps reach, and how they hang together: the text of `graph`.
+-- The text of `graph`: the state graph.
 use Rattle.std.specs.Prelude.{ℕ, Bool, true, false, List, [], ◌∷◌, ◌++◌, map, flat_map, codes, Option, None, Some, position}
 use Rattle.std.specs.Fmt.{decimal}
 use Rattle.pv_model.specs.Answers.Explain.{explained_step}
@@ -13,16 +13,15 @@ use Rattle.pv_model.specs.Listing.{listing}
 use Rattle.pv_model.specs.State.{Program, State}
 use Rattle.pv_model.specs.Tree.{Tree}
 
--- the lines of a tree's listing
 abbrev pub listing_lines : Tree → List AnswerLine
 listing_lines t = map (answer_line 0 (codes "LS")) (lines_of (listing t))
 
--- the tree of a state, and what its processes reach in it, where that is asked
+-- the tree of a state and the permissions of its processes, if requested
 abbrev pub tree_lines : Bool → State → List AnswerLine
 tree_lines false s = []
 tree_lines true s = listing_lines s.tree ++ reach_lines s
 
--- the number of a state among those found
+-- the number of a state among the visited states
 abbrev pub number_found : State → List Found → Option ℕ
 number_found s found = position (λ f. same_state f.state s) found
 
@@ -30,16 +29,16 @@ abbrev pub leads_to_text : Option ℕ → Bytes
 leads_to_text None = codes "left out"
 leads_to_text (Some k) = codes "to " ++ decimal k
 
--- a state does not tell where an entry was set
-abbrev pub untold : ℕ → Bytes
-untold k = []
+-- a state does not record where an entry was set
+abbrev pub unreported : ℕ → Bytes
+unreported k = []
 
 module _ (program_of : Bytes → Option Program) where
-  -- a step: where it leads, and its lines explained
+  -- a step: the number of its next state, and its lines explained
   abbrev pub step_lines : List Found → Found → Move → List AnswerLine
   step_lines found f m =
       answer_line m.pid (codes "STEP") (leads_to_text (number_found m.stepped.after found))
-      ∷ explained_step program_of untold f.state m.pid
+      ∷ explained_step program_of unreported f.state m.pid
 
   -- a state with its steps
   abbrev pub vertex_lines : Bool → List Found → ℕ × Found → List AnswerLine
@@ -47,7 +46,7 @@ module _ (program_of : Bytes → Option Program) where
       answer_line 0 (codes "AT") (decimal k) ∷ state_lines f.state ++ tree_lines trees f.state
       ++ flat_map (step_lines found f) (moves_of program_of f)
 
-  -- the states that steps reach from one, at most so many, each with its steps
+  -- the states that steps reach from a state, up to the limit, each with its steps
   unfoldable pub graph_lines : ℕ → Bool → State → List AnswerLine
   graph_lines limit trees s =
       let found = states_found program_of limit s in

@@ -1,4 +1,4 @@
--- How a judgement comes about: the levels from a place upwards, to the entry that governs it.
+-- The levels of a decision: the targets from a place upwards, to the entry that governs it.
 use Rattle.std.specs.Prelude.{ℕ, zero, suc, if◌then◌else◌, List, [], ◌∷◌, length, flat_map, Option, None, Some}
 use Rattle.pv_model.specs.declared.place.Place.{Place}
 use Rattle.pv_model.specs.declared.place.Place.TheVariants.{At, Node as Unnamed}
@@ -8,7 +8,7 @@ use Rattle.pv_model.specs.Bytes.{Bytes}
 use Rattle.pv_model.specs.Tree.{Tree, is_directory_at, above_or_none}
 use Rattle.pv_model.specs.Unveil.{Table, entry_for}
 
--- a level: for what an entry is looked for, and the one that is found
+-- a level: the target whose entry is looked up, and that entry, if there is one
 pub record Level : Type 0 where
   pub target : Target
   pub entry : Option ℕ
@@ -21,23 +21,22 @@ module _ (t : Tree) (table : Table) where
   unless_found None rest = rest
   unless_found (Some k) rest = []
 
-  -- a level, and those above it where it has no entry
+  -- a level, followed by the levels above it if it has no entry
   abbrev pub and_above : Target → List Level → List Level
   and_above target rest = level target ∷ unless_found (entry_for table target) rest
 
-  -- a directory and those above it, in so many steps
+  -- a directory and its ancestors, at most `steps` levels
   abbrev pub levels_within : ℕ → ℕ → List Level
   levels_within zero d = []
   levels_within (suc steps) d = and_above (Directory d) (flat_map (levels_within steps) (above_or_none t d))
 
-  -- a directory and those above it, up to one with an entry, the root or a removed one
+  -- a directory and its ancestors, up to the first with an entry, the root or a removed directory
   abbrev pub directory_levels : ℕ → List Level
   directory_levels d = levels_within (suc (length t.nodes)) d
 
   abbrev pub name_levels : ℕ → Bytes → List Level
   name_levels d name = and_above (Name d name) (directory_levels d)
 
-  -- the levels of a place
   unfoldable pub levels : Place → List Level
   levels (Unnamed n) = directory_levels n
   levels (At d name None) = name_levels d name

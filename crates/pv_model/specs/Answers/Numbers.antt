@@ -1,4 +1,4 @@
--- A state as a list of numbers: all that it is, so that states are told apart by it.
+-- The canonical encoding of a state as a list of numbers, by which a search compares states.
 use Rattle.std.specs.Prelude.{ℕ, ℤ, pos, negsuc, Bool, true, false, List, [], ◌∷◌, ◌++◌, length, flat_map, bytes_eq, Option, None, Some}
 use Rattle.pv_model.specs.declared.call.Whence.{Whence}
 use Rattle.pv_model.specs.declared.call.Whence.TheVariants.{Set as FromStart, Current as FromHere, End as FromEnd}
@@ -23,7 +23,7 @@ use Rattle.pv_model.specs.Tree.{Node, directory_node, file_node, link_node, Tree
 abbrev pub Numbers : Type 0
 Numbers = List ℕ
 
--- ---- what everything is made of
+-- ---- common types
 
 abbrev pub bool_numbers : Bool → Numbers
 bool_numbers false = 0 ∷ []
@@ -32,7 +32,7 @@ bool_numbers true = 1 ∷ []
 abbrev pub number_numbers : ℕ → Numbers
 number_numbers n = n ∷ []
 
--- its sign first
+-- the sign, then the magnitude
 abbrev pub integer_numbers : ℤ → Numbers
 integer_numbers (pos n) = 0 ∷ n ∷ []
 integer_numbers (negsuc n) = 1 ∷ n ∷ []
@@ -41,7 +41,7 @@ abbrev pub option_numbers : {X : Type 0} → (X → Numbers) → Option X → Nu
 option_numbers numbers None = 0 ∷ []
 option_numbers numbers (Some x) = 1 ∷ numbers x
 
--- the length first
+-- the length, then the elements
 abbrev pub list_numbers : {X : Type 0} → (X → Numbers) → List X → Numbers
 list_numbers numbers xs = length xs ∷ flat_map numbers xs
 
@@ -76,7 +76,7 @@ origin_numbers (AtDescriptor d) = 1 ∷ operand_numbers d
 abbrev pub text_numbers : Option Bytes → Numbers
 text_numbers text = option_numbers bytes_numbers text
 
--- which instruction it is, and its arguments
+-- the number of the instruction, then its arguments
 unfoldable pub instruction_numbers : Instruction → Numbers
 instruction_numbers (Set r n) = 0 ∷ number_numbers r ++ integer_numbers n
 instruction_numbers (Add r n) = 1 ∷ number_numbers r ++ integer_numbers n
@@ -165,14 +165,12 @@ abbrev pub file_numbers : OpenFile → Numbers
 file_numbers f =
     number_numbers f.node ++ mode_numbers f.mode ++ bool_numbers f.append ++ number_numbers f.offset ++ option_numbers bytes_numbers f.listed
 
--- ---- the whole
+-- ---- states
 
--- all that a state is
 unfoldable pub state_numbers : State → Numbers
 state_numbers s =
     number_numbers s.last_process ++ list_numbers record_numbers s.processes ++ list_numbers (option_numbers file_numbers) s.files
     ++ tree_numbers s.tree
 
--- whether two states are the same
 abbrev pub same_state : State → State → Bool
 same_state s other = bytes_eq (state_numbers s) (state_numbers other)

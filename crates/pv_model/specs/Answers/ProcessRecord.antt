@@ -1,4 +1,4 @@
--- What each process is and has in a state: the text of `state`.
+-- The text of `state`: the processes of a state.
 use Rattle.std.specs.Prelude.{ℕ, Bool, true, false, ◌==◌, if◌then◌else◌, List, [], ◌∷◌, ◌++◌, length, map, flat_map, filter_map, codes, Option, None, Some, option_map}
 use Rattle.std.specs.Fmt.{decimal, signed_decimal}
 use Rattle.pv_model.specs.declared.perms.Perms.{Perms}
@@ -13,7 +13,7 @@ use Rattle.pv_model.specs.State.{OpenFile, Descriptor, Process, ProcessRecord, l
 use Rattle.pv_model.specs.Trace.{quote, hex, mode_text, flag_text, call_line}
 use Rattle.pv_model.specs.Unveil.{Table}
 
--- ---- what comes next
+-- ---- the next step
 
 abbrev pub next_text : Next → Bytes
 next_text (inside q) = codes "registers"
@@ -25,10 +25,10 @@ live_text p = codes "live, parent " ++ decimal p.parent ++ codes ", line " ++ de
 abbrev pub ended_text : ℕ → ℕ → Bytes
 ended_text parent status = codes "ended, parent " ++ decimal parent ++ codes ", status " ++ decimal status
 
--- who a process is, and at what
-abbrev pub standing_lines : ℕ → ProcessRecord → List AnswerLine
-standing_lines pid (ended_record parent status) = answer_line pid (codes "PROC") (ended_text parent status) ∷ []
-standing_lines pid (live p) = answer_line pid (codes "PROC") (live_text p) ∷ answer_line pid (codes "NEXT") (next_text (next p)) ∷ []
+-- the lines PROC and NEXT of a process: its status and its next step
+abbrev pub location_lines : ℕ → ProcessRecord → List AnswerLine
+location_lines pid (ended_record parent status) = answer_line pid (codes "PROC") (ended_text parent status) ∷ []
+location_lines pid (live p) = answer_line pid (codes "PROC") (live_text p) ∷ answer_line pid (codes "NEXT") (next_text (next p)) ∷ []
 
 -- ---- the table
 
@@ -40,7 +40,7 @@ table_text (Some table) true = codes "in force, locked"
 
 -- ---- descriptors
 
--- an open descriptor: its number, itself and its open file
+-- an open descriptor: its number, the descriptor and its open file
 pub record OpenDescriptor : Type 0 where
   pub number : ℕ
   pub descriptor : Descriptor
@@ -50,7 +50,7 @@ abbrev pub open_descriptor : State → ℕ × Descriptor → Option OpenDescript
 open_descriptor s (d, descriptor) =
     option_map (λ file. record { number = d; descriptor = descriptor; file = file }) (at_number s.files descriptor.file)
 
--- the descriptors of a process, by their numbers
+-- the open descriptors of a process, by number
 abbrev pub open_descriptors : State → Process → List OpenDescriptor
 open_descriptors s p = filter_map (open_descriptor s) (numbered p.descriptors)
 
@@ -64,7 +64,7 @@ abbrev pub without_zero : ℕ → Bytes → Bytes
 without_zero b [] = if b == 0 then [] else b ∷ []
 without_zero b (c ∷ cs) = b ∷ c ∷ cs
 
--- the bytes up to the last one that is not 0
+-- the bytes up to the last nonzero byte
 abbrev pub buffer_front : Bytes → Bytes
 buffer_front [] = []
 buffer_front (b ∷ bs) = without_zero b (buffer_front bs)
@@ -85,7 +85,7 @@ module _ (s : State) where
       ++ flag_text d.file.append (codes "append") ++ flag_text d.descriptor.close_on_exec (codes "cloexec")
       ++ codes ", offset " ++ decimal d.file.offset ++ codes ", " ++ node_words s.tree d.file.node ++ listed_text d.file.listed
 
-  -- what a live process has
+  -- the sandbox, descriptors, registers and buffer of a live process
   abbrev pub holding_lines : ℕ → Process → List AnswerLine
   holding_lines pid p =
       answer_line pid (codes "CWD") (node_words s.tree p.directory)
@@ -102,10 +102,10 @@ module _ (s : State) where
   held_lines pid (ended_record parent status) = []
   held_lines pid (live p) = holding_lines pid p
 
-  -- what each process is and has
+  -- all lines of each process
   unfoldable pub state_lines : List AnswerLine
-  state_lines = flat_map (λ r. standing_lines r.0 r.1 ++ held_lines r.0 r.1) s.processes
+  state_lines = flat_map (λ r. location_lines r.0 r.1 ++ held_lines r.0 r.1) s.processes
 
-  -- who each process is, and at what
-  unfoldable pub standings : List AnswerLine
-  standings = flat_map (λ r. standing_lines r.0 r.1) s.processes
+  -- the status and the next step of each process
+  unfoldable pub locations : List AnswerLine
+  locations = flat_map (λ r. location_lines r.0 r.1) s.processes

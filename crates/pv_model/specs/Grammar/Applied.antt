@@ -1,4 +1,4 @@
--- The tree of a manifest as a relation: what an entry makes of a tree, and why it may be refused.
+-- The tree of a manifest as a relation: the effect of an entry on a tree, and the reasons to reject an entry.
 use Rattle.std.specs.Prelude.{◌≡◌, ℕ, IsTrue, IsFalse, List, [], ◌∷◌, ◌++◌, None, Some}
 use Rattle.pv_model.specs.declared.fault.ManifestFault.{ManifestFault}
 use Rattle.pv_model.specs.declared.fault.ManifestFault.TheVariants.{Parent, Exists, Source, Room}
@@ -9,7 +9,7 @@ use Rattle.pv_model.specs.Room.{is_too_long, fits}
 use Rattle.pv_model.specs.Tree.{Tree, root, is_directory_at, find_entry, with_entry, with_new_node}
 use Rattle.pv_model.specs.Walk.{components}
 
--- names lead down from a directory, all but the last from a directory to one in it: to the last name, and the directory that is to contain it
+-- names lead down through directories to the last name and the directory that is to contain it
 pub data LeadsTo (t : Tree) : ℕ → List Bytes → ℕ → Bytes → Type 0 where
   at_last_name : (d : ℕ) (name : Bytes) → LeadsTo t d (name ∷ []) d name
   down : (d n : ℕ) (name next : Bytes) (others : List Bytes) (container : ℕ) (last : Bytes) → find_entry t d name ≡ Some n → IsTrue (is_directory_at t n)
@@ -20,10 +20,10 @@ pub record NamesFile (t : Tree) (path : Bytes) (n : ℕ) : Type 0 where
   pub container : ℕ
   pub name : Bytes
   pub leads : LeadsTo t root (components path) container name
-  pub stands : find_entry t container name ≡ Some n
+  pub appears : find_entry t container name ≡ Some n
   pub kind : IsFalse (is_directory_at t n)
 
--- what an entry makes of a tree, where its name is new in its directory
+-- the tree after an entry whose name is new in its directory
 abbrev pub MakesAt : Tree → Entry → ℕ → Bytes → Tree → Type 0
 MakesAt t (make path node) d name after = after ≡ with_new_node t d name node
 MakesAt t (further_name path source) d name after = (n : ℕ) × NamesFile t source n × (after ≡ with_entry t d name n)
@@ -46,12 +46,12 @@ HasRoom t = IsFalse (is_too_long t) × IsTrue (fits t)
 abbrev pub Applies : Tree → Entry → Tree → Type 0
 Applies t e after = Makes t e after × HasRoom after
 
--- what a further name's second path names is no file and no link
+-- the second path of an entry `name` names neither a file nor a link
 abbrev pub LacksSource : Tree → Entry → Type 0
 LacksSource t (make path node) = ⊥
 LacksSource t (further_name path source) = (n : ℕ) → NamesFile t source n → ⊥
 
--- why the entry of a line can't be applied
+-- the reason why the entry on a line cannot be added
 abbrev pub IsRefused : Tree → ℕ → Entry → ManifestFault → Type 0
 IsRefused t line e (Parent n) = (n ≡ line) × ((d : ℕ) (name : Bytes) → LeadsTo t root (components (path_of e)) d name → ⊥)
 IsRefused t line e (Exists n) = (n ≡ line) × (d : ℕ) × (name : Bytes) × (there : ℕ) × LeadsTo t root (components (path_of e)) d name × (find_entry t d name ≡ Some there)
@@ -59,12 +59,12 @@ IsRefused t line e (Source n) = (n ≡ line) × (d : ℕ) × (name : Bytes) × I
 IsRefused t line e (Room n) = (n ≡ line) × (after : Tree) × Makes t e after × ¬ (HasRoom after)
 IsRefused t line e _ = ⊥
 
--- entries applied in order
+-- entries are added in order
 abbrev pub AppliesAll : Tree → List (ℕ × Entry) → Tree → Type 0
 AppliesAll t [] after = after ≡ t
 AppliesAll t (e ∷ es) after = (next : Tree) × Applies t e.1 next × AppliesAll next es after
 
--- the least entry that can't be applied after those before it
+-- the first entry that cannot be added after those before it
 abbrev pub IsFirstRefused : Tree → List (ℕ × Entry) → ManifestFault → Type 0
 IsFirstRefused t entries fault =
     (front : List (ℕ × Entry)) × (line : ℕ) × (e : Entry) × (rest : List (ℕ × Entry)) × (before : Tree) × (entries ≡ front ++ (line, e) ∷ rest)

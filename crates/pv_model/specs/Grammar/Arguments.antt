@@ -1,4 +1,5 @@
--- The arguments of instructions and of a manifest's lines: each is read from where it begins, and what follows it is left.
+-- The arguments of instructions and of manifest lines. A parser returns the argument at the start of the bytes and the
+-- bytes after it.
 use Rattle.std.specs.Prelude.{ℕ, suc, ◌+◌, ◌-◌, ◌*◌, ℤ, pos, negsuc, Bool, true, false, ◌&&◌, if◌then◌else◌, ◌==◌, nat_le, [], ◌∷◌, length, codes, bytes_eq, Option, None, Some, option_map, option_and_then}
 use Rattle.pv_model.specs.declared.instruction.Operand.{Operand}
 use Rattle.pv_model.specs.declared.instruction.Operand.TheVariants.{Number, Register}
@@ -14,18 +15,17 @@ use Rattle.pv_model.specs.Bytes.{Bytes, is_empty}
 use Rattle.pv_model.specs.Grammar.Lines.{word_of, after_word, after_space, decimal_of}
 use Rattle.pv_model.specs.Trace.{is_plain}
 
--- an argument and what follows it
 abbrev pub Parsed : Type 0 → Type 0
 Parsed A = Option (A × Bytes)
 
--- where a text stands that is being read: outside of an escape, or in one
+-- the position in a quoted text: outside an escape, or in one
 pub data Escape : Type 0 where
   outside : Escape
   after_backslash : Escape
   after_x : Escape
   after_digit : (high : ℕ) → Escape
 
--- the value of a lower-case hexadecimal digit
+-- the value of a lowercase hexadecimal digit
 abbrev pub hex_value : ℕ → Option ℕ
 hex_value b =
     if nat_le 48 b && nat_le b 57 then Some (b - 48)
@@ -54,14 +54,14 @@ abbrev pub second_digit : Onward → ℕ → Option ℕ → Parsed Bytes
 second_digit onward high None = None
 second_digit onward high (Some low) = if 16 * high + low == 0 then None else onto_text (16 * high + low) (onward outside)
 
--- at a byte of a text
+-- parses one byte of a quoted text
 abbrev pub text_step : ℕ → Bytes → Onward → Escape → Parsed Bytes
 text_step b bs onward outside = text_outside b bs onward
 text_step b bs onward after_backslash = if b == 120 then onward after_x else None
 text_step b bs onward after_x = first_digit onward (hex_value b)
 text_step b bs onward (after_digit high) = second_digit onward high (hex_value b)
 
--- the rest of a text, up to the quotation mark that ends it
+-- parses the rest of a quoted text, up to the closing quotation mark
 abbrev pub text_rest : Bytes → Onward
 text_rest [] escape = None
 text_rest (b ∷ bs) escape = text_step b bs (text_rest bs) escape
@@ -70,12 +70,12 @@ abbrev pub if_short : Parsed Bytes → Parsed Bytes
 if_short None = None
 if_short (Some p) = if nat_le (length p.0) TEXT then Some p else None
 
--- a text in quotation marks, of at most so many bytes
+-- a quoted text of at most 1,100 bytes
 unfoldable pub text_at : Bytes → Parsed Bytes
 text_at [] = None
 text_at (b ∷ bs) = if b == 34 then if_short (text_rest bs outside) else None
 
--- an argument that is one word
+-- an argument that is a single word
 abbrev pub with_rest : {A : Type 0} → Bytes → Option A → Parsed A
 with_rest rest None = None
 with_rest rest (Some a) = Some (a, rest)
@@ -94,11 +94,11 @@ begins_text (b ∷ bs) = b == 34
 abbrev pub null_of : Bytes → Option (Option Bytes)
 null_of word = if bytes_eq word (codes "null") then Some None else None
 
--- a text, or `null`
+-- a quoted text, or `null`
 abbrev pub text_or_null_at : Bytes → Parsed (Option Bytes)
 text_or_null_at bytes = if begins_text bytes then some_text (text_at bytes) else word_at null_of bytes
 
--- a number of 32 bits, after its sign
+-- the value of a number of 32 bits, after its sign
 abbrev pub in_range : ℕ → Option ℕ → Option ℕ
 in_range limit None = None
 in_range limit (Some n) = if nat_le n limit then Some n else None
@@ -117,7 +117,7 @@ register_digit [] = None
 register_digit (b ∷ []) = if nat_le 48 b && nat_le b 55 then Some (b - 48) else None
 register_digit (b ∷ c ∷ bs) = None
 
--- `r0` to `r7`
+-- a register, `r0` to `r7`
 abbrev pub register_of : Bytes → Option ℕ
 register_of [] = None
 register_of (b ∷ bs) = if b == 114 then register_digit bs else None
@@ -137,17 +137,17 @@ whence_of word =
     else if bytes_eq word (codes "end") then Some End
     else None
 
--- where an openat starts
+-- the origin of an openat
 abbrev pub origin_of : Bytes → Option Origin
 origin_of word = if bytes_eq word (codes "cwd") then Some WorkingDirectory else option_map Descriptor (operand_of word)
 
--- what stands after a front
+-- the bytes after a prefix, or None if the bytes do not start with it
 abbrev pub without_front : Bytes → Bytes → Option Bytes
 without_front [] bs = Some bs
 without_front (a ∷ front) [] = None
 without_front (a ∷ front) (b ∷ bs) = if a == b then without_front front bs else None
 
--- whether a flag stands there, and what follows it
+-- whether a flag is present, and the bytes after it
 abbrev pub flag_or_none : Bytes → Option Bytes → Bool × Bytes
 flag_or_none word None = (false, word)
 flag_or_none word (Some rest) = (true, rest)
@@ -155,7 +155,7 @@ flag_or_none word (Some rest) = (true, rest)
 abbrev pub flag_at : Bytes → Bytes → Bool × Bytes
 flag_at name word = flag_or_none word (without_front (43 ∷ name) word)
 
--- the mode that a word begins with, and what follows it
+-- the mode at the start of a word, and the bytes after it
 abbrev pub mode_after_r : Bytes → Parsed Mode
 mode_after_r [] = Some (Read, [])
 mode_after_r (b ∷ bs) = if b == 119 then Some (ReadWrite, bs) else Some (Read, b ∷ bs)
@@ -171,7 +171,7 @@ abbrev pub if_nothing_left : Bytes → OpenFlags → Option OpenFlags
 if_nothing_left [] flags = Some flags
 if_nothing_left (b ∷ bs) flags = None
 
--- the flags after a mode, in their order
+-- the flags after a mode, in their fixed order
 abbrev pub flags_after : Mode → Bytes → Option OpenFlags
 flags_after mode word =
     let append = flag_at (codes "append") word in
@@ -196,7 +196,6 @@ abbrev pub flags_of_mode : Parsed Mode → Option OpenFlags
 flags_of_mode None = None
 flags_of_mode (Some p) = flags_after p.0 p.1
 
--- the flags of an open
 unfoldable pub flags_of : Bytes → Option OpenFlags
 flags_of word = flags_of_mode (mode_at word)
 
@@ -218,7 +217,7 @@ origin_at bytes = word_at origin_of bytes
 abbrev pub flags_at : Bytes → Parsed OpenFlags
 flags_at bytes = word_at flags_of bytes
 
--- an argument stands after a space
+-- an argument after a space
 abbrev pub argument : {A : Type 0} → (Bytes → Parsed A) → Bytes → Parsed A
 argument at bytes = option_and_then at (after_space bytes)
 
@@ -226,7 +225,7 @@ abbrev pub if_last : {A : Type 0} → Parsed A → Option A
 if_last None = None
 if_last (Some p) = if is_empty p.1 then Some p.0 else None
 
--- the arguments of a line, of which nothing is left
+-- the arguments of a line without arguments: nothing may remain
 abbrev pub no_argument : Bytes → Option (Unit {0})
 no_argument bytes = if is_empty bytes then Some tt else None
 

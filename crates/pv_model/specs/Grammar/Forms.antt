@@ -1,4 +1,5 @@
--- The lines of programs as relations: each instruction's form, what a line spells, and what is wrong with one that spells nothing.
+-- The lines of programs as relations: the form of each instruction, the lines that encode it, and the error of a line
+-- that encodes none.
 use Rattle.std.specs.Prelude.{◌≡◌, ℕ, ◌<◌, ◌≤◌, ℤ, pos, List, [], ◌∷◌, ◌++◌, codes, Option}
 use Rattle.pv_model.specs.declared.call.Whence.{Whence}
 use Rattle.pv_model.specs.declared.fault.What.{What}
@@ -10,16 +11,15 @@ use Rattle.pv_model.specs.declared.instruction.Origin.{Origin}
 use Rattle.pv_model.specs.declared.limits.TheConstants.{BUFFER}
 use Rattle.pv_model.specs.declared.open_flags.OpenFlags.{OpenFlags}
 use Rattle.pv_model.specs.Bytes.{Bytes}
-use Rattle.pv_model.specs.Grammar.Spelling.{SpellsNumber, SpellsRegister, SpellsOperand, SpellsText, SpellsTextOrNull, SpellsFlags, SpellsWhence, SpellsOrigin}
+use Rattle.pv_model.specs.Grammar.Encoding.{EncodesNumber, EncodesRegister, EncodesOperand, EncodesText, EncodesTextOrNull, EncodesFlags, EncodesWhence, EncodesOrigin}
 
--- an argument of a line
 pub data Argument : Type 0 where
   operand : (value : Operand) → Argument
   register : (value : ℕ) → Argument
   number : (value : ℤ) → Argument
-  -- a line of the program
+  -- the number of a line of the program
   line : (value : ℕ) → Argument
-  -- a place of the buffer
+  -- an offset in the buffer
   place : (value : ℕ) → Argument
   text : (value : Bytes) → Argument
   text_or_null : (value : Option Bytes) → Argument
@@ -27,11 +27,10 @@ pub data Argument : Type 0 where
   whence : (value : Whence) → Argument
   origin : (value : Origin) → Argument
 
--- a name, and arguments
+-- the name of an instruction, and its arguments
 abbrev pub Form : Type 0
 Form = Bytes × List Argument
 
--- the form of each instruction
 abbrev pub form_of : Instruction → Form
 form_of (Set r n) = (codes "set", register r ∷ number n ∷ [])
 form_of (Add r n) = (codes "add", register r ∷ number n ∷ [])
@@ -72,42 +71,42 @@ form_of (Rename path new) = (codes "rename", text path ∷ text new ∷ [])
 form_of (Link path new) = (codes "link", text path ∷ text new ∷ [])
 form_of (Symlink value path) = (codes "symlink", text value ∷ text path ∷ [])
 
--- the spelling of an argument, in a program of so many lines
-abbrev pub Spells : ℕ → Argument → Bytes → Type 0
-Spells lines (operand value) word = SpellsOperand value word
-Spells lines (register value) word = SpellsRegister value word
-Spells lines (number value) word = SpellsNumber value word
-Spells lines (line value) word = (1 ≤ value) × (value ≤ lines) × SpellsNumber (pos value) word
-Spells lines (place value) word = (value < BUFFER) × SpellsNumber (pos value) word
-Spells lines (text value) word = SpellsText value word
-Spells lines (text_or_null value) word = SpellsTextOrNull value word
-Spells lines (flags value) word = SpellsFlags value word
-Spells lines (whence value) word = SpellsWhence value word
-Spells lines (origin value) word = SpellsOrigin value word
+-- a word encodes an argument, in a program with a number of lines
+abbrev pub Encodes : ℕ → Argument → Bytes → Type 0
+Encodes lines (operand value) word = EncodesOperand value word
+Encodes lines (register value) word = EncodesRegister value word
+Encodes lines (number value) word = EncodesNumber value word
+Encodes lines (line value) word = (1 ≤ value) × (value ≤ lines) × EncodesNumber (pos value) word
+Encodes lines (place value) word = (value < BUFFER) × EncodesNumber (pos value) word
+Encodes lines (text value) word = EncodesText value word
+Encodes lines (text_or_null value) word = EncodesTextOrNull value word
+Encodes lines (flags value) word = EncodesFlags value word
+Encodes lines (whence value) word = EncodesWhence value word
+Encodes lines (origin value) word = EncodesOrigin value word
 
--- the spelling of arguments: each stands after one space
-abbrev pub SpellsArguments : ℕ → List Argument → Bytes → Type 0
-SpellsArguments lines [] bytes = bytes ≡ []
-SpellsArguments lines (a ∷ others) bytes = (word rest : Bytes) × Spells lines a word × SpellsArguments lines others rest × (bytes ≡ 32 ∷ word ++ rest)
+-- bytes encode arguments, with one space before each
+abbrev pub EncodesArguments : ℕ → List Argument → Bytes → Type 0
+EncodesArguments lines [] bytes = bytes ≡ []
+EncodesArguments lines (a ∷ others) bytes = (word rest : Bytes) × Encodes lines a word × EncodesArguments lines others rest × (bytes ≡ 32 ∷ word ++ rest)
 
--- the spelling of a form
-abbrev pub SpellsForm : ℕ → Form → Bytes → Type 0
-SpellsForm lines form bytes = (rest : Bytes) × SpellsArguments lines form.1 rest × (bytes ≡ form.0 ++ rest)
+-- bytes encode a form
+abbrev pub EncodesForm : ℕ → Form → Bytes → Type 0
+EncodesForm lines form bytes = (rest : Bytes) × EncodesArguments lines form.1 rest × (bytes ≡ form.0 ++ rest)
 
--- a line of a program of so many lines spells an instruction
-abbrev pub SpellsLine : ℕ → Bytes → Instruction → Type 0
-SpellsLine lines bytes i = SpellsForm lines (form_of i) bytes
+-- a line encodes an instruction, in a program with a number of lines
+abbrev pub EncodesLine : ℕ → Bytes → Instruction → Type 0
+EncodesLine lines bytes i = EncodesForm lines (form_of i) bytes
 
--- what may stand after a word: nothing, or a space and more
+-- the bytes that may follow a word: none, or a space and more
 abbrev pub IsAfterWord : Bytes → Type 0
 IsAfterWord [] = Unit {0}
 IsAfterWord (b ∷ bs) = b ≡ 32
 
--- the first word of a line
+-- a line has this first word
 abbrev pub BeginsWith : Bytes → Bytes → Type 0
 BeginsWith word bytes = (rest : Bytes) × IsAfterWord rest × (bytes ≡ word ++ rest)
 
--- the form of a jump, with any number in the place of its line
+-- the form of a jump, with any number as its target
 pub data Jumping : Type 0 where
   always : Jumping
   if_zero if_not_zero if_negative : (r : ℕ) → Jumping
@@ -118,21 +117,21 @@ jump_form (if_zero r) n = (codes "jz", register r ∷ number n ∷ [])
 jump_form (if_not_zero r) n = (codes "jnz", register r ∷ number n ∷ [])
 jump_form (if_negative r) n = (codes "jneg", register r ∷ number n ∷ [])
 
--- a line that the program has
+-- a number is that of a line of the program
 abbrev pub IsLineOf : ℕ → ℤ → Type 0
 IsLineOf lines n = (k : ℕ) × (1 ≤ k) × (k ≤ lines) × (n ≡ pos k)
 
--- the first word is the name of no instruction
+-- the first word is not the name of an instruction
 abbrev pub HasNoName : Bytes → Type 0
 HasNoName bytes = (i : Instruction) → BeginsWith (form_of i).0 bytes → ⊥
 
--- a jump to a line that the program has not
+-- the line is a jump to a line that the program does not have
 abbrev pub JumpsOut : ℕ → Bytes → Type 0
-JumpsOut lines bytes = (j : Jumping) × (n : ℤ) × ¬ (IsLineOf lines n) × SpellsForm lines (jump_form j n) bytes
+JumpsOut lines bytes = (j : Jumping) × (n : ℤ) × ¬ (IsLineOf lines n) × EncodesForm lines (jump_form j n) bytes
 
--- what is wrong with a line: its word, its target, or else its arguments
-abbrev pub IsWrong : ℕ → Bytes → What → Type 0
-IsWrong lines bytes Word = HasNoName bytes
-IsWrong lines bytes Target = JumpsOut lines bytes
-IsWrong lines bytes BadArgument = ¬ (HasNoName bytes) × ¬ (JumpsOut lines bytes) × ((i : Instruction) → SpellsLine lines bytes i → ⊥)
-IsWrong lines bytes TooMany = ⊥
+-- the error of a line: in its word, its target, or else its arguments
+abbrev pub IsInvalid : ℕ → Bytes → What → Type 0
+IsInvalid lines bytes Word = HasNoName bytes
+IsInvalid lines bytes Target = JumpsOut lines bytes
+IsInvalid lines bytes BadArgument = ¬ (HasNoName bytes) × ¬ (JumpsOut lines bytes) × ((i : Instruction) → EncodesLine lines bytes i → ⊥)
+IsInvalid lines bytes TooMany = ⊥

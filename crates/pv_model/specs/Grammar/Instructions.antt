@@ -1,4 +1,4 @@
--- The instruction that a line spells.
+-- The instruction that a line parses as.
 use Rattle.std.specs.Prelude.{ℕ, ℤ, pos, negsuc, ◌&&◌, if◌then◌else◌, nat_le, nat_lt, codes, bytes_eq, Option, None, Some, option_map, Result, Ok, Err}
 use Rattle.pv_model.specs.declared.fault.What.{What}
 use Rattle.pv_model.specs.declared.fault.What.TheVariants.{Word, Argument, Target}
@@ -9,17 +9,17 @@ use Rattle.pv_model.specs.Bytes.{Bytes}
 use Rattle.pv_model.specs.Grammar.Lines.{word_of, after_word}
 use Rattle.pv_model.specs.Grammar.Arguments.{text_at, text_or_null_at, operand_at, register_at, number_at, whence_at, origin_at, flags_at, no_argument, one_argument, two_arguments, three_arguments}
 
--- what a line of arguments gives
+-- the instruction, or an error if the arguments do not parse
 abbrev pub or_argument : Option Instruction → Result Instruction What
 or_argument None = Err Argument
 or_argument (Some i) = Ok i
 
--- a place of the buffer
+-- an offset in the buffer
 abbrev pub buffer_place : ℤ → Option ℕ
 buffer_place (pos n) = if nat_lt n BUFFER then Some n else None
 buffer_place (negsuc n) = None
 
--- a line of the program, which has so many
+-- the number of a line of the program, which has `lines` lines
 abbrev pub line_within : ℕ → ℤ → Option ℕ
 line_within lines (pos n) = if nat_le 1 n && nat_le n lines then Some n else None
 line_within lines (negsuc n) = None
@@ -28,7 +28,7 @@ abbrev pub or_target : (ℕ → Instruction) → Option ℕ → Result Instructi
 or_target jump None = Err Target
 or_target jump (Some line) = Ok (jump line)
 
--- a jump, by what its arguments are
+-- a jump, or an error in its arguments or its target
 abbrev pub jump_by : ℕ → Option ℤ → Result Instruction What
 jump_by lines None = Err Argument
 jump_by lines (Some n) = or_target Jump (line_within lines n)
@@ -54,7 +54,7 @@ on_registers lines word rest other =
     else if bytes_eq word (codes "jneg") then jump_if_by lines JumpIfNegative (two_arguments register_at number_at rest)
     else other
 
--- calls on processes, promises and unveiled paths
+-- calls on processes, promises and unveil tables
 abbrev pub on_processes : Bytes → Bytes → Result Instruction What → Result Instruction What
 on_processes word rest other =
     if bytes_eq word (codes "fork") then or_argument (option_map (λ _. Fork) (no_argument rest))
@@ -67,7 +67,6 @@ on_processes word rest other =
     else if bytes_eq word (codes "execve") then or_argument (option_map Execve (one_argument text_at rest))
     else other
 
--- calls on descriptors
 abbrev pub on_descriptors : Bytes → Bytes → Result Instruction What → Result Instruction What
 on_descriptors word rest other =
     if bytes_eq word (codes "open") then or_argument (option_map (λ p. Open p.0 p.1) (two_arguments text_at flags_at rest))
@@ -84,7 +83,6 @@ on_descriptors word rest other =
     else if bytes_eq word (codes "fchdir") then or_argument (option_map Fchdir (one_argument operand_at rest))
     else other
 
--- calls on paths
 abbrev pub on_paths : Bytes → Bytes → Result Instruction What → Result Instruction What
 on_paths word rest other =
     if bytes_eq word (codes "chdir") then or_argument (option_map Chdir (one_argument text_at rest))
@@ -99,10 +97,9 @@ on_paths word rest other =
     else if bytes_eq word (codes "symlink") then or_argument (option_map (λ p. Symlink p.0 p.1) (two_arguments text_at text_at rest))
     else other
 
--- the instruction that a word and what stands after it spell, in a program of so many lines
+-- the instruction that a word and the bytes after it parse as, in a program with `lines` lines
 unfoldable pub instruction_by : ℕ → Bytes → Bytes → Result Instruction What
 instruction_by lines word rest = on_registers lines word rest (on_processes word rest (on_descriptors word rest (on_paths word rest (Err Word))))
 
--- the instruction that a line spells
 abbrev pub instruction_of : ℕ → Bytes → Result Instruction What
 instruction_of lines line = instruction_by lines (word_of line) (after_word line)

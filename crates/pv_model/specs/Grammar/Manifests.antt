@@ -1,4 +1,4 @@
--- The manifest that lines spell, alone or in a bundle, and the tree that it makes.
+-- The manifest that lines parse as, alone or in a bundle, and the tree that it makes.
 use Rattle.std.specs.Prelude.{ℕ, zero, suc, ◌+◌, ◌-◌, Bool, true, false, not, ◌&&◌, ◌||◌, if◌then◌else◌, ◌==◌, nat_le, List, [], ◌∷◌, ◌++◌, length, take, flat_map, codes, bytes_eq, Option, None, Some, is_some, Result, Ok, Err}
 use Rattle.std.specs.List.{list_all}
 use Rattle.pv_model.specs.declared.fault.ManifestFault.{ManifestFault}
@@ -13,7 +13,7 @@ use Rattle.pv_model.specs.Room.{rounded_up, is_too_long, fits}
 use Rattle.pv_model.specs.Tree.{directory_node, file_node, link_node, Tree, root, is_name, is_link_text, is_directory_at, find_entry, with_entry, with_new_node}
 use Rattle.pv_model.specs.Walk.{components, split_slashes}
 
--- a path of a manifest: a slash, and one or more names joined by single slashes
+-- whether a path has the form of a manifest's: a slash, and names joined by single slashes
 abbrev pub is_manifest_path : Bytes → Bool
 is_manifest_path [] = false
 is_manifest_path (b ∷ bs) = (b == 47) && list_all (is_name V1) (split_slashes bs)
@@ -22,7 +22,7 @@ abbrev pub if_path : Option Bytes → Option Bytes
 if_path None = None
 if_path (Some path) = if is_manifest_path path then Some path else None
 
--- an entry of a manifest, and how many of the lines after its own belong to it
+-- an entry of a manifest, and the number of following lines that belong to it
 abbrev pub Taking : Type 0
 Taking = Entry × ℕ
 
@@ -37,7 +37,7 @@ file_line (Some p) = if is_manifest_path p.0 then Some (make p.0 (file_node fals
 abbrev pub with_line_end : Bytes → Bytes
 with_line_end line = line ++ 10 ∷ []
 
--- an executable file has the next lines as its bytes, each with its end
+-- an executable file has the next lines as its bytes, each with its LF
 abbrev pub program_line : List Bytes → Option (Bytes × ℕ) → Option Taking
 program_line lines None = None
 program_line lines (Some p) =
@@ -53,7 +53,7 @@ abbrev pub name_line : Option (Bytes × Bytes) → Option Taking
 name_line None = None
 name_line (Some p) = if is_manifest_path p.0 && is_manifest_path p.1 then Some (further_name p.0 p.1, 0) else None
 
--- the entry that a word and what stands after it spell, with the lines that follow
+-- the entry that a word and the bytes after it parse as, given the following lines
 unfoldable pub entry_by : Bytes → Bytes → List Bytes → Option Taking
 entry_by word rest lines =
     if bytes_eq word (codes "dir") then directory_line (one_argument text_at rest)
@@ -63,11 +63,11 @@ entry_by word rest lines =
     else if bytes_eq word (codes "name") then name_line (two_arguments text_at text_at rest)
     else None
 
--- the entry that a line spells, with the lines that follow
+-- the entry that a line parses as, given the following lines
 abbrev pub entry_of : Bytes → List Bytes → Option Taking
 entry_of line lines = entry_by (word_of line) (after_word line) lines
 
--- the entries of a manifest, each with the number of its line, and the lines after the manifest
+-- the entries of a manifest, each with its line number, and the lines after the manifest
 pub record Listed : Type 0 where
   pub entries : List (ℕ × Entry)
   pub following : List Bytes
@@ -76,7 +76,7 @@ abbrev pub onto_listed : ℕ → Entry → Result Listed ManifestFault → Resul
 onto_listed n entry (Ok rest) = Ok (record rest { entries = (n, entry) ∷ rest.entries })
 onto_listed n entry (Err fault) = Err fault
 
--- what follows an entry: with so many lines to leave out
+-- the parse after an entry, which skips the lines that belong to it
 abbrev pub or_form : ℕ → Option Taking → (ℕ → Result Listed ManifestFault) → Result Listed ManifestFault
 or_form n None onward = Err (Form n)
 or_form n (Some p) onward = onto_listed n p.0 (onward p.1)
@@ -84,7 +84,7 @@ or_form n (Some p) onward = onto_listed n p.0 (onward p.1)
 abbrev pub is_schedule_line : Bytes → Bool
 is_schedule_line line = bytes_eq line (codes "schedule")
 
--- where a manifest ends: a bundle's at its line `schedule`, and one that stands alone at the end
+-- the end of the lines: it ends a manifest that is alone, but a bundle must have a line `schedule`
 abbrev pub at_end : Bool → ℕ → Result Listed ManifestFault
 at_end true n = Err (Form n)
 at_end false n = Ok (record { entries = []; following = [] })
@@ -95,13 +95,13 @@ module _ (in_bundle : Bool) (read : Bytes → List Bytes → Option Taking) wher
       if in_bundle && is_schedule_line line then Ok (record { entries = []; following = lines })
       else or_form n (read line lines) (onward (suc n))
 
-  -- the entries of the lines from line n on, the first so many of which belong to the entry before
+  -- the entries of the lines from line n on, where the first `skipped` lines belong to the previous entry
   abbrev pub entries_from : List Bytes → ℕ → ℕ → Result Listed ManifestFault
   entries_from [] n skipped = at_end in_bundle n
   entries_from (line ∷ lines) n (suc skipped) = entries_from lines (suc n) skipped
   entries_from (line ∷ lines) n zero = at_line line lines n (entries_from lines)
 
--- a manifest: the image's blocks and inodes, its entries, and the lines after it
+-- a manifest: the image's numbers of blocks and inodes, its entries, and the lines after it
 pub record Manifest : Type 0 where
   pub blocks : ℕ
   pub inodes : ℕ
@@ -110,15 +110,15 @@ pub record Manifest : Type 0 where
 abbrev pub sizes_by : Bytes → Bytes → Option (ℕ × ℕ)
 sizes_by word rest = if bytes_eq word (codes "image") then two_arguments (word_at decimal_of) (word_at decimal_of) rest else None
 
--- the image's blocks and inodes, as the first line tells them
+-- the image's numbers of blocks and inodes, from the first line
 abbrev pub sizes_of : Bytes → Option (ℕ × ℕ)
 sizes_of line = sizes_by (word_of line) (after_word line)
 
--- the blocks that hold so many inodes
+-- the number of blocks that contain the inodes
 abbrev pub inode_table_blocks : ℕ → ℕ
 inode_table_blocks inodes = rounded_up inodes 16
 
--- the sizes that an image may have
+-- whether an image may have these sizes
 abbrev pub are_sizes : ℕ → ℕ → Bool
 are_sizes blocks inodes =
     nat_le 1 inodes && nat_le inodes INODES && nat_le (inode_table_blocks inodes + 1) blocks && nat_le blocks BLOCKS_V1
@@ -134,22 +134,22 @@ abbrev pub after_sizes : Option (ℕ × ℕ) → Result Listed ManifestFault →
 after_sizes None entries = Err (Form 1)
 after_sizes (Some sizes) entries = with_entries sizes entries
 
--- the manifest that lines spell, as each entry is read: the form of all lines comes before the sizes
+-- the manifest that lines parse as, given a parser of entries; form errors come before size errors
 abbrev pub manifest_by : Bool → (Bytes → List Bytes → Option Taking) → List Bytes → Result Manifest ManifestFault
 manifest_by in_bundle read [] = Err (Form 1)
 manifest_by in_bundle read (line ∷ lines) = after_sizes (sizes_of line) (entries_from in_bundle read lines 2 0)
 
--- the manifest that bytes spell, or the first fault
+-- the manifest that bytes parse as, or the first error
 unfoldable pub read_manifest : Bytes → Result Manifest ManifestFault
 read_manifest bytes = manifest_by false entry_of (lines_of bytes)
 
--- the manifest of a bundle; after it stand the lines of a schedule
+-- the manifest of a bundle, which the lines of a schedule follow
 unfoldable pub read_bundle : Bytes → Result Manifest ManifestFault
 read_bundle bytes = manifest_by true entry_of (lines_of bytes)
 
 -- ---- the tree of a manifest
 
--- the directory, under a node, that is to contain the last of the names, and that name
+-- the container of a path: the directory that is to contain the last name, with that name
 abbrev pub enter_directory : Tree → (ℕ → Option (ℕ × Bytes)) → Option ℕ → Option (ℕ × Bytes)
 enter_directory t onward None = None
 enter_directory t onward (Some n) = if is_directory_at t n then onward n else None
@@ -190,7 +190,7 @@ abbrev pub entry_at : ℕ → Tree → Entry → Option (ℕ × Bytes) → Resul
 entry_at line t entry None = Err (Parent line)
 entry_at line t entry (Some p) = if is_some (find_entry t p.0 p.1) then Err (Exists line) else entry_in line t entry p.0 p.1
 
--- the tree with the entry of a line added, or why it can't be
+-- the tree with the entry of a line added, or the error
 unfoldable pub add_entry : ℕ → Tree → Entry → Result Tree ManifestFault
 add_entry line t entry = entry_at line t entry (container t (components (path_of entry)) root)
 
@@ -198,15 +198,15 @@ abbrev pub and_entries : Result Tree ManifestFault → (Tree → Result Tree Man
 and_entries (Err fault) onward = Err fault
 and_entries (Ok t) onward = onward t
 
--- the tree with entries added in order, or the first fault
+-- the tree with entries added in order, or the first error
 abbrev pub add_entries : List (ℕ × Entry) → Tree → Result Tree ManifestFault
 add_entries [] t = Ok t
 add_entries (e ∷ es) t = and_entries (add_entry e.0 t e.1) (add_entries es)
 
--- the data blocks of an image
+-- the number of data blocks of an image
 abbrev pub data_blocks : ℕ → ℕ → ℕ
 data_blocks blocks inodes = blocks - 1 - inode_table_blocks inodes
 
--- the tree that a manifest makes, or the first fault
+-- the tree that a manifest makes, or the first error
 abbrev pub tree_of : Manifest → Result Tree ManifestFault
 tree_of m = add_entries m.listed.entries (empty_tree (data_blocks m.blocks m.inodes) m.inodes)

@@ -1,4 +1,4 @@
--- What is judged of a source: the lines at fault, or the manifest or bundle that it stands for.
+-- The checks of a source: the lines with errors, or the manifest or bundle that it denotes.
 use Rattle.std.specs.Prelude.{ℕ, suc, Bool, true, false, not, ◌&&◌, ◌||◌, if◌then◌else◌, ◌==◌, nat_le, List, [], ◌∷◌, ◌++◌, length, take, codes, bytes_eq, is_none, Option, None, Some, option_map, Result, Ok, Err}
 use Rattle.pv_model.specs.declared.fault.ManifestFault.{ManifestFault}
 use Rattle.pv_model.specs.declared.fault.ManifestFault.TheVariants.{Room}
@@ -12,14 +12,14 @@ use Rattle.pv_model.specs.Grammar.Schedules.{turn_of}
 use Rattle.pv_model.specs.Grammar.Texts.{ended}
 use Rattle.pv_model.specs.Manifest.{Entry, make, empty_tree}
 use Rattle.pv_model.specs.Source.Blocks.{Block, single, program, taken, cut_off, schedule, blocks_of}
-use Rattle.pv_model.specs.Source.Programs.{program_lines, taken_lines, instructions_of, told_if, program_faults}
+use Rattle.pv_model.specs.Source.Programs.{program_lines, taken_lines, instructions_of, reported_if, program_faults}
 use Rattle.pv_model.specs.Source.Words.{NumberedWords, lines_that_count}
 use Rattle.pv_model.specs.Source.Written.{bytes_of_lines, text_of_blocks}
 use Rattle.pv_model.specs.Tree.{Tree, file_node}
 
 -- ---- the form of a block
 
--- the text that the second word is, and the path of a line `exec TEXT K` or `exec TEXT <<END`
+-- the second word as a text, and the path of a line `exec TEXT K` or `exec TEXT <<END`
 abbrev pub second_text : List Bytes → Option Bytes
 second_text [] = None
 second_text (word ∷ []) = None
@@ -42,62 +42,63 @@ entry_of_block (taken n words body) = if nat_le (length body) PROGRAM_LINES then
 entry_of_block (cut_off n) = None
 entry_of_block (schedule n words body) = None
 
--- ---- faults in the lines that belong to a block
+-- ---- errors in the lines that belong to a block
 
 abbrev pub is_init : Option Bytes → Bool
 is_init None = false
 is_init (Some path) = bytes_eq path (codes "/init")
 
--- whether the line after so many turns is none; the 65,537th is one too many
-abbrev pub wrong_turn : ℕ → List Bytes → Bool
-wrong_turn before words = (before == SCHEDULE_LINES) || is_none (turn_of (spaced words))
+-- whether the line after `before` turns is invalid; the 65,537th always is
+abbrev pub invalid_turn : ℕ → List Bytes → Bool
+invalid_turn before words = (before == SCHEDULE_LINES) || is_none (turn_of (spaced words))
 
-abbrev pub wrong_turns : ℕ → List NumberedWords → List ℕ
-wrong_turns before [] = []
-wrong_turns before (line ∷ lines) = told_if (wrong_turn before line.1) line.0 (wrong_turns (suc before) lines)
+abbrev pub invalid_turns : ℕ → List NumberedWords → List ℕ
+invalid_turns before [] = []
+invalid_turns before (line ∷ lines) = reported_if (invalid_turn before line.1) line.0 (invalid_turns (suc before) lines)
 
--- programs between <<END and END are judged, that of `/init` is, and the schedule
+-- the lines with errors in programs between <<END and END, in the program of `/init`, and in the schedule
 abbrev pub faults_in : Block → List ℕ
 faults_in (single n words) = []
 faults_in (program n words body) = program_faults (program_lines body)
 faults_in (taken n words body) = if is_init (second_text words) then program_faults (taken_lines body) else []
 faults_in (cut_off n) = []
-faults_in (schedule n words body) = wrong_turns 0 (lines_that_count body)
+faults_in (schedule n words body) = invalid_turns 0 (lines_that_count body)
 
 -- ---- the tree
 
--- the tree that the lines so far have made, as long as it is known, and whether want of room was told
-pub record Standing : Type 0 where
+-- the tree that the lines so far have made, if it is known, and whether lack of room was reported
+pub record TreeSoFar : Type 0 where
   pub tree : Option Tree
   pub lacked_room : Bool
 
--- whether a line is told, and what stands after it
+-- whether a line has an error, and the tree after it
 abbrev pub Judgement : Type 0
-Judgement = Bool × Standing
+Judgement = Bool × TreeSoFar
 
-abbrev pub unknown : Standing → Standing
+abbrev pub unknown : TreeSoFar → TreeSoFar
 unknown s = record s { tree = None }
 
--- an entry with a fault makes nothing; want of room is told once
-abbrev pub made_or_told : Standing → Result Tree ManifestFault → Judgement
-made_or_told s (Ok t) = (false, record s { tree = Some t })
-made_or_told s (Err (Room n)) = (not s.lacked_room, record s { lacked_room = true })
-made_or_told s (Err fault) = (true, s)
+-- an entry with an error leaves the tree unchanged; lack of room is reported once
+abbrev pub made_or_reported : TreeSoFar → Result Tree ManifestFault → Judgement
+made_or_reported s (Ok t) = (false, record s { tree = Some t })
+made_or_reported s (Err (Room n)) = (not s.lacked_room, record s { lacked_room = true })
+made_or_reported s (Err fault) = (true, s)
 
-abbrev pub with_entry_made : Standing → ℕ → Entry → Option Tree → Judgement
+abbrev pub with_entry_made : TreeSoFar → ℕ → Entry → Option Tree → Judgement
 with_entry_made s n entry None = (false, s)
-with_entry_made s n entry (Some t) = made_or_told s (add_entry n t entry)
+with_entry_made s n entry (Some t) = made_or_reported s (add_entry n t entry)
 
-abbrev pub or_told : Bool → Judgement → Judgement
-or_told told judgement = (told || judgement.0, judgement.1)
+abbrev pub or_reported : Bool → Judgement → Judgement
+or_reported reported judgement = (reported || judgement.0, judgement.1)
 
--- a line that has no form is told, and the tree is not known from there on; a `/init` that is no `exec` is told and made
-abbrev pub with_entry_of : Standing → ℕ → Bool → Option Entry → Judgement
+-- a line without a valid form is an error, after which the tree is unknown; a `/init` that is not an `exec` entry is an
+-- error, but is made
+abbrev pub with_entry_of : TreeSoFar → ℕ → Bool → Option Entry → Judgement
 with_entry_of s n is_exec None = (true, unknown s)
 with_entry_of s n is_exec (Some entry) =
-    or_told (not is_exec && is_init (Some (path_of entry))) (with_entry_made s n entry s.tree)
+    or_reported (not is_exec && is_init (Some (path_of entry))) (with_entry_made s n entry s.tree)
 
--- ---- the blocks in order
+-- ---- all blocks, in order
 
 abbrev pub number_of : Block → ℕ
 number_of (single n words) = n
@@ -111,45 +112,45 @@ is_exec_block (program n words body) = true
 is_exec_block (taken n words body) = true
 is_exec_block _ = false
 
--- a block after the first: the line `schedule` has that word alone
-abbrev pub judged_block : Standing → Block → Judgement
+-- the check of a block after the first: the line `schedule` has no other word
+abbrev pub judged_block : TreeSoFar → Block → Judgement
 judged_block s (schedule n words body) = (not (length words == 1), s)
 judged_block s block = with_entry_of s (number_of block) (is_exec_block block) (entry_of_block block)
 
-abbrev pub image_standing : Option (ℕ × ℕ) → Judgement
-image_standing None = (true, record { tree = None; lacked_room = false })
-image_standing (Some sizes) =
+abbrev pub image_so_far : Option (ℕ × ℕ) → Judgement
+image_so_far None = (true, record { tree = None; lacked_room = false })
+image_so_far (Some sizes) =
     if are_sizes sizes.0 sizes.1 then (false, record { tree = Some (empty_tree (data_blocks sizes.0 sizes.1) sizes.1); lacked_room = false })
     else (true, record { tree = None; lacked_room = false })
 
--- the first block is the image's sizes
+-- the first block gives the image's sizes
 abbrev pub judged_first : Block → Judgement
-judged_first (single n words) = image_standing (sizes_of (spaced words))
-judged_first _ = image_standing None
+judged_first (single n words) = image_so_far (sizes_of (spaced words))
+judged_first _ = image_so_far None
 
-abbrev pub told_of : Block → Judgement → (Standing → List ℕ) → List ℕ
-told_of block judgement onward = told_if judgement.0 (number_of block) (faults_in block ++ onward judgement.1)
+abbrev pub reported_of : Block → Judgement → (TreeSoFar → List ℕ) → List ℕ
+reported_of block judgement onward = reported_if judgement.0 (number_of block) (faults_in block ++ onward judgement.1)
 
-abbrev pub faults_from : List Block → Standing → List ℕ
+abbrev pub faults_from : List Block → TreeSoFar → List ℕ
 faults_from [] s = []
-faults_from (block ∷ blocks) s = told_of block (judged_block s block) (faults_from blocks)
+faults_from (block ∷ blocks) s = reported_of block (judged_block s block) (faults_from blocks)
 
--- the lines at fault, in their order; where no line counts, the one after the last is
+-- the lines with errors, in order; if the source has no words, the line after the last is an error
 unfoldable pub faults_of_blocks : ℕ → List Block → List ℕ
 faults_of_blocks last [] = last ∷ []
-faults_of_blocks last (block ∷ blocks) = told_of block (judged_first block) (faults_from blocks)
+faults_of_blocks last (block ∷ blocks) = reported_of block (judged_first block) (faults_from blocks)
 
 -- ---- sources
 
--- how many lines at fault are told
-abbrev pub TOLD : ℕ
-TOLD = 20
+-- the maximum number of errors reported
+abbrev pub REPORTED : ℕ
+REPORTED = 20
 
 abbrev pub or_faults : List Block → List ℕ → Result Bytes (List ℕ)
 or_faults blocks [] = Ok (text_of_blocks blocks)
-or_faults blocks (n ∷ told) = Err (n ∷ told)
+or_faults blocks (n ∷ reported) = Err (n ∷ reported)
 
--- the manifest or bundle that a source stands for, or the lines at fault
+-- the manifest or bundle that a source denotes, or the lines with errors
 unfoldable pub read_source : Bytes → Result Bytes (List ℕ)
 read_source source =
-    let blocks = blocks_of source in or_faults blocks (take TOLD (faults_of_blocks (suc (length (lines_of source))) blocks))
+    let blocks = blocks_of source in or_faults blocks (take REPORTED (faults_of_blocks (suc (length (lines_of source))) blocks))

@@ -1,4 +1,4 @@
--- What a proof by computing sources on literals unfolds.
+-- The definitions to unfold in a proof by computation of sources on literals.
 use Rattle.std.specs.Prelude.{⊤}
 use Rattle.std.specs.Fmt.{digits}
 use Rattle.pv_model.specs.Grammar.Arguments.{text_at, flags_of}
@@ -11,7 +11,7 @@ use Rattle.pv_model.specs.Source.Programs.{program_lines, program_faults}
 use Rattle.pv_model.specs.Source.Words.{words_of}
 use Rattle.pv_model.specs.Source.Written.{text_of_blocks}
 
--- the definitions of sources that are folded
+-- all definitions of sources that are folded
 unfoldable pub sources_on_literals : ⊤
 unfolding machine_on_literals digits text_at flags_of instruction_by entry_by add_entry words_of blocks_of program_lines program_faults text_of_blocks entry_of_block faults_of_blocks read_source
 sources_on_literals = tt

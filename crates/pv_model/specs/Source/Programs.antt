@@ -1,4 +1,4 @@
--- Programs in a source: labels, what stands for them, and the lines that are at fault.
+-- Programs in a source: their labels, the instructions that refer to them, and the lines with errors.
 use Rattle.std.specs.Prelude.{ℕ, ◌+◌, min, Bool, true, false, ◌&&◌, ◌||◌, if◌then◌else◌, ◌==◌, List, [], ◌∷◌, ◌++◌, length, map, filter_map, codes, bytes_eq, is_err, Option, None, Some}
 use Rattle.std.specs.Fmt.{decimal}
 use Rattle.std.specs.List.{list_all, list_any}
@@ -14,7 +14,7 @@ use Rattle.pv_model.specs.Source.Words.{NumberedLine, is_letter, before_last, li
 abbrev pub is_label_byte : ℕ → Bool
 is_label_byte b = is_letter b || is_digit b || (b == 95) || (b == 45)
 
--- a letter, and then letters, digits, _ and -
+-- a letter, followed by letters, digits, _ and -
 abbrev pub is_label : Bytes → Bool
 is_label [] = false
 is_label (b ∷ bs) = is_letter b && list_all is_label_byte bs
@@ -23,11 +23,11 @@ abbrev pub if_label : Option Bytes → Option Bytes
 if_label None = None
 if_label (Some name) = if is_label name then Some name else None
 
--- the label that a word sets: NAME of `NAME:`
+-- the label that a word defines: NAME of `NAME:`
 abbrev pub label_of : Bytes → Option Bytes
 label_of word = if_label (before_last 58 word)
 
--- a line that counts: the label that it sets, and the words of its instruction, of which it may have none
+-- a line with words: the label that it defines, and the words of its instruction, if it has one
 pub record LabelledLine : Type 0 where
   pub number : ℕ
   pub label : Option Bytes
@@ -41,7 +41,7 @@ abbrev pub labelled_words : ℕ → List Bytes → LabelledLine
 labelled_words n [] = record { number = n; label = None; words = [] }
 labelled_words n (word ∷ words) = after_label n word words (label_of word)
 
--- where labels stand after the last instruction, the last of their lines gets an `exit 0`
+-- if labels follow the last instruction, the last of their lines gets an `exit 0`
 abbrev pub or_exit : List Bytes → List Bytes
 or_exit [] = codes "exit" ∷ codes "0" ∷ []
 or_exit (word ∷ words) = word ∷ words
@@ -55,7 +55,7 @@ with_exit (line ∷ next ∷ lines) = line ∷ with_exit (next ∷ lines)
 abbrev pub labelled_lines : List NumberedLine → List LabelledLine
 labelled_lines body = with_exit (map (λ line. labelled_words line.0 line.1) (lines_that_count body))
 
--- the number of the instruction after so many, where a line has one
+-- the number of instructions on a line
 abbrev pub count_words : List Bytes → ℕ
 count_words [] = 0
 count_words (word ∷ words) = 1
@@ -64,12 +64,12 @@ abbrev pub onto_labels : Option Bytes → ℕ → List (Bytes × ℕ) → List (
 onto_labels None k labels = labels
 onto_labels (Some name) k labels = (name, k) ∷ labels
 
--- the labels that lines set, each with the number of the instruction that it stands before: the first is the k-th
+-- the labels that lines define, each with the number of the next instruction; the first instruction has number k
 abbrev pub labels_from : ℕ → List LabelledLine → List (Bytes × ℕ)
 labels_from k [] = []
 labels_from k (line ∷ lines) = onto_labels line.label k (labels_from (k + count_words line.words) lines)
 
--- the number that a label stands for
+-- the number that a label denotes
 abbrev pub number_of_label : Bytes → List (Bytes × ℕ) → Option ℕ
 number_of_label name [] = None
 number_of_label name (label ∷ labels) = if bytes_eq label.0 name then Some label.1 else number_of_label name labels
@@ -89,11 +89,11 @@ or_word word None = word
 or_word word (Some number) = decimal number
 
 module _ (labels : List (Bytes × ℕ)) where
-  -- the word of a jump that says where to: a label is the number that it stands for
+  -- the target of a jump: a label is replaced by the number that it denotes
   abbrev pub target_word : Bytes → Bytes
   target_word word = if begins_with_letter word then or_word word (number_of_label word labels) else word
 
-  -- the words of an instruction, without its label
+  -- the words of an instruction with its labels replaced
   abbrev pub without_labels : List Bytes → List Bytes
   without_labels [] = []
   without_labels (word ∷ words) =
@@ -104,7 +104,7 @@ module _ (labels : List (Bytes × ℕ)) where
   instruction_text [] = None
   instruction_text (word ∷ words) = Some (spaced (without_labels (word ∷ words)))
 
--- a line of a program: the label that it sets, and its instruction as it is written
+-- a line of a program: the label that it defines, and its instruction as it is written
 pub record ProgramLine : Type 0 where
   pub number : ℕ
   pub label : Option Bytes
@@ -113,11 +113,11 @@ pub record ProgramLine : Type 0 where
 abbrev pub program_line_of : List (Bytes × ℕ) → LabelledLine → ProgramLine
 program_line_of labels line = record { number = line.number; label = line.label; instruction = instruction_text labels line.words }
 
--- the lines of a program between <<END and END
+-- the lines of a program between <<END and END, with labels replaced
 unfoldable pub program_lines : List NumberedLine → List ProgramLine
 program_lines body = let lines = labelled_lines body in map (program_line_of (labels_from 1 lines)) lines
 
--- lines that are taken as they are
+-- lines that are copied unchanged
 abbrev pub taken_lines : List NumberedLine → List ProgramLine
 taken_lines body = map (λ line. record { number = line.0; label = None; instruction = Some line.1 }) body
 
@@ -125,7 +125,7 @@ taken_lines body = map (λ line. record { number = line.0; label = None; instruc
 abbrev pub instructions_of : List ProgramLine → List Bytes
 instructions_of lines = filter_map (λ line. line.instruction) lines
 
--- ---- faults
+-- ---- errors
 
 abbrev pub is_set_in : Option Bytes → List Bytes → Bool
 is_set_in None names = false
@@ -139,22 +139,24 @@ abbrev pub count_instruction : Option Bytes → ℕ
 count_instruction None = 0
 count_instruction (Some text) = 1
 
--- whether the instruction after so many, in a program of so many, is none; the 257th is one too many
-abbrev pub is_wrong : ℕ → ℕ → Option Bytes → Bool
-is_wrong count before None = false
-is_wrong count before (Some text) = (before == LINES) || is_err (instruction_of (min count LINES) text)
+-- whether the instruction after `before` others, in a program with `count` instructions, is invalid; the 257th always
+-- is
+abbrev pub is_invalid : ℕ → ℕ → Option Bytes → Bool
+is_invalid count before None = false
+is_invalid count before (Some text) = (before == LINES) || is_err (instruction_of (min count LINES) text)
 
-abbrev pub told_if : Bool → ℕ → List ℕ → List ℕ
-told_if true n told = n ∷ told
-told_if false n told = told
+abbrev pub reported_if : Bool → ℕ → List ℕ → List ℕ
+reported_if true n reported = n ∷ reported
+reported_if false n reported = reported
 
--- the lines at fault after some with labels and instructions: a label is set a second time, or the instruction is none
-abbrev pub wrong_lines : ℕ → List Bytes → ℕ → List ProgramLine → List ℕ
-wrong_lines count names before [] = []
-wrong_lines count names before (line ∷ lines) =
-    told_if (is_set_in line.label names || is_wrong count before line.instruction) line.number
-    (wrong_lines count (and_label line.label names) (before + count_instruction line.instruction) lines)
+-- the lines with errors after lines with `names` as labels and `before` instructions: those that define a label again
+-- or have an invalid instruction
+abbrev pub invalid_lines : ℕ → List Bytes → ℕ → List ProgramLine → List ℕ
+invalid_lines count names before [] = []
+invalid_lines count names before (line ∷ lines) =
+    reported_if (is_set_in line.label names || is_invalid count before line.instruction) line.number
+    (invalid_lines count (and_label line.label names) (before + count_instruction line.instruction) lines)
 
--- the lines of a program that are at fault
+-- the lines of a program that have errors
 unfoldable pub program_faults : List ProgramLine → List ℕ
-program_faults lines = wrong_lines (length (instructions_of lines)) [] 0 lines
+program_faults lines = invalid_lines (length (instructions_of lines)) [] 0 lines

@@ -1,11 +1,11 @@
-//! What is wrong with a line of a manifest, or of a schedule.
+//! Messages for the lines of manifests and schedules.
 use super::nearest::nearest;
 use super::saying::Part::{Marked, Number, Plain};
 use super::saying::{Saying, say, say_all, say_word};
 use super::texts::{say_after_text, say_link, say_no_text, say_path};
 use super::words::wants_of;
 use crate::blocks::{Block, Kind};
-use crate::standing::Found;
+use crate::so_far::LineCheck;
 use crate::words::{mark_of, next_word};
 use pv_model::ManifestFault;
 use pv_model::limits::{BLOCKS_V1, INODES, LAST_PROCESS, PROGRAM_LINES, SCHEDULE_LINES};
@@ -13,7 +13,7 @@ use pv_text::texts::text;
 use pv_text::words::decimal;
 use std::alloc::{AllocError, Global};
 
-// The words with which lines of a manifest begin.
+// The first words of the lines of manifests.
 const WORDS: [&[u8]; 7] = [
     b"dir",
     b"bytes",
@@ -24,7 +24,7 @@ const WORDS: [&[u8]; 7] = [
     b"schedule",
 ];
 
-// What a line with this first word is to be.
+// Returns the form of a line with this first word.
 fn usage(word: &[u8]) -> &'static [u8] {
     if word == b"dir".as_slice() {
         return b"dir \"PATH\"";
@@ -41,73 +41,81 @@ fn usage(word: &[u8]) -> &'static [u8] {
     if word == b"image".as_slice() {
         return b"image BLOCKS INODES";
     }
-    b"exec \"PATH\" <<END, or exec \"PATH\" K and K lines"
+    b"exec \"PATH\" <<END, or exec \"PATH\" K followed by K lines"
 }
 
-// Says what is missing in a line with this first word.
+// Writes what is missing in a line with this first word.
 fn say_missing<'a>(out: &mut Saying, name: &'a [u8], what: &'a [u8]) -> Result<(), AllocError> {
-    let (after, form) = (Plain(b" is missing: want "), Plain(usage(name)));
-    say_all(out, &[Plain(name), Plain(b": "), Plain(what), after, form])
+    let (before, form) = (Plain(b": missing "), Plain(usage(name)));
+    say_all(
+        out,
+        &[Plain(name), before, Plain(what), Plain(b"; usage: "), form],
+    )
 }
 
-// Says that a line with this first word has a word too many.
+// Writes that a line with this first word has an extra word.
 fn say_too_many<'a>(out: &mut Saying, name: &'a [u8], word: &'a [u8]) -> Result<(), AllocError> {
-    let (after, form) = (Plain(b" is one too many: want "), Plain(usage(name)));
-    say_all(out, &[Plain(name), Plain(b": "), Marked(word), after, form])
+    let (before, form) = (Plain(b": unexpected argument "), Plain(usage(name)));
+    say_all(
+        out,
+        &[Plain(name), before, Marked(word), Plain(b"; usage: "), form],
+    )
 }
 
-/// That a source has no line that counts.
+/// Returns the message that no line of a source has a word.
 ///
-/// `Err` says that memory was refused.
+/// # Errors
+///
+/// Returns `AllocError` if memory cannot be allocated.
 pub fn no_image(alloc: Global) -> Result<Saying, AllocError> {
     let mut out = Saying::new(alloc);
     say(
         &mut out,
-        b"the first line is missing: want image BLOCKS INODES",
+        b"missing first line: expected image BLOCKS INODES",
     )?;
     Ok(out)
 }
 
-// Says what is wrong with the first line.
+// Writes the error of the first line.
 fn say_image(out: &mut Saying, words: &[u8]) -> Result<(), AllocError> {
     let Some((first, mut rest)) = next_word(words) else {
         return Ok(());
     };
     if first != b"image".as_slice() {
-        let after = b" stands first: the first line is image BLOCKS INODES";
-        return say_word(out, b"", first, after);
+        let before = b"expected image BLOCKS INODES in the first line, found ";
+        return say_word(out, before, first, b"");
     }
     for _ in 0..2 {
         let Some((word, following)) = next_word(rest) else {
-            return say_missing(out, first, b"a number");
+            return say_missing(out, first, b"number");
         };
         if decimal(word).is_none() {
-            let after = b" is no number: want digits without a sign or leading zeros";
-            return say_word(out, b"image: ", word, after);
+            let after = b": expected digits without a sign or leading zeros";
+            return say_word(out, b"image: invalid number ", word, after);
         }
         rest = following;
     }
     if let Some((word, _)) = next_word(rest) {
         return say_too_many(out, first, word);
     }
-    say(out, b": want image BLOCKS INODES")
+    say(out, b"expected image BLOCKS INODES")
 }
 
-// Says which sizes an image may have.
+// Writes which sizes an image can have.
 fn say_sizes(out: &mut Saying) -> Result<(), AllocError> {
     say_all(
         out,
         &[
-            Plain(b"no image has these sizes: want 1 to "),
+            Plain(b"image sizes out of range: expected 1 to "),
             Number(INODES as u32),
-            Plain(b" INODES, and at most "),
+            Plain(b" INODES and at most "),
             Number(BLOCKS_V1 as u32),
-            Plain(b" BLOCKS, at least one for each 16 INODES begun and one more"),
+            Plain(b" BLOCKS, with at least 1 + INODES / 16 (rounded up) BLOCKS"),
         ],
     )
 }
 
-// Says what is wrong with a word that is to be a text: whether anything is.
+// Writes the error of a word that must be a text, and returns whether there is one.
 fn say_text(out: &mut Saying, word: &[u8], is_path: bool) -> Result<bool, AllocError> {
     let Some((value, rest)) = text(word) else {
         say_no_text(out, word)?;
@@ -123,7 +131,7 @@ fn say_text(out: &mut Saying, word: &[u8], is_path: bool) -> Result<bool, AllocE
     Ok(false)
 }
 
-// Says what is wrong with a line of so many texts, of which the first is a path.
+// Writes the error of a line with `count` texts, where the first is a path.
 fn say_texts(
     out: &mut Saying,
     name: &[u8],
@@ -133,7 +141,7 @@ fn say_texts(
     let mut rest = arguments;
     for index in 0..count {
         let Some((word, following)) = next_word(rest) else {
-            return say_missing(out, name, b"a text");
+            return say_missing(out, name, b"text");
         };
         let is_path = index == 0 || name == b"name".as_slice();
         if say_text(out, word, is_path)? {
@@ -147,26 +155,26 @@ fn say_texts(
     say_link(out)
 }
 
-// Says that a word begins no line of a manifest.
+// Writes that a word does not start a line of a manifest.
 fn say_no_word(alloc: Global, out: &mut Saying, word: &[u8]) -> Result<(), AllocError> {
     if let [.., b':'] = word {
-        let after = b" is a label: want it in a program, between exec \"PATH\" <<END and END";
-        return say_word(out, b"", word, after);
+        let after = b" is outside a program; write it between exec \"PATH\" <<END and END";
+        return say_word(out, b"label ", word, after);
     }
     if wants_of(word).is_some() {
-        let after = b" stands outside of a program: want it between exec \"PATH\" <<END and END";
-        return say_word(out, b"", word, after);
+        let after = b" is outside a program; write it between exec \"PATH\" <<END and END";
+        return say_word(out, b"instruction ", word, after);
     }
-    let what = b"no line of a manifest ";
+    let what = b"unknown manifest line ";
     let Some(name) = nearest(alloc, word, &WORDS)? else {
-        let after = b": want dir, bytes, exec, link, name or schedule first";
+        let after = b": expected dir, bytes, exec, link, name or schedule";
         return say_word(out, what, word, after);
     };
-    say_word(out, what, word, b": did you mean ")?;
-    say_all(out, &[Plain(name), Plain(b"?")])
+    say_word(out, what, word, b"; did you mean ")?;
+    say_all(out, &[Marked(name), Plain(b"?")])
 }
 
-// Says what is wrong with a line by itself.
+// Writes the error of a single line.
 fn say_single(alloc: Global, out: &mut Saying, words: &[u8]) -> Result<(), AllocError> {
     let Some((word, rest)) = next_word(words) else {
         return Ok(());
@@ -178,38 +186,38 @@ fn say_single(alloc: Global, out: &mut Saying, words: &[u8]) -> Result<(), Alloc
         return say_texts(out, word, rest, 2);
     }
     if word == b"image".as_slice() {
-        return say(out, b"image stands in the first line alone");
+        return say(out, b"image is allowed only in the first line");
     }
     say_no_word(alloc, out, word)
 }
 
-// Whether a word says which lines an `exec` line takes.
+// Returns whether a word specifies the lines of an `exec` line.
 fn takes_lines(word: &[u8]) -> bool {
     mark_of(word).is_some() || decimal(word).is_some()
 }
 
-// Says that a word is none of those that say which lines an `exec` line takes.
+// Writes that a word does not specify the lines of an `exec` line.
 fn say_no_end(out: &mut Saying, word: &[u8]) -> Result<(), AllocError> {
     if let [b'<', b'<', ..] = word {
-        let after = b" is no mark: want letters alone right after <<, as <<END";
-        return say_word(out, b"exec: ", word, after);
+        let after = b": expected << followed by letters, as in <<END";
+        return say_word(out, b"exec: invalid end mark ", word, after);
     }
-    let after = b" is neither <<END nor a number of lines: want ";
+    let after = b" is neither <<END nor a number of lines; usage: ";
     say_word(out, b"exec: ", word, after)?;
     say(out, usage(b"exec"))
 }
 
-// Says what is wrong with the lines that the last word of an `exec` line takes.
+// Writes the error of the last word of an `exec` line, which specifies its lines.
 fn say_lines(out: &mut Saying, is_cut_off: bool, word: &[u8]) -> Result<(), AllocError> {
     if let Some(mark) = mark_of(word) {
-        let after = b" after it ends this program";
-        return say_word(out, b"exec: no line ", mark, after);
+        let after = b" at the end of the program";
+        return say_word(out, b"exec: missing line ", mark, after);
     }
     if is_cut_off {
-        let after = Plain(b" lines stand after it");
+        let after = Plain(b" lines follow");
         return say_all(out, &[Plain(b"exec: fewer than "), Plain(word), after]);
     }
-    let (what, most) = (Plain(b" lines: at most "), Number(PROGRAM_LINES as u32));
+    let (what, most) = (Plain(b" lines; at most "), Number(PROGRAM_LINES as u32));
     say_all(
         out,
         &[
@@ -217,27 +225,27 @@ fn say_lines(out: &mut Saying, is_cut_off: bool, word: &[u8]) -> Result<(), Allo
             Plain(word),
             what,
             most,
-            Plain(b" are taken"),
+            Plain(b" are allowed"),
         ],
     )
 }
 
-// Says what is wrong with an `exec` line.
+// Writes the error of an `exec` line.
 fn say_exec(out: &mut Saying, is_cut_off: bool, words: &[u8]) -> Result<(), AllocError> {
     let Some((_, rest)) = next_word(words) else {
         return Ok(());
     };
     let Some((path, rest)) = next_word(rest) else {
-        return say_missing(out, b"exec", b"the path");
+        return say_missing(out, b"exec", b"path");
     };
     if takes_lines(path) {
-        return say_missing(out, b"exec", b"the path");
+        return say_missing(out, b"exec", b"path");
     }
     if say_text(out, path, true)? {
         return Ok(());
     }
     let Some((word, rest)) = next_word(rest) else {
-        return say_missing(out, b"exec", b"<<END or a number of lines");
+        return say_missing(out, b"exec", b"<<END or number of lines");
     };
     if !takes_lines(word) {
         return say_no_end(out, word);
@@ -248,7 +256,7 @@ fn say_exec(out: &mut Saying, is_cut_off: bool, words: &[u8]) -> Result<(), Allo
     say_too_many(out, b"exec", more)
 }
 
-// Says why what a line makes can't be made.
+// Writes why the entry of a line cannot be created.
 fn say_tree(out: &mut Saying, words: &[u8], fault: ManifestFault) -> Result<(), AllocError> {
     let Some((_, rest)) = next_word(words) else {
         return Ok(());
@@ -258,22 +266,23 @@ fn say_tree(out: &mut Saying, words: &[u8], fault: ManifestFault) -> Result<(), 
     };
     match fault {
         ManifestFault::Parent(_) => say_parent(out, first),
-        ManifestFault::Exists(_) => say_of_path(out, b"", first, b" is made already, above"),
+        ManifestFault::Exists(_) => say_of_path(out, b"", first, b" is already created above"),
         ManifestFault::Source(_) => {
             let Some((source, _)) = next_word(rest) else {
                 return Ok(());
             };
-            let after = b" is no file or link of this image: want one that a line above makes";
+            let after =
+                b" is not a file or symbolic link in this image; a line above must create it";
             say_of_path(out, b"", source, after)
         }
         _ => {
-            let after = b": want more BLOCKS or INODES in the first line, or a shorter file";
+            let after = b"; use more BLOCKS or INODES in the first line, or a shorter file";
             say_of_path(out, b"no room in the image for ", first, after)
         }
     }
 }
 
-// Says something of the path that a text is, before it and after it.
+// Writes the path of a text between two phrases.
 fn say_of_path(
     out: &mut Saying,
     before: &[u8],
@@ -286,7 +295,7 @@ fn say_of_path(
     say_word(out, before, path.as_slice(), after)
 }
 
-// Says that what is to contain a path is no directory.
+// Writes that the parent of a path is not a directory.
 fn say_parent(out: &mut Saying, word: &[u8]) -> Result<(), AllocError> {
     let Some((path, _)) = text(word) else {
         return Ok(());
@@ -298,11 +307,11 @@ fn say_parent(out: &mut Saying, word: &[u8]) -> Result<(), AllocError> {
             end = at;
         }
     }
-    let after = b" is no directory of this image: want a line dir above";
+    let after = b" is not a directory in this image; a dir line above must create it";
     say_word(out, b"", &bytes[..end.min(bytes.len())], after)
 }
 
-// Says what is wrong with the form of a block's line.
+// Writes the error in the form of a block's first line.
 fn say_form(
     alloc: Global,
     out: &mut Saying,
@@ -318,35 +327,37 @@ fn say_form(
         Kind::CutOff => say_exec(out, true, block.words),
         Kind::Schedule => say(
             out,
-            b"schedule: want it alone in its line, and a turn PID or PID COUNT in each line after it",
+            b"schedule: expected no other word on this line, and a turn, PID or PID COUNT, on each line below",
         ),
     }
 }
 
-/// What was found of the line of a block.
+/// Returns the message for the first line of a block.
 ///
-/// `Err` says that memory was refused.
+/// # Errors
+///
+/// Returns `AllocError` if memory cannot be allocated.
 pub fn line(
     alloc: Global,
     block: &Block,
     is_first: bool,
-    found: Found,
+    found: LineCheck,
 ) -> Result<Saying, AllocError> {
     let mut out = Saying::new(alloc);
     match found {
-        Found::Right | Found::RoomAgain => {}
-        Found::Form => say_form(alloc, &mut out, block, is_first)?,
-        Found::Size => say_sizes(&mut out)?,
-        Found::Init => say(
+        LineCheck::Right | LineCheck::RoomAgain => {}
+        LineCheck::Form => say_form(alloc, &mut out, block, is_first)?,
+        LineCheck::Size => say_sizes(&mut out)?,
+        LineCheck::Init => say(
             &mut out,
-            b"/init is no executable file: want exec \"/init\" <<END",
+            b"/init is not an executable file: expected exec \"/init\" <<END",
         )?,
-        Found::Tree(fault) => say_tree(&mut out, block.words, fault)?,
+        LineCheck::Tree(fault) => say_tree(&mut out, block.words, fault)?,
     }
     Ok(out)
 }
 
-// Whether a word is a number that a turn may have.
+// Returns whether a word is a valid number of a turn.
 fn is_count(word: &[u8]) -> bool {
     match decimal(word) {
         Some(count) => count >= 1 && count <= LAST_PROCESS,
@@ -354,14 +365,14 @@ fn is_count(word: &[u8]) -> bool {
     }
 }
 
-// Says that a word is no number that a turn may have.
+// Writes that a word is not a valid number of a turn.
 fn say_no_count(out: &mut Saying, word: &[u8]) -> Result<(), AllocError> {
-    let (what, most) = (Plain(b" is no number from 1 to "), Number(LAST_PROCESS));
-    let after = Plain(b": want PID or PID COUNT");
-    say_all(out, &[Plain(b"turn: "), Marked(word), what, most, after])
+    let what = Plain(b": expected PID or PID COUNT, each from 1 to ");
+    let (before, most) = (Plain(b"turn: invalid number "), Number(LAST_PROCESS));
+    say_all(out, &[before, Marked(word), what, most])
 }
 
-// Says what is wrong with a turn.
+// Writes the error of a turn.
 fn say_turn(out: &mut Saying, text: &[u8]) -> Result<(), AllocError> {
     let mut rest = text;
     for _ in 0..2 {
@@ -376,13 +387,15 @@ fn say_turn(out: &mut Saying, text: &[u8]) -> Result<(), AllocError> {
     let Some((word, _)) = next_word(rest) else {
         return Ok(());
     };
-    let after = b" is one too many: want PID or PID COUNT";
-    say_word(out, b"turn: ", word, after)
+    let after = b": expected PID or PID COUNT";
+    say_word(out, b"turn: unexpected word ", word, after)
 }
 
-/// What is wrong with a line of a schedule after so many.
+/// Returns the message for a line of a schedule. `before` is the number of previous turns.
 ///
-/// `Err` says that memory was refused.
+/// # Errors
+///
+/// Returns `AllocError` if memory cannot be allocated.
 pub fn turn(alloc: Global, before: u32, text: &[u8]) -> Result<Saying, AllocError> {
     let mut out = Saying::new(alloc);
     if before == SCHEDULE_LINES as u32 {

@@ -1,9 +1,9 @@
-//! What is wrong with a line of a program.
+//! Messages for the lines of programs.
 use super::nearest::nearest;
 use super::saying::Part::{Marked, Number, Plain};
 use super::saying::{Saying, say, say_all, say_word};
 use super::texts::{say_after_text, say_no_text};
-use super::words::{NAMES, Want, say_wrong, wants_of};
+use super::words::{NAMES, Want, say_invalid, wants_of};
 use crate::programs::{Label, begins_with_letter, is_jump, label_of};
 use crate::words::{content, last_word, next_word, push_words};
 use pv_model::limits::LINES;
@@ -12,17 +12,19 @@ use pv_text::texts::text;
 use pv_text::words::{flags, number, operand, origin, register, whence};
 use std::alloc::{AllocError, Global};
 
-/// That a label was set before.
+/// Returns the message that a label is already set.
 ///
-/// `Err` says that memory was refused.
+/// # Errors
+///
+/// Returns `AllocError` if memory cannot be allocated.
 pub fn second_label(alloc: Global, label: Option<&[u8]>) -> Result<Saying, AllocError> {
     let mut out = Saying::new(alloc);
-    let after = b" is set already, above in this program";
+    let after = b" is already defined above in this program";
     say_word(&mut out, b"label ", label.unwrap_or(b""), after)?;
     Ok(out)
 }
 
-// Says that another name is near, if one is.
+// Writes a similar name as a suggestion, if there is one.
 fn say_nearest(
     alloc: Global,
     out: &mut Saying,
@@ -30,12 +32,12 @@ fn say_nearest(
     names: &[&[u8]],
 ) -> Result<(), AllocError> {
     if let Some(name) = nearest(alloc, word, names)? {
-        say_all(out, &[Plain(b": did you mean "), Plain(name), Plain(b"?")])?;
+        say_all(out, &[Plain(b"; did you mean "), Marked(name), Plain(b"?")])?;
     }
     Ok(())
 }
 
-// Says that the first word of a line names no instruction.
+// Writes that the first word of a line does not name an instruction.
 fn say_no_name(
     alloc: Global,
     out: &mut Saying,
@@ -43,25 +45,25 @@ fn say_no_name(
     rest: &[u8],
 ) -> Result<(), AllocError> {
     if word.is_empty() {
-        return say(out, b"no instruction stands first in the line");
+        return say(out, b"the line does not begin with an instruction");
     }
     if let [.., b':'] = word {
         let after =
-            b" is no label here: want one a line, a letter and then letters, digits, _ and -";
-        return say_word(out, b"", word, after);
+            b" is not allowed here: expected one label a line, a letter followed by letters, digits, '_' or '-'";
+        return say_word(out, b"label ", word, after);
     }
     if is_manifest_word(word) {
-        let after = b" stands in a program: its line END is missing above";
-        return say_word(out, b"", word, after);
+        let after = b" is not allowed in a program; the line END is missing above";
+        return say_word(out, b"manifest line ", word, after);
     }
-    say_word(out, b"no call or instruction ", word, b"")?;
+    say_word(out, b"unknown call or instruction ", word, b"")?;
     if let [b' ', b':', ..] = rest {
-        return say(out, b": want a label and its colon in one word");
+        return say(out, b"; write a label and its colon as one word");
     }
     say_nearest(alloc, out, word, &NAMES)
 }
 
-// Whether a word begins a line of a manifest, and none of a program.
+// Returns whether a word starts lines of manifests and does not name an instruction.
 fn is_manifest_word(word: &[u8]) -> bool {
     word == b"exec".as_slice()
         || word == b"dir".as_slice()
@@ -71,7 +73,7 @@ fn is_manifest_word(word: &[u8]) -> bool {
         || word == b"schedule".as_slice()
 }
 
-// What stands after a text, if one stands there.
+// Returns the bytes after a text, if the argument is one.
 fn after_text(bytes: &[u8]) -> Option<&[u8]> {
     let Some((_, rest)) = text(bytes) else {
         return None;
@@ -79,7 +81,7 @@ fn after_text(bytes: &[u8]) -> Option<&[u8]> {
     Some(rest)
 }
 
-// What stands after a register, if one stands there.
+// Returns the bytes after a register, if the argument is one.
 fn after_register(bytes: &[u8]) -> Option<&[u8]> {
     let Some((_, rest)) = register(bytes) else {
         return None;
@@ -87,7 +89,7 @@ fn after_register(bytes: &[u8]) -> Option<&[u8]> {
     Some(rest)
 }
 
-// What stands after a number, if one stands there.
+// Returns the bytes after a number, if the argument is one.
 fn after_number(bytes: &[u8]) -> Option<&[u8]> {
     let Some((_, rest)) = number(bytes) else {
         return None;
@@ -95,7 +97,7 @@ fn after_number(bytes: &[u8]) -> Option<&[u8]> {
     Some(rest)
 }
 
-// What stands after a number or a register, if one stands there.
+// Returns the bytes after a number or register, if the argument is one.
 fn after_operand(bytes: &[u8]) -> Option<&[u8]> {
     let Some((_, rest)) = operand(bytes) else {
         return None;
@@ -103,7 +105,7 @@ fn after_operand(bytes: &[u8]) -> Option<&[u8]> {
     Some(rest)
 }
 
-// What stands after flags, if one stands there.
+// Returns the bytes after the flags of open, if the argument is valid.
 fn after_flags(bytes: &[u8]) -> Option<&[u8]> {
     let Some((_, rest)) = flags(bytes) else {
         return None;
@@ -111,7 +113,7 @@ fn after_flags(bytes: &[u8]) -> Option<&[u8]> {
     Some(rest)
 }
 
-// What stands after a whence, if one stands there.
+// Returns the bytes after the `whence` of lseek, if the argument is valid.
 fn after_whence(bytes: &[u8]) -> Option<&[u8]> {
     let Some((_, rest)) = whence(bytes) else {
         return None;
@@ -119,7 +121,7 @@ fn after_whence(bytes: &[u8]) -> Option<&[u8]> {
     Some(rest)
 }
 
-// What stands after what an openat starts at, if one stands there.
+// Returns the bytes after the start of openat, if the argument is valid.
 fn after_origin(bytes: &[u8]) -> Option<&[u8]> {
     let Some((_, rest)) = origin(bytes) else {
         return None;
@@ -127,7 +129,7 @@ fn after_origin(bytes: &[u8]) -> Option<&[u8]> {
     Some(rest)
 }
 
-// What stands after a text or `null`.
+// Returns the bytes after a text or `null`, if the argument is one.
 fn after_text_or_null(bytes: &[u8]) -> Option<&[u8]> {
     if let [b'"', ..] = bytes {
         return after_text(bytes);
@@ -140,7 +142,7 @@ fn after_text_or_null(bytes: &[u8]) -> Option<&[u8]> {
     }
 }
 
-// What stands after an argument, where it is right.
+// Returns the bytes after an argument, if it is valid.
 fn after_argument(want: Want, bytes: &[u8]) -> Option<&[u8]> {
     match want {
         Want::Nothing => None,
@@ -155,43 +157,46 @@ fn after_argument(want: Want, bytes: &[u8]) -> Option<&[u8]> {
     }
 }
 
-// How an argument stands in a form.
+// Returns the name of an argument in the form of an instruction.
 fn form_of(want: Want) -> &'static [u8] {
     match want {
         Want::Nothing => b"",
         Want::Register => b" REG",
         Want::Number => b" NUM",
-        Want::Place => b" PLACE",
+        Want::Place => b" OFFSET",
         Want::Line => b" LINE",
-        Want::Operand => b" NUM-or-REG",
+        Want::Operand => b" NUM|REG",
         Want::Text => b" \"TEXT\"",
-        Want::TextOrNull => b" \"TEXT\"-or-null",
+        Want::TextOrNull => b" \"TEXT\"|null",
         Want::Flags => b" FLAGS",
         Want::Whence => b" WHENCE",
         Want::Origin => b" START",
     }
 }
 
-// Says what an instruction wants.
+// Writes the form of an instruction.
 fn say_usage(out: &mut Saying, name: &[u8], wants: [Want; 3]) -> Result<(), AllocError> {
     let [first, second, third] = wants;
     let (first, second) = (Plain(form_of(first)), Plain(form_of(second)));
     let third = Plain(form_of(third));
-    say_all(out, &[Plain(b": want "), Plain(name), first, second, third])
+    say_all(
+        out,
+        &[Plain(b"; usage: "), Plain(name), first, second, third],
+    )
 }
 
-// Says that an instruction wants one more argument.
+// Writes that an instruction requires one more argument.
 fn say_missing(out: &mut Saying, name: &[u8], wants: [Want; 3]) -> Result<(), AllocError> {
-    say_all(out, &[Plain(name), Plain(b": an argument is missing")])?;
+    say_all(out, &[Plain(name), Plain(b": missing argument")])?;
     say_usage(out, name, wants)
 }
 
-// Whether a label is set.
+// Returns whether a label is set.
 fn is_set(labels: &[Label], name: &[u8]) -> bool {
     labels.iter().any(|label| label.name == name)
 }
 
-// Says what is wrong with the word of a jump that is to be a line of the program.
+// Writes the error of the target of a jump.
 fn say_target(
     alloc: Global,
     out: &mut Saying,
@@ -199,12 +204,12 @@ fn say_target(
     labels: &[Label],
 ) -> Result<(), AllocError> {
     if !begins_with_letter(word) {
-        return say_wrong(out, Want::Line, word);
+        return say_invalid(out, Want::Line, word);
     }
     if is_set(labels, word) {
-        return say_word(out, b"label ", word, b": want it last in its line");
+        return say_word(out, b"label ", word, b" must be the last word of the line");
     }
-    say_word(out, b"label ", word, b" is not set")?;
+    say_word(out, b"undefined label ", word, b"")?;
     let mut names: Vec<&[u8]> = Vec::new(alloc);
     for label in labels.iter().take(LINES) {
         names.push(label.name)?;
@@ -212,7 +217,7 @@ fn say_target(
     say_nearest(alloc, out, word, &names)
 }
 
-// Says what is wrong with an argument of an instruction.
+// Writes the error of an argument of an instruction.
 fn say_argument(
     alloc: Global,
     out: &mut Saying,
@@ -224,7 +229,10 @@ fn say_argument(
     say_all(out, &[Plain(name), Plain(b": ")])?;
     let (word, _) = split_word(bytes);
     if word.is_empty() {
-        return say(out, b"two blanks stand together, or one at the end");
+        return say(
+            out,
+            b"two adjacent blanks, or a blank at the end of the line",
+        );
     }
     match want {
         Want::Text => say_no_text(out, bytes),
@@ -232,14 +240,14 @@ fn say_argument(
             if let [b'"', ..] = bytes {
                 return say_no_text(out, bytes);
             }
-            say_wrong(out, want, word)
+            say_invalid(out, want, word)
         }
         Want::Line => say_target(alloc, out, word, labels),
-        _ => say_wrong(out, want, word),
+        _ => say_invalid(out, want, word),
     }
 }
 
-// Says what is wrong after all arguments: a number out of its range, or a word too many.
+// Writes the error after all arguments are parsed: a number out of range, or an extra word.
 fn say_rest<'a>(
     out: &mut Saying,
     name: &'a [u8],
@@ -250,23 +258,29 @@ fn say_rest<'a>(
 ) -> Result<(), AllocError> {
     if let Some(more) = after_one_space(rest) {
         let (word, _) = split_word(more);
-        let after = Plain(b" is one too many");
-        say_all(out, &[Plain(name), Plain(b": "), Marked(word), after])?;
+        let before = Plain(b": unexpected argument ");
+        say_all(out, &[Plain(name), before, Marked(word)])?;
         return say_usage(out, name, wants);
     }
     if name == b"peek".as_slice() {
         say(out, b"peek: ")?;
-        return say_wrong(out, Want::Place, last);
+        return say_invalid(out, Want::Place, last);
     }
     let what = Plain(b": the program has lines 1 to ");
     let count = Number(count.min(LINES as u32));
     say_all(
         out,
-        &[Plain(name), Plain(b": line "), Marked(last), what, count],
+        &[
+            Plain(name),
+            Plain(b": invalid line "),
+            Marked(last),
+            what,
+            count,
+        ],
     )
 }
 
-// Says what is wrong with the arguments of an instruction.
+// Writes the error in the arguments of an instruction.
 fn say_arguments(
     alloc: Global,
     out: &mut Saying,
@@ -301,7 +315,8 @@ fn say_arguments(
     say_rest(out, name, wants, rest, count, word)
 }
 
-// Says what is wrong with an instruction that stands after so many, in a program of so many.
+// Writes the error of an instruction. `count` is the number of instructions of the program, and `before` the number of
+// previous ones.
 fn say_instruction(
     alloc: Global,
     out: &mut Saying,
@@ -320,9 +335,12 @@ fn say_instruction(
     }
 }
 
-/// What is wrong with an instruction that stands after so many, in a program of so many.
+/// Returns the message for an instruction. `count` is the number of instructions of the program, and `before` the
+/// number of previous ones.
 ///
-/// `Err` says that memory was refused.
+/// # Errors
+///
+/// Returns `AllocError` if memory cannot be allocated.
 pub fn instruction(
     alloc: Global,
     count: u32,
@@ -335,8 +353,8 @@ pub fn instruction(
     Ok(out)
 }
 
-// Whether a line has something that counts for nothing, or stands for something else, where lines are not taken as they are:
-// a label, a comment, a CR, or further blanks.
+// Returns whether a line uses a feature of sources that is not allowed in lines that are copied unchanged: a label, a
+// jump to a label, a comment, a carriage return, or extra blanks.
 fn is_written_freely(alloc: Global, line: &[u8]) -> Result<bool, AllocError> {
     let mut words = Vec::new(alloc);
     push_words(content(line), &mut words)?;
@@ -349,9 +367,12 @@ fn is_written_freely(alloc: Global, line: &[u8]) -> Result<bool, AllocError> {
     Ok(label_of(first).is_some() || is_jump(first) && begins_with_letter(last_word(line)))
 }
 
-/// What is wrong with a line that is taken as it is, as an instruction that stands after so many, in a program of so many.
+/// Returns the message for a line that is copied unchanged and must be an instruction. `count` is the number of lines
+/// of the program, and `before` the number of previous ones.
 ///
-/// `Err` says that memory was refused.
+/// # Errors
+///
+/// Returns `AllocError` if memory cannot be allocated.
 pub fn taken_instruction(
     alloc: Global,
     count: u32,
@@ -363,7 +384,7 @@ pub fn taken_instruction(
     if is_written_freely(alloc, line)? {
         say(
             &mut out,
-            b" (labels, comments and further blanks are read between <<END and END alone)",
+            b" (labels, comments and extra blanks are allowed only between <<END and END)",
         )?;
     }
     Ok(out)

@@ -1,4 +1,4 @@
-//! Bytes put into words.
+//! Formatting bytes in messages.
 ghost use Rattle.std.specs.Prelude.{◌≡◌, ◌++◌, [], ◌∷◌, true, codes, flat_map, OnOk};
 ghost use Rattle.std.specs.Fmt.{decimal};
 ghost use Rattle.pv_model.specs.Trace.{hex_byte};
@@ -9,20 +9,20 @@ use pv_model::hex_digit;
 use std::alloc::{AllocError, Global};
 use std::marker::Model;
 
-/// A part of what a fault says.
+/// A part of a message.
 #[derive(Clone, Copy)]
 pub enum Part<'a> {
-    /// Bytes: those that are not from 20 to 7E by their numbers.
+    /// Bytes. Those outside 20 to 7E are written as numbers.
     Plain(&'a [u8]),
-    /// Bytes between marks.
+    /// Bytes in quotation marks.
     Marked(&'a [u8]),
     /// A number.
     Number(u32),
-    /// A byte by its number: two hexadecimal digits.
+    /// A byte as a number of two hexadecimal digits.
     Hex(u8),
 }
 
-/// What a fault says: bytes from 20 to 7E, which stand in one line.
+/// A message: bytes from 20 to 7E, which form one line.
 #[derive(Drop)]
 pub struct Saying {
     bytes: Vec<u8>,
@@ -40,7 +40,7 @@ impl Model for Saying {
 }
 
 impl Saying {
-    /// Nothing, so far.
+    /// Creates an empty message.
     pub fn new(alloc: Global) -> Saying
         ensures { result ≡ [] }
     {
@@ -49,7 +49,7 @@ impl Saying {
         }
     }
 
-    /// The bytes that it says.
+    /// Returns the bytes of the message.
     pub fn bytes(&self) -> &[u8]
         ensures value { result.now ≡ self.now }
         ensures line { IsPrintable self.now }
@@ -57,7 +57,7 @@ impl Saying {
         self.bytes.as_slice()
     }
 
-    // Says a byte from 20 to 7E.
+    // Appends a byte from 20 to 7E.
     #[tactic(auto, using(crate::proofs::SaidBytes::printable_more))]
     fn push(&mut self, byte: u8) -> Result<(), AllocError>
         requires { is_printable byte ≡ true }
@@ -68,7 +68,7 @@ impl Saying {
     }
 }
 
-// Says a byte by its number.
+// Appends a byte as a number.
 #[tactic(auto, using(crate::proofs::SaidBytes::digit_printable))]
 fn say_hex(out: &mut Saying, byte: u8) -> Result<(), AllocError>
     ensures { OnOk result (out.new ≡ out.old ++ hex_byte byte) }
@@ -77,7 +77,7 @@ fn say_hex(out: &mut Saying, byte: u8) -> Result<(), AllocError>
     out.push(hex_digit(byte % 16))
 }
 
-// Says a byte, by its number where it is not from 20 to 7E.
+// Appends a byte, as a number if it is not from 20 to 7E.
 fn say_byte(out: &mut Saying, byte: u8) -> Result<(), AllocError>
     ensures { OnOk result (out.new ≡ out.old ++ said_byte byte) }
 {
@@ -89,9 +89,11 @@ fn say_byte(out: &mut Saying, byte: u8) -> Result<(), AllocError>
     say_hex(out, byte)
 }
 
-/// Says bytes: those that are not from 20 to 7E by their numbers.
+/// Appends bytes to the message. Those outside 20 to 7E are written as numbers.
 ///
-/// `Err` says that memory was refused.
+/// # Errors
+///
+/// Returns `AllocError` if memory cannot be allocated.
 pub fn say(out: &mut Saying, bytes: &[u8]) -> Result<(), AllocError>
     ensures { OnOk result (out.new ≡ out.old ++ said bytes.now) }
 {
@@ -101,7 +103,7 @@ pub fn say(out: &mut Saying, bytes: &[u8]) -> Result<(), AllocError>
     Ok(())
 }
 
-// Says bytes between marks.
+// Appends bytes in quotation marks.
 fn say_marked(out: &mut Saying, bytes: &[u8]) -> Result<(), AllocError>
     ensures { OnOk result (out.new ≡ out.old ++ codes "'" ++ said bytes.now ++ codes "'") }
 {
@@ -110,9 +112,11 @@ fn say_marked(out: &mut Saying, bytes: &[u8]) -> Result<(), AllocError>
     out.push(b'\'')
 }
 
-/// Says a word between marks, and bytes before it and after it.
+/// Appends `before`, a word in quotation marks, and `after` to the message.
 ///
-/// `Err` says that memory was refused.
+/// # Errors
+///
+/// Returns `AllocError` if memory cannot be allocated.
 pub fn say_word(
     out: &mut Saying,
     before: &[u8],
@@ -126,7 +130,7 @@ pub fn say_word(
     say(out, after)
 }
 
-// Says a number.
+// Appends a number in decimal.
 fn say_number(out: &mut Saying, n: u32) -> Result<(), AllocError>
     ensures { OnOk result (out.new ≡ out.old ++ said (decimal n)) }
 {
@@ -134,7 +138,7 @@ fn say_number(out: &mut Saying, n: u32) -> Result<(), AllocError>
     say(out, buffer.format(n).as_bytes())
 }
 
-// Says a part.
+// Appends a part.
 fn say_part(out: &mut Saying, part: Part) -> Result<(), AllocError>
     ensures { OnOk result (out.new ≡ out.old ++ said_part part.entry) }
 {
@@ -146,9 +150,11 @@ fn say_part(out: &mut Saying, part: Part) -> Result<(), AllocError>
     }
 }
 
-/// Says parts, one after another.
+/// Appends parts in order to the message.
 ///
-/// `Err` says that memory was refused.
+/// # Errors
+///
+/// Returns `AllocError` if memory cannot be allocated.
 pub fn say_all(out: &mut Saying, parts: &[Part]) -> Result<(), AllocError>
     ensures { OnOk result (out.new ≡ out.old ++ flat_map said_part parts.now) }
 {

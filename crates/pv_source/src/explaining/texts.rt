@@ -1,4 +1,4 @@
-//! What is wrong with a text in quotation marks, or with the path that it is.
+//! Messages for texts in quotation marks, and for paths.
 ghost use Rattle.std.specs.Prelude.{◌<◌, length, IfSome};
 
 use super::saying::Part::{Hex, Number, Plain};
@@ -9,41 +9,50 @@ use pv_text::lines::{first_of, split_word};
 use pv_text::texts::text;
 use std::alloc::AllocError;
 
-// Says what is wrong with an escape, of which these bytes stand after its backslash.
+// Writes the error of an escape whose backslash precedes these bytes.
 fn say_escape(out: &mut Saying, bytes: &[u8]) -> Result<(), AllocError> {
     let count = match bytes {
         [b'x', ..] => bytes.len().min(3),
         _ => bytes.len().min(1),
     };
     let what: &[u8] = match bytes {
-        [b'x', b'0', b'0', ..] => b"': no text has the byte 00",
-        [] => b"': write \\x22 for a quotation mark, and \\x5c for a backslash",
-        _ => b"': want \\xHH with two digits 0 to 9 and a to f",
+        [b'x', b'0', b'0', ..] => b"'; byte 00 is not allowed in a text",
+        [] => b"'; write \\x22 for a double quote and \\x5c for a backslash",
+        _ => b"': expected \\xHH with two digits 0 to 9 or a to f",
     };
     say_all(
         out,
-        &[Plain(b"text has '\\"), Plain(&bytes[..count]), Plain(what)],
+        &[
+            Plain(b"invalid escape '\\"),
+            Plain(&bytes[..count]),
+            Plain(what),
+        ],
     )
 }
 
-// Says what is wrong with a byte that does not stand for itself.
-fn say_wrong_byte(out: &mut Saying, byte: u8) -> Result<(), AllocError> {
+// Writes the error of a byte that must be escaped.
+fn say_invalid_byte(out: &mut Saying, byte: u8) -> Result<(), AllocError> {
     if byte == 0 {
-        return say(out, b"text has byte 00: no text has it");
+        return say(out, b"byte 00 is not allowed in a text");
     }
     let said = Hex(byte);
     say_all(
         out,
-        &[Plain(b"text has byte "), said, Plain(b": write \\x"), said],
+        &[
+            Plain(b"invalid byte "),
+            said,
+            Plain(b" in a text; write \\x"),
+            said,
+        ],
     )
 }
 
-// Whether a byte is a hexadecimal digit of an escape.
+// Returns whether a byte is a hexadecimal digit of an escape.
 fn is_digit(byte: u8) -> bool {
     matches!(byte, b'0'..=b'9' | b'a'..=b'f')
 }
 
-// What stands after a character of a text: nothing where that is wrong.
+// Returns the bytes after a character of a text, or `None` if the character is invalid.
 fn after_character(bytes: &[u8]) -> Option<&[u8]>
     ensures { IfSome result (λ rest. length rest.now < length bytes.now) }
 {
@@ -61,16 +70,16 @@ fn after_character(bytes: &[u8]) -> Option<&[u8]>
     }
 }
 
-// Says that there are more bytes than there may be.
+// Writes that there are more bytes than the maximum.
 fn say_too_long(out: &mut Saying, what: &[u8], count: u32, most: u32) -> Result<(), AllocError> {
-    let (between, after) = (Plain(b" bytes: at most "), Plain(b" are allowed"));
+    let (between, after) = (Plain(b" bytes; at most "), Plain(b" are allowed"));
     say_all(
         out,
         &[Plain(what), Number(count), between, Number(most), after],
     )
 }
 
-// Says what is wrong with a text after its quotation mark, whose bytes go on to the one that ends it.
+// Writes the error of a text. `inside` has its bytes between the quotation marks.
 fn say_inside(out: &mut Saying, inside: &[u8]) -> Result<(), AllocError> {
     let mut rest = inside;
     let mut count: u32 = 0;
@@ -80,17 +89,21 @@ fn say_inside(out: &mut Saying, inside: &[u8]) -> Result<(), AllocError> {
     }
     match rest {
         [b'\\', escape @ ..] => say_escape(out, escape),
-        [byte, ..] => say_wrong_byte(out, *byte),
+        [byte, ..] => say_invalid_byte(out, *byte),
         [] => say_too_long(out, b"text has ", count, TEXT as u32),
     }
 }
 
-/// Says what is wrong with an argument that is to be a text, where no text stands.
+/// Writes the error of an argument that must be a text and is not.
+///
+/// # Errors
+///
+/// Returns `AllocError` if memory cannot be allocated.
 pub fn say_no_text(out: &mut Saying, bytes: &[u8]) -> Result<(), AllocError> {
     let [b'"', following @ ..] = bytes else {
         let (word, _) = split_word(bytes);
-        let after = b" is no text: write it in quotation marks \"";
-        return say_word(out, b"", word, after);
+        let before = b"expected a text in double quotes, found ";
+        return say_word(out, before, word, b"");
     };
     let end = first_of(following, b'"');
     if end < following.len() {
@@ -99,42 +112,49 @@ pub fn say_no_text(out: &mut Saying, bytes: &[u8]) -> Result<(), AllocError> {
     say_all(out, &[Plain(b"text has no closing quote: "), Plain(bytes)])
 }
 
-/// Says what stands right after a text.
+/// Writes that bytes directly follow a text.
+///
+/// # Errors
+///
+/// Returns `AllocError` if memory cannot be allocated.
 pub fn say_after_text(out: &mut Saying, rest: &[u8]) -> Result<(), AllocError> {
     let (word, _) = split_word(rest);
-    let after = b" stands right after a text: want a blank between";
-    say_word(out, b"", word, after)
+    say_word(out, b"expected a blank before ", word, b"")
 }
 
-// Says what is wrong with a name of a path.
+// Writes the error of a name in a path.
 fn say_name(out: &mut Saying, name: &[u8]) -> Result<(), AllocError> {
     if name.is_empty() {
         return say(
             out,
-            b"path has an empty name: want one slash before each name, and none at the end",
+            b"path has an empty name; write one slash before each name and none at the end",
         );
     }
     if name == b".".as_slice() || name == b"..".as_slice() {
-        let after = b": want the names from the root down";
-        return say_word(out, b"path has the name ", name, after);
+        let after = b"; write the full path from the root";
+        return say_word(out, b"path contains ", name, after);
     }
     let count = name.len().min(9_999) as u32;
     say_too_long(out, b"name has ", count, NAME_V1 as u32)
 }
 
-// Whether a name is one of an entry.
+// Returns whether a name is valid in the path of an entry.
 fn is_right_name(name: &[u8]) -> bool {
     !name.is_empty() && name.len() <= NAME_V1 && name != b".".as_slice() && name != b"..".as_slice()
 }
 
-/// Says what is wrong with the path of an entry; nothing where it is right.
+/// Writes the error of the path of an entry, and returns whether there is one.
+///
+/// # Errors
+///
+/// Returns `AllocError` if memory cannot be allocated.
 pub fn say_path(out: &mut Saying, path: &[u8]) -> Result<bool, AllocError> {
     let [b'/', names @ ..] = path else {
-        say_word(out, b"path has no slash first: ", path, b"")?;
+        say_word(out, b"path does not begin with a slash: ", path, b"")?;
         return Ok(true);
     };
     if names.is_empty() {
-        say(out, b"path has no name: want one after its slash")?;
+        say(out, b"path has no name after its slash")?;
         return Ok(true);
     }
     let mut rest = Some(names);
@@ -149,11 +169,19 @@ pub fn say_path(out: &mut Saying, path: &[u8]) -> Result<bool, AllocError> {
     Ok(false)
 }
 
-/// Says which texts a link may have.
+/// Writes which targets a symbolic link can have.
+///
+/// # Errors
+///
+/// Returns `AllocError` if memory cannot be allocated.
 pub fn say_link(out: &mut Saying) -> Result<(), AllocError> {
     let most = Number(LINK_TEXT as u32);
     say_all(
         out,
-        &[Plain(b"text of a link: want 1 to "), most, Plain(b" bytes")],
+        &[
+            Plain(b"invalid link text: expected 1 to "),
+            most,
+            Plain(b" bytes"),
+        ],
     )
 }

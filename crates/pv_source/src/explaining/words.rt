@@ -1,9 +1,9 @@
-//! What arguments the names of instructions want, and what is wrong with one that is a word.
+//! The arguments of instructions, and messages for arguments that are words.
 use super::saying::Part::{Marked, Plain};
 use super::saying::{Saying, say_all};
 use std::alloc::AllocError;
 
-/// What an argument is to be.
+/// The kind of an argument.
 #[derive(Clone, Copy, PartialEq, Eq)]
 pub enum Want {
     /// No argument.
@@ -12,7 +12,7 @@ pub enum Want {
     Register,
     /// A number of 32 bits.
     Number,
-    /// A byte's place in the buffer.
+    /// An offset in the buffer.
     Place,
     /// A line of the program.
     Line,
@@ -22,11 +22,11 @@ pub enum Want {
     Text,
     /// A text, or `null`.
     TextOrNull,
-    /// The flags of an open.
+    /// The flags of open.
     Flags,
-    /// From where lseek counts.
+    /// The `whence` of lseek.
     Whence,
-    /// Where an openat starts.
+    /// The start of openat.
     Origin,
 }
 
@@ -72,12 +72,12 @@ pub const NAMES: [&[u8]; 38] = [
     b"symlink",
 ];
 
-// Whether a word is this name.
+// Returns whether a word is this name.
 fn is(word: &[u8], name: &[u8]) -> bool {
     word == name
 }
 
-// The arguments of an instruction on registers, or of a jump.
+// Returns the arguments of an instruction on registers, or of a jump.
 fn register_wants(word: &[u8]) -> Option<[Want; 3]> {
     if is(word, b"set") || is(word, b"add") {
         return Some([Want::Register, Want::Number, Want::Nothing]);
@@ -94,7 +94,7 @@ fn register_wants(word: &[u8]) -> Option<[Want; 3]> {
     None
 }
 
-// The arguments of a call on processes, promises, unveiled paths or descriptors.
+// Returns the arguments of a call on processes, promises, unveiled paths or descriptors.
 fn call_wants(word: &[u8]) -> Option<[Want; 3]> {
     if is(word, b"fork") || is(word, b"wait") || is(word, b"getpid") || is(word, b"getppid") {
         return Some([Want::Nothing, Want::Nothing, Want::Nothing]);
@@ -120,7 +120,7 @@ fn call_wants(word: &[u8]) -> Option<[Want; 3]> {
     None
 }
 
-// The arguments of `put`, and of a call on paths.
+// Returns the arguments of `put`, or of a call on paths.
 fn path_wants(word: &[u8]) -> Option<[Want; 3]> {
     if is(word, b"put")
         || is(word, b"execve")
@@ -146,7 +146,7 @@ fn path_wants(word: &[u8]) -> Option<[Want; 3]> {
     None
 }
 
-/// The arguments that an instruction wants, at most three, if the word is the name of one.
+/// Returns the arguments of the instruction with this name, at most three, or `None` if the word does not name one.
 pub fn wants_of(word: &[u8]) -> Option<[Want; 3]> {
     if let Some(wants) = register_wants(word) {
         return Some(wants);
@@ -157,49 +157,60 @@ pub fn wants_of(word: &[u8]) -> Option<[Want; 3]> {
     path_wants(word)
 }
 
-/// What an argument is called.
+/// Returns the name of an argument.
 pub fn argument_name(want: Want) -> &'static [u8] {
     match want {
         Want::Nothing => b"argument",
         Want::Register => b"register",
         Want::Number => b"number",
-        Want::Place => b"place",
+        Want::Place => b"offset",
         Want::Line => b"line",
         Want::Operand => b"number or register",
         Want::Text => b"text",
-        Want::TextOrNull => b"text or null",
+        Want::TextOrNull => b"argument",
         Want::Flags => b"flags",
         Want::Whence => b"whence",
         Want::Origin => b"start",
     }
 }
 
-/// What is wanted of an argument.
+/// Returns what an argument of this kind must be.
 pub fn wanted(want: Want) -> &'static [u8] {
     match want {
-        Want::Nothing => b"want none",
-        Want::Register => b"want r0 to r7",
-        Want::Number => b"want -2147483648 to 2147483647, without leading zeros or +",
-        Want::Place => b"want a byte of the buffer, 0 to 4095",
-        Want::Line => b"want a label, or the number of an instruction",
+        Want::Nothing => b"expected no argument",
+        Want::Register => b"expected r0 to r7",
+        Want::Number => b"expected -2147483648 to 2147483647, without leading zeros or '+'",
+        Want::Place => b"expected an offset in the buffer, 0 to 4095",
+        Want::Line => b"expected a label or the number of an instruction",
         Want::Operand => {
-            b"want r0 to r7, or -2147483648 to 2147483647 without leading zeros or +"
+            b"expected r0 to r7, or -2147483648 to 2147483647 without leading zeros or '+'"
         }
-        Want::Text => b"want \"TEXT\"",
-        Want::TextOrNull => b"want \"TEXT\" or null",
+        Want::Text => b"expected \"TEXT\"",
+        Want::TextOrNull => b"expected \"TEXT\" or null",
         Want::Flags => {
-            b"want r, w or rw, then +append, +create, +trunc, +excl, +nofollow, +dir, +cloexec in this order"
+            b"expected r, w or rw, then any of +append, +create, +trunc, +excl, +nofollow, +dir, +cloexec in this order"
         }
-        Want::Whence => b"want set, cur or end",
-        Want::Origin => b"want cwd, or the number of a descriptor or its register",
+        Want::Whence => b"expected set, cur or end",
+        Want::Origin => b"expected cwd, a descriptor number, or a register",
     }
 }
 
-/// Says that a word is none of what an argument is to be.
-pub fn say_wrong(out: &mut Saying, want: Want, word: &[u8]) -> Result<(), AllocError> {
+/// Writes that a word is not a valid argument of this kind.
+///
+/// # Errors
+///
+/// Returns `AllocError` if memory cannot be allocated.
+pub fn say_invalid(out: &mut Saying, want: Want, word: &[u8]) -> Result<(), AllocError> {
     let (name, wanted) = (Plain(argument_name(want)), Plain(wanted(want)));
     say_all(
         out,
-        &[name, Plain(b" "), Marked(word), Plain(b": "), wanted],
+        &[
+            Plain(b"invalid "),
+            name,
+            Plain(b" "),
+            Marked(word),
+            Plain(b": "),
+            wanted,
+        ],
     )
 }

@@ -1,4 +1,4 @@
-//! The bytes of files.
+//! Writing the contents of files.
 ghost use Rattle.std.specs.Prelude.{◌≡◌, IsTrue, None, Some, IfErr, OnOk, OnErr};
 ghost use Rattle.pv_model.specs.Sealed.{is_file};
 ghost use Rattle.pv_model.specs.Tree.{node_at, find_entry};
@@ -11,9 +11,13 @@ use super::Tree;
 use pv_inodes::Space;
 
 impl Tree {
-    /// Writes bytes over a file's, from `at` on. A gap past the end is filled with zeros, and to write no
-    /// bytes changes nothing. `TooBig` comes where the file would be longer than any may be, else `Full`
-    /// where the image has not the blocks for it; then nothing has changed.
+    /// Writes `bytes` to a file at offset `at`. A gap past the end of the file is filled with zeros. A write of zero
+    /// bytes changes nothing.
+    ///
+    /// # Errors
+    ///
+    /// Returns `TooBig` if the file would exceed the maximum length. Otherwise returns `Full` if the image has too few
+    /// free blocks. If the call fails, nothing changes.
     pub fn write_at(&mut self, node: u16, at: u32, bytes: &[u8]) -> Result<(), Space>
         requires { IsTrue (is_file (node_at self.old.tree node)) }
         ensures ok { OnOk result (self.new ≡ with_tree self.old (overwritten self.old.tree node at bytes.now)) }
@@ -25,9 +29,12 @@ impl Tree {
         self.directories.write_at(node, at, bytes)
     }
 
-    /// Cuts a file's bytes to a length, or fills them up to it with zeros. `TooBig` comes where the file
-    /// would be longer than any may be, else `Full` where the image has not the blocks for it; then
-    /// nothing has changed.
+    /// Truncates a file to `size` bytes, or extends it to this length with zeros.
+    ///
+    /// # Errors
+    ///
+    /// Returns `TooBig` if the file would exceed the maximum length. Otherwise returns `Full` if the image has too few
+    /// free blocks. If the call fails, nothing changes.
     pub fn cut(&mut self, node: u16, size: u32) -> Result<(), Space>
         requires { IsTrue (is_file (node_at self.old.tree node)) }
         ensures ok { OnOk result (self.new ≡ with_tree self.old (resized self.old.tree node size)) }

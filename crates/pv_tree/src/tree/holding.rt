@@ -1,15 +1,15 @@
-//! Who holds what.
+//! Reference counts.
 ghost use Rattle.std.specs.Prelude.{◌≡◌, ◌≢◌, ◌<◌, suc, ◌+◌, ◌-◌, ℕ, IsSome};
 ghost use Rattle.pv_model.specs.Tree.{node_at, find_entry};
 ghost use Rattle.pv_laws_trees.specs.Found.{Alike};
 ghost use Rattle.pv_tree.specs.Changes.{settled};
-ghost use Rattle.pv_tree.specs.Holding.{HeldTree, holds_at, held_more, held_less, trimmed};
+ghost use Rattle.pv_tree.specs.Holding.{HeldTree, holds_at, held_more, held_less, collected};
 
 use super::Tree;
 use pv_dirs::Directories;
 use pv_model::limits::ROOT;
 
-/// Takes a node away that has neither a name nor a holder; the root stays.
+/// Removes a node if it has no name and no reference. The root stays.
 pub(crate) fn settle(directories: &mut Directories, node: u16, names: u32, holds: u16)
     requires { IsSome (node_at directories.old node) }
     ensures { directories.new ≡ settled directories.old node names holds }
@@ -20,7 +20,7 @@ pub(crate) fn settle(directories: &mut Directories, node: u16, names: u32, holds
 }
 
 impl Tree {
-    /// Holds a node once more.
+    /// Adds a reference to a node.
     pub fn hold(&mut self, node: u16)
         requires node { IsSome (node_at self.old.tree node) }
         requires few { holds_at self.old node < 65535 }
@@ -32,10 +32,10 @@ impl Tree {
         self.holds[node as usize] += 1;
     }
 
-    /// Holds a node once less. It goes where nothing holds it any more and it has no name.
-    pub fn let_go(&mut self, node: u16)
+    /// Releases a reference to a node. If that was the last one and the node has no name, the node is removed.
+    pub fn unreference(&mut self, node: u16)
         requires { 0 < holds_at self.old node }
-        ensures tree { self.new.tree ≡ trimmed self.old.tree (held_less self.old.holds node) }
+        ensures tree { self.new.tree ≡ collected self.old.tree (held_less self.old.holds node) }
         ensures holds { self.new.holds ≡ held_less self.old.holds node }
         ensures less { holds_at self.new node + 1 ≡ holds_at self.old node }
         ensures others { (other : ℕ) → other ≢ node → holds_at self.new other ≡ holds_at self.old other }

@@ -1,4 +1,4 @@
-//! The tree of an image that was written before.
+//! The tree of an existing image.
 ghost use Rattle.std.specs.Prelude.{◌≡◌, replicate, IfOk};
 ghost use Rattle.pv_model.specs.Image.{IsImageOf};
 ghost use Rattle.pv_model.specs.Tree.{Tree as Nodes};
@@ -10,12 +10,12 @@ use pv_model::Version;
 use std::alloc::{AllocError, Global};
 
 impl Tree {
-    /// The tree of the image that these bytes are, of this version and with so many inodes; nothing is held.
-    /// One pass over all entries counts names and finds parents.
+    /// Creates the tree of the image in `bytes`, which has this version and number of inodes. No node is referenced.
+    /// One pass over all entries counts the names and finds the parents.
     ///
     /// # Errors
     ///
-    /// Where memory for its directories was refused.
+    /// Returns `AllocError` if memory for the directories cannot be allocated.
     pub(crate) fn of_image(
         alloc: Global,
         bytes: Vec<u8>,
@@ -34,7 +34,7 @@ impl Tree {
                 directories.count_entries(directory, &mut names, &mut parents);
             }
         }
-        // What is not free is what the nodes need, so the image has room for them.
+        // The contract of `free` shows that the nodes need no more blocks than the image has.
         let _free = directories.free();
         Ok(Tree {
             directories,

@@ -1,22 +1,22 @@
-//! New nodes.
+//! Creating nodes.
 ghost use Rattle.std.specs.Prelude.{◌≡◌, ◌<◌, length, IsTrue, false, None, Some, IfOk, IfErr, OnOk, OnErr};
 ghost use Rattle.pv_model.specs.Room.{greatest_entries, is_too_long};
 ghost use Rattle.pv_model.specs.Tree.{node_at, entries_at, find_entry, is_directory_at, is_name, is_node, with_node, with_entry, with_new_node, new_number, IsWellFormed};
 ghost use Rattle.pv_laws_trees.specs.Found.{AlikeBut};
-ghost use Rattle.pv_laws_trees.specs.Spelled.{are_bytes, has_bytes};
-ghost use Rattle.pv_laws_trees.specs.Tree.{Stands};
+ghost use Rattle.pv_laws_trees.specs.Encoded.{are_bytes, has_bytes};
+ghost use Rattle.pv_laws_trees.specs.Tree.{Appears};
 ghost use Rattle.pv_dirs.specs.Trees.{new_node as empty_node, LacksRoom, without_node};
 ghost use Rattle.pv_tree.specs.Changes.{new_node, sort_of};
 ghost use Rattle.pv_tree.specs.Holding.{with_tree};
 ghost use Rattle.pv_tree.specs.Rooms.{refusal};
-ghost use Rattle.pv_tree.specs.Standing.{IsShaped};
+ghost use Rattle.pv_tree.specs.Present.{IsShaped};
 
 use super::Tree;
 use pv_dirs::Directories;
 use pv_inodes::Space;
 use pv_model::{Kind, NewNode};
 
-// What a node of a kind is.
+// Returns the kind of a new node.
 fn sort_of(kind: NewNode) -> Kind
     ensures { result ≡ sort_of kind.entry }
 {
@@ -28,7 +28,7 @@ fn sort_of(kind: NewNode) -> Kind
     }
 }
 
-// A text as it is read: each number in it is a byte.
+// Returns `text` itself. The contract shows that each of its numbers is a byte.
 fn as_read(text: &[u8]) -> &[u8]
     ensures same { result.now ≡ text.now }
     ensures bytes { IsTrue (are_bytes result.now) }
@@ -36,7 +36,7 @@ fn as_read(text: &[u8]) -> &[u8]
     text
 }
 
-// Gives a new node its content. An `Err` says that data blocks are wanting, and then nothing has changed.
+// Writes the contents of a new node. If there are too few free data blocks, it fails and changes nothing.
 fn fill(directories: &mut Directories, node: u16, kind: NewNode) -> Result<(), Space>
     requires fresh { node_at directories.old node ≡ Some (empty_node (sort_of kind)) }
     requires text { IsTrue (is_node directories.old.version (new_node kind)) }
@@ -51,7 +51,8 @@ fn fill(directories: &mut Directories, node: u16, kind: NewNode) -> Result<(), S
     }
 }
 
-/// Adds an entry to a directory that has none of this name, where the image has room for the tree with it.
+/// Adds an entry to a directory that has no entry of this name. It fails if the image has no room for the tree with the
+/// entry.
 pub(crate) fn enter(
     directories: &mut Directories,
     directory: u16,
@@ -70,7 +71,7 @@ pub(crate) fn enter(
     directories.add(directory, name, node)
 }
 
-// Puts a node that was just taken under a name of a directory, with its content. An `Err` takes the node away.
+// Writes the contents of a newly allocated node and gives it a name in a directory. If this fails, the node is removed.
 fn furnish(
     directories: &mut Directories,
     directory: u16,
@@ -102,7 +103,7 @@ fn furnish(
     Ok(())
 }
 
-// Puts a new node under a name of a directory. An `Err` changes nothing.
+// Creates a node under a name of a directory. If this fails, nothing changes.
 fn add_node(
     directories: &mut Directories,
     directory: u16,
@@ -137,11 +138,14 @@ fn add_node(
 }
 
 impl Tree {
-    /// Puts a new node under a name that a directory has not, and answers its number, the least that is
-    /// not in use. `TooBig` comes where the directory would be longer than any may be, else `Full` where
-    /// the image has not the inode or the blocks for it; then nothing has changed.
+    /// Creates a node under a name that the directory does not have, and returns its number, the least unused one.
+    ///
+    /// # Errors
+    ///
+    /// Returns `TooBig` if the directory would exceed the maximum length. Otherwise returns `Full` if the image has no
+    /// free inode or too few free blocks. If the call fails, nothing changes.
     pub fn make(&mut self, directory: u16, name: &[u8], kind: NewNode) -> Result<u16, Space>
-        requires directory { Stands self.old.tree directory }
+        requires directory { Appears self.old.tree directory }
         requires name { IsTrue (is_name self.old.tree.version name.now) }
         requires absent { find_entry self.old.tree directory name.now ≡ None }
         requires text { IsTrue (is_node self.old.tree.version (new_node kind)) }

@@ -1,14 +1,14 @@
-//! Names that nodes get and lose.
+//! Adding and removing names.
 ghost use Rattle.std.specs.Prelude.{◌≡◌, ◌≢◌, [], IsTrue, IsFalse, false, None, Some, IsSome, IfSome, IfOk, IfErr, OnOk, OnErr};
 ghost use Rattle.pv_model.specs.Calls.Paths.{contains_directory, entries_there};
 ghost use Rattle.pv_model.specs.Room.{fits};
 ghost use Rattle.pv_model.specs.Tree.{node_at, find_entry, is_directory_at, is_name, with_entry, without_entry, IsWellFormed};
 ghost use Rattle.pv_laws_trees.specs.Found.{AlikeBut, AlikeButTwo};
-ghost use Rattle.pv_laws_trees.specs.Tree.{Stands};
+ghost use Rattle.pv_laws_trees.specs.Tree.{Appears};
 ghost use Rattle.pv_tree.specs.Changes.{moved};
-ghost use Rattle.pv_tree.specs.Holding.{with_tree, after, trimmed};
+ghost use Rattle.pv_tree.specs.Holding.{with_tree, after, collected};
 ghost use Rattle.pv_tree.specs.Rooms.{refusal};
-ghost use Rattle.pv_tree.specs.Standing.{IsShaped};
+ghost use Rattle.pv_tree.specs.Present.{IsShaped};
 
 use super::Tree;
 use super::holding::settle;
@@ -19,14 +19,15 @@ use pv_inodes::Space;
 /// An entry that was moved.
 #[derive(Clone, Copy)]
 struct Moved {
-    // The node that it is for.
+    // The node of the entry.
     node: u16,
-    // The node that had the new name, if one had.
+    // The node that had the new name before, if there was one.
     gone: Option<u16>,
 }
 
-// Moves an entry to another name, which a node that had it loses. An `Err` changes nothing: the entry is put back
-// where it was. It comes only where no node had the name, since another entry leaves room for this one.
+// Moves an entry to another name, and removes the entry that had this name. If this fails, the entry is restored and
+// nothing changes. It can fail only if there was no entry of the new name, because a removed entry leaves room for the
+// moved one.
 fn move_entry(
     directories: &mut Directories,
     from: u16,
@@ -62,19 +63,22 @@ fn move_entry(
 }
 
 impl Tree {
-    /// Puts the entries of the directories in the order of the names, where they are not known to stand so. The
-    /// tree is the same, but names are found and listed in fewer steps.
+    /// Sorts the entries of the directories by name, unless they are known to be sorted. The tree does not change, but
+    /// lookups and listings take fewer steps.
     pub fn order_entries(&mut self)
         ensures { self.new ≡ self.old }
     {
         self.directories.sort_slots();
     }
 
-    /// Puts a node that is no directory under one more name, which the directory has not. `TooBig` comes
-    /// where the directory would be longer than any may be, else `Full` where the image has not the block
-    /// for it; then nothing has changed.
+    /// Adds a name to a node that is not a directory. The directory has no entry of this name.
+    ///
+    /// # Errors
+    ///
+    /// Returns `TooBig` if the directory would exceed the maximum length. Otherwise returns `Full` if the image has too
+    /// few free blocks. If the call fails, nothing changes.
     pub fn link(&mut self, directory: u16, name: &[u8], node: u16) -> Result<(), Space>
-        requires directory { Stands self.old.tree directory }
+        requires directory { Appears self.old.tree directory }
         requires name { IsTrue (is_name self.old.tree.version name.now) }
         requires absent { find_entry self.old.tree directory name.now ≡ None }
         requires node { IsSome (node_at self.old.tree node) }
@@ -90,8 +94,8 @@ impl Tree {
         Ok(())
     }
 
-    /// Takes a name away from a node, which has no entries where it is a directory. The node goes where it
-    /// has no other name and nothing holds it.
+    /// Removes a name of a node. If the node is a directory, it has no entries. If the node has no other name and no
+    /// reference, it is removed.
     pub fn unlink(&mut self, directory: u16, name: &[u8])
         requires directory { IsTrue (is_directory_at self.old.tree directory) }
         requires present { IsSome (find_entry self.old.tree directory name.now) }
@@ -108,22 +112,26 @@ impl Tree {
         settle(&mut self.directories, node, self.names[at], self.holds[at]);
     }
 
-    /// Gives the node of one name another, in a directory that is neither the node itself nor below it.
-    /// Another node that had this name, and has no entries, loses it, and goes where it has no other name
-    /// and nothing holds it. `TooBig` comes where the directory would be longer than any may be, else
-    /// `Full` where the image has not the block for it; then nothing has changed.
+    /// Moves the entry of one name to another name, in a directory that is neither the node itself nor below it. If
+    /// another node has the new name, it has no entries: it loses the name, and is removed if it has no other name and
+    /// no reference.
+    ///
+    /// # Errors
+    ///
+    /// Returns `TooBig` if the directory would exceed the maximum length. Otherwise returns `Full` if the image has too
+    /// few free blocks. If the call fails, nothing changes.
     pub fn rename(&mut self, from: u16, name: &[u8], to: u16, other: &[u8]) -> Result<(), Space>
         requires from { IsTrue (is_directory_at self.old.tree from) }
         requires present { IsSome (find_entry self.old.tree from name.now) }
-        requires to { Stands self.old.tree to }
+        requires to { Appears self.old.tree to }
         requires name { IsTrue (is_name self.old.tree.version other.now) }
         requires clear { IfSome (find_entry self.old.tree from name.now) (λ n. contains_directory self.old.tree n to ≡ false) }
         requires apart { find_entry self.old.tree to other.now ≢ find_entry self.old.tree from name.now }
         requires empty { entries_there self.old.tree (find_entry self.old.tree to other.now) ≡ [] }
         ensures ok { OnOk result (self.new ≡ after self.old (moved self.old.tree from name.now to other.now)) }
         ensures err { OnErr result (self.new ≡ self.old) }
-        ensures allowed { OnOk result (refusal (trimmed (moved self.old.tree from name.now to other.now) self.old.holds) ≡ None) }
-        ensures refused { IfErr result (λ why. refusal (trimmed (moved self.old.tree from name.now to other.now) self.old.holds) ≡ Some why) }
+        ensures allowed { OnOk result (refusal (collected (moved self.old.tree from name.now to other.now) self.old.holds) ≡ None) }
+        ensures refused { IfErr result (λ why. refusal (collected (moved self.old.tree from name.now to other.now) self.old.holds) ≡ Some why) }
         ensures elsewhere { AlikeButTwo from name.now to other.now (find_entry self.old.tree) (find_entry self.new.tree) }
     {
         let moved = move_entry(&mut self.directories, from, name, to, other)?;

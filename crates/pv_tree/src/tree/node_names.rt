@@ -1,4 +1,4 @@
-//! The names of a node, one after the other.
+//! Iterating over the names of a node.
 ghost use Rattle.std.specs.Prelude.{◌≡◌};
 ghost use Rattle.pv_model.specs.Answers.Nodes.{least_name};
 ghost use Rattle.pv_model.specs.Tree.{names_of};
@@ -9,8 +9,8 @@ use pv_model::Name;
 use pv_model::limits::ROOT;
 
 impl Tree {
-    /// The least name of a node, with the number of the directory in which it stands: by that number, and then by the
-    /// bytes of the name. None where it has no name. Of a directory it is found in the one above it.
+    /// Returns the least name of a node with the number of its directory. Names are ordered by directory number, then
+    /// by their bytes. Returns `None` if the node has no name. The name of a directory is looked up in its parent.
     pub fn least_name(&self, node: u16) -> Option<(u16, Name)>
         ensures { result ≡ least_name self.now.tree node }
     {
@@ -30,9 +30,9 @@ impl Tree {
         }
     }
 
-    /// The next name of a node, with the number of the directory in which it stands: the least that is greater than the
-    /// last one, by directory, and then by the bytes of the name. With no last one it is the least of all. None where
-    /// there is no greater one.
+    /// Returns the least name of a node that is greater than `last`, with the number of its directory, or the least
+    /// name of all if there is no `last`. Names are ordered by directory number, then by their bytes. Returns `None` if
+    /// there is no greater name.
     pub fn next_name(&self, node: u16, last: Option<(u16, &[u8])>) -> Option<(u16, Name)>
         ensures value { result ≡ first_after (last_of last.entry) (names_of self.now.tree node) }
         ensures least { IsNextNameOfNode self.now.tree node (last_of last.entry) result }

@@ -2,11 +2,11 @@ use Rattle.std.proofs.Common.{◌≡◌, ◌≤◌, ◌+◌, ◌*◌, ◌++◌, 
 use Rattle.pv_model.specs.Trace.{quote_byte}
 use Rattle.pv_answers.proofs.escaped.put_bytes.Given as goal
 
--- each round takes a byte off the rest
+-- each iteration removes a byte from the rest
 abbrev pub decreases-loop-first : goal.decreases-loop-first
 decreases-loop-first l = length l.rest
 
--- what the buffer has, with the rest as it will be written, is the text
+-- the buffer, followed by the escaped rest, is the escaped text
 abbrev pub invariant-loop-first : goal.invariant-loop-first
 invariant-loop-first l = record {
   text : l.out.items ++ flat_map quote_byte l.rest ≡ l.initial.out.items ++ flat_map quote_byte l.bytes;

@@ -4,7 +4,7 @@ use Rattle.pv_model.specs.Bytes.{Bytes}
 use Rattle.pv_answers.specs.Texts.{line_front}
 use Rattle.pv_answers.proofs.lines.front_of.Goals as goal
 
--- the front of a number of one digit and of a word of four bytes
+-- the front for a number of one digit and a word of four bytes
 front-of-four : (pid : ℕ) (word : Bytes) → pid < 10 → length word ≡ 4
     → 32 ∷ 32 ∷ 32 ∷ 32 ∷ (48 + pid) ∷ 32 ∷ slice_index_or word 0 0 ∷ slice_index_or word 1 0 ∷ slice_index_or word 2 0 ∷ slice_index_or word 3 0 ∷ 32 ∷ 32 ∷ [] ≡ line_front pid word
 front-of-four pid [] digit four = absurd (omega arith)

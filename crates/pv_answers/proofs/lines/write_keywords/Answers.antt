@@ -1,8 +1,9 @@
-use Rattle.std.proofs.Common.{◌∙◌, refl, sym, subst}
+use Rattle.std.proofs.Common.{◌∙◌, arith, refl, sym, subst, rules}
+use Rattle.std.proofs.lemmas.Grind.{common_steps}
 use Rattle.pv_listing.proofs.Rests.{LeavesRest, rest_all, rest_after, rest_begins}
 use Rattle.pv_model.specs.Answers.Lines.{spaced}
 use Rattle.pv_model.specs.Promise.{all_promises}
-use Rattle.pv_streams.proofs.Telling.{on_err}
+use Rattle.pv_streams.proofs.Reporting.{on_err}
 use Rattle.pv_answers.specs.Texts.{keywords_in}
 use Rattle.pv_answers.proofs.Keywords.{keywords-end, keyword-next, keyword-none}
 use Rattle.pv_answers.proofs.lines.write_keywords.Goals as goal
@@ -11,10 +12,15 @@ use Rattle.pv_answers.proofs.lines.write_keywords.Goals.{then-has+in_ok-write_ke
 pub loop-promise-init : goal.loop-promise-init
 loop-promise-init g c = record { left = rest_all _ _; quiet = refl }
 
-pub returns-in_err-write_keyword-clause-beginning : goal.returns-in_err-write_keyword-clause-beginning
-returns-in_err-write_keyword-clause-beginning g c =
-    let is = keyword-next c.args.promises.0 all_promises c.loop-promise.promise-index _ c.loop-promise-test.true c.loop-promise.is_first (sym c.if-has.ensures) in
-    on_err c.from_residual.result (rest_begins _ _ _ _ _ _ _ c.loop-promise.invariant.left is c.in_err-write_keyword.ensures.beginning)
+pub returns-in_err-write_keyword : goal.returns-in_err-write_keyword
+returns-in_err-write_keyword g c = record {
+  whole = grind (arith, common_steps);
+  prefix =
+      (let is = keyword-next c.args.promises.0 all_promises c.loop-promise.promise-index _ c.loop-promise-test.true c.loop-promise.is_first (sym c.if-has.ensures) in
+      on_err c.from_residual.result (rest_begins _ _ _ _ _ _ _ c.loop-promise.invariant.left is c.in_err-write_keyword.ensures.prefix));
+  failed = search rules;
+  quiet = grind (arith, common_steps);
+}
 
 pub loop-promise-preserved : goal.loop-promise-preserved
 loop-promise-preserved g c =
@@ -37,6 +43,10 @@ loop-promise-preserved g c =
           }
     ]
 
-pub returns-clause-whole : goal.returns-clause-whole
-returns-clause-whole g c =
-    keywords-end c.args.promises.0 all_promises c.loop-promise.promise-index c.loop-promise.is_first _ _ _ c.loop-promise-test.false c.loop-promise.invariant.left
+pub returns : goal.returns
+returns g c = record {
+  whole = (keywords-end c.args.promises.0 all_promises c.loop-promise.promise-index c.loop-promise.is_first _ _ _ c.loop-promise-test.false c.loop-promise.invariant.left);
+  prefix = search rules;
+  failed = search rules;
+  quiet = search rules;
+}

@@ -1,8 +1,8 @@
-use Rattle.std.proofs.Common.{◌∙◌, ap, refl, sym, subst}
+use Rattle.std.proofs.Common.{◌∙◌, ap, refl, sym, subst, rules}
 use Rattle.pv_model.specs.Answers.Lines.{answer_bytes}
 use Rattle.pv_model.specs.Answers.Reach.{reach_lines}
 use Rattle.pv_model.specs.Bytes.{Bytes}
-use Rattle.pv_streams.proofs.Telling.{on_err}
+use Rattle.pv_streams.proofs.Reporting.{on_err}
 use Rattle.pv_listing.proofs.Rests.{LeavesRest, rest_all, rest_after, rest_begins, written_text}
 use Rattle.pv_procs.specs.ProcessTable.{ProcessTable, number_after}
 use Rattle.pv_answers.proofs.Following.{all-after, fewer-after, next-record, none-after}
@@ -19,12 +19,17 @@ loop-pid-init g c =
       quiet = refl;
     }
 
-pub returns-in_err-write_reach_of-clause-beginning : goal.returns-in_err-write_reach_of-clause-beginning
-returns-in_err-write_reach_of-clause-beginning g c =
-    let s = c.args.parts.now in
-    let is = ap (λ (ps : ProcessTable). number_after c.loop-pid.last ps.processes) (sym c.processes.ensures) ∙ sym c.next_number.ensures ∙ c.in-Some.is in
-    let next = next-record c.loop-pid.last c.in-Some.pid s.processes c.invariant.ensures.processes.ascending is in
-    on_err c.from_residual.result (rest_begins _ _ _ _ _ _ _ c.loop-pid.invariant.left (rows-next s c.loop-pid.last c.in-Some.pid next) c.in_err-write_reach_of.ensures.beginning)
+pub returns-in_err-write_reach_of : goal.returns-in_err-write_reach_of
+returns-in_err-write_reach_of g c = record {
+  whole = search rules;
+  prefix =
+      (let s = c.args.parts.now in
+      let is = ap (λ (ps : ProcessTable). number_after c.loop-pid.last ps.processes) (sym c.processes.ensures) ∙ sym c.next_number.ensures ∙ c.in-Some.is in
+      let next = next-record c.loop-pid.last c.in-Some.pid s.processes c.invariant.ensures.processes.ascending is in
+      on_err c.from_residual.result (rest_begins _ _ _ _ _ _ _ c.loop-pid.invariant.left (rows-next s c.loop-pid.last c.in-Some.pid next) c.in_err-write_reach_of.ensures.prefix));
+  failed = search rules;
+  quiet = search rules;
+}
 
 pub loop-pid-smaller : goal.loop-pid-smaller
 loop-pid-smaller g c =
@@ -43,10 +48,15 @@ loop-pid-preserved g c =
       quiet = c.in_ok-write_reach_of.ensures.quiet ∙ c.loop-pid.invariant.quiet;
     }
 
-pub returns-clause-whole : goal.returns-clause-whole
-returns-clause-whole g c =
-    let s = c.args.parts.now in
-    let text = answer_bytes (reach_lines s) in
-    let is = ap (λ (ps : ProcessTable). number_after c.loop-pid.last ps.processes) (sym c.processes.ensures) ∙ sym c.next_number.ensures ∙ c.in_default.is in
-    let none = ap (rows s) (none-after c.loop-pid.last s.processes is) in
-    written_text text _ _ (subst (λ (bs : Bytes). LeavesRest bs text (g.W.Sink.written c.args.out.now) (g.W.Sink.written c.loop-pid.out)) none c.loop-pid.invariant.left)
+pub returns : goal.returns
+returns g c = record {
+  whole =
+      (let s = c.args.parts.now in
+      let text = answer_bytes (reach_lines s) in
+      let is = ap (λ (ps : ProcessTable). number_after c.loop-pid.last ps.processes) (sym c.processes.ensures) ∙ sym c.next_number.ensures ∙ c.in_default.is in
+      let none = ap (rows s) (none-after c.loop-pid.last s.processes is) in
+      written_text text _ _ (subst (λ (bs : Bytes). LeavesRest bs text (g.W.Sink.written c.args.out.now) (g.W.Sink.written c.loop-pid.out)) none c.loop-pid.invariant.left));
+  prefix = search rules;
+  failed = search rules;
+  quiet = search rules;
+}

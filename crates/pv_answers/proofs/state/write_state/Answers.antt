@@ -1,6 +1,6 @@
-use Rattle.std.proofs.Common.{◌∙◌, refl, sym}
+use Rattle.std.proofs.Common.{◌∙◌, refl, sym, rules}
 use Rattle.pv_listing.proofs.Rests.{rest_after, rest_begins}
-use Rattle.pv_streams.proofs.Telling.{on_err}
+use Rattle.pv_streams.proofs.Reporting.{on_err}
 use Rattle.pv_answers.proofs.Following.{next-record, fewer-after}
 use Rattle.pv_answers.proofs.States.{lines-left, lines-next, lines-end}
 use Rattle.pv_answers.proofs.state.write_state.Goals as goal
@@ -8,11 +8,16 @@ use Rattle.pv_answers.proofs.state.write_state.Goals as goal
 pub loop-pid-init : goal.loop-pid-init
 loop-pid-init g c = record { left = lines-left c.args.parts.now _ c.invariant.ensures.processes; quiet = refl }
 
-pub returns-in_err-write_process-clause-beginning : goal.returns-in_err-write_process-clause-beginning
-returns-in_err-write_process-clause-beginning g c =
-    let s = c.args.parts.now in
-    let next = next-record c.loop-pid.last c.in-Some.pid s.processes c.invariant.ensures.processes.ascending (sym (rw c.processes.ensures at c.in-Some.ensures)) in
-    on_err c.from_residual.result (rest_begins _ _ _ _ _ _ _ c.loop-pid.invariant.left (lines-next s c.loop-pid.last c.in-Some.pid next) c.in_err-write_process.ensures.beginning)
+pub returns-in_err-write_process : goal.returns-in_err-write_process
+returns-in_err-write_process g c = record {
+  whole = search rules;
+  prefix =
+      (let s = c.args.parts.now in
+      let next = next-record c.loop-pid.last c.in-Some.pid s.processes c.invariant.ensures.processes.ascending (sym (rw c.processes.ensures at c.in-Some.ensures)) in
+      on_err c.from_residual.result (rest_begins _ _ _ _ _ _ _ c.loop-pid.invariant.left (lines-next s c.loop-pid.last c.in-Some.pid next) c.in_err-write_process.ensures.prefix));
+  failed = search rules;
+  quiet = search rules;
+}
 
 pub loop-pid-smaller : goal.loop-pid-smaller
 loop-pid-smaller g c =
@@ -29,6 +34,10 @@ loop-pid-preserved g c =
       quiet = c.in_ok-write_process.ensures.quiet ∙ c.loop-pid.invariant.quiet;
     }
 
-pub returns-clause-whole : goal.returns-clause-whole
-returns-clause-whole g c =
-    lines-end c.args.parts.now c.loop-pid.last _ _ _ (sym (rw c.processes.ensures at c.in_default.ensures)) c.loop-pid.invariant.left
+pub returns : goal.returns
+returns g c = record {
+  whole = (lines-end c.args.parts.now c.loop-pid.last _ _ _ (sym (rw c.processes.ensures at c.in_default.ensures)) c.loop-pid.invariant.left);
+  prefix = search rules;
+  failed = search rules;
+  quiet = search rules;
+}

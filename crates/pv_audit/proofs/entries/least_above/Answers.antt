@@ -29,7 +29,7 @@ returns-in_default c =
     let own = c.lesser-least.ensures ∙ ap (lesser c.loop-climbed.least) (c.with_c.ensures ∙ ap (passing (λ permissions. permissions.c) table) c.directory_entry-own.ensures.value) in
     let top = more-top t table left c.loop-climbed.at c.loop-climbed.least (sym c.above.ensures ∙ c.in_default.is) in
     let so_far = c.loop-climbed.invariant.1 (suc left) (omega (arith, c.loop-climbed-test.true)) in
-    own ∙ sym top ∙ so_far ∙ all_up t table inodes c.args.directory c.sizes-climbed-end.ensures.standing.well_formed c.sizes-climbed-end.ensures.inodes
+    own ∙ sym top ∙ so_far ∙ all_up t table inodes c.args.directory c.sizes-climbed-end.ensures.present.well_formed c.sizes-climbed-end.ensures.inodes
 
 pub loop-climbed-preserved : goal.loop-climbed-preserved
 loop-climbed-preserved c =
@@ -37,7 +37,7 @@ loop-climbed-preserved c =
     let table = entries_of_table c.args.table.now.table in
     let up = sym c.above.ensures ∙ c.in-Some.is in
     let own = c.lesser-least.ensures ∙ ap (lesser c.loop-climbed.least) (c.with_c.ensures ∙ ap (passing (λ permissions. permissions.c) table) c.directory_entry-own.ensures.value) in (
-      up-directory t c.sizes-climbed-end.ensures.standing.well_formed c.loop-climbed.at c.in-Some.up up,
+      up-directory t c.sizes-climbed-end.ensures.present.well_formed c.loop-climbed.at c.in-Some.up up,
       λ left total.
           ap (λ (o : Option ℕ). lesser o (least_own table (ancestors_within t left c.in-Some.up))) own
           ∙ sym (more-up t table left c.loop-climbed.at c.loop-climbed.least c.in-Some.up up) ∙ c.loop-climbed.invariant.1 (suc left) (omega (arith, total)),
@@ -50,4 +50,4 @@ returns c =
     let inodes = c.sizes-climbed-end.result.inodes in
     sym (own-none t table c.loop-climbed.at c.loop-climbed.least)
     ∙ c.loop-climbed.invariant.1 0 (omega (arith, c.loop-climbed.auto._climbed-end, c.loop-climbed-test.false))
-    ∙ all_up t table inodes c.args.directory c.sizes-climbed-end.ensures.standing.well_formed c.sizes-climbed-end.ensures.inodes
+    ∙ all_up t table inodes c.args.directory c.sizes-climbed-end.ensures.present.well_formed c.sizes-climbed-end.ensures.inodes

@@ -5,7 +5,7 @@ use Rattle.pv_audit.specs.Findings.{lesser}
 use Rattle.pv_audit.proofs.TableEntries.{least_own}
 use Rattle.pv_audit.proofs.entries.least_above.Given as goal
 
--- it is at a directory: what was found, and what the steps that are left find, is what all of them find
+-- the directory is valid, and the entry found so far, with the rest of the climb, gives the result
 abbrev pub invariant-loop-climbed : goal.invariant-loop-climbed
 invariant-loop-climbed l =
     (is_directory_at l.tree.tree l.at ≡ true)

@@ -3,13 +3,13 @@ use Rattle.pv_model.specs.State.{process_at}
 use Rattle.pv_model.specs.Tree.{names_of}
 use Rattle.pv_audit.specs.declared.suspects.Suspect.{Suspect}
 use Rattle.pv_audit.specs.Findings.{noted_by, suspect}
-use Rattle.pv_audit.specs.Reasons.{kept_at}
-use Rattle.pv_audit.proofs.FirstReasons.{kept-frozen}
+use Rattle.pv_audit.specs.Reasons.{preserved_at}
+use Rattle.pv_audit.proofs.FirstReasons.{preserved-frozen}
 use Rattle.pv_audit.proofs.FoundOnes.{noted-pid}
 use Rattle.pv_audit.proofs.reasons.frozen_to.Goals as goal
 
-pub is_kept_from-requires : goal.is_kept_from-requires
-is_kept_from-requires c =
+pub is_preserved_from-requires : goal.is_preserved_from-requires
+is_preserved_from-requires c =
     let s = c.args.parts.now in
     let names = names_of s.tree c.args.node in
     let all = c.note_names.ensures ∙ ap (λ (x : Suspect). map (noted_by s names) (x ∷ [])) c.new.ensures in
@@ -20,4 +20,4 @@ returns c = λ p at.
     let s = c.args.parts.now in
     let names = names_of s.tree c.args.node in
     let all = c.note_names.ensures ∙ ap (λ (x : Suspect). map (noted_by s names) (x ∷ [])) c.new.ensures in
-    c.is_kept_from.ensures ∙ ap (λ (xs : List Suspect). kept_at s c.args.node (get_or xs 0 (suspect 0))) all ∙ kept-frozen s p c.args.node c.args.pid at
+    c.is_preserved_from.ensures ∙ ap (λ (xs : List Suspect). preserved_at s c.args.node (get_or xs 0 (suspect 0))) all ∙ preserved-frozen s p c.args.node c.args.pid at

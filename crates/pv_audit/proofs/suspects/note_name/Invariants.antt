@@ -2,6 +2,6 @@ use Rattle.std.proofs.Common.{◌≡◌, ◌++◌, map, take, drop}
 use Rattle.pv_audit.specs.Findings.{note_of}
 use Rattle.pv_audit.proofs.suspects.note_name.Given as goal
 
--- as far as it went
+-- the processes up to k are noted
 abbrev pub invariant-loop-k : goal.invariant-loop-k
 invariant-loop-k l = l.suspects ≡ map (note_of l.parts (l.directory, l.name)) (take l.k l.initial.suspects) ++ drop l.k l.initial.suspects

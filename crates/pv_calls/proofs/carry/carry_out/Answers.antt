@@ -8,15 +8,15 @@ use Rattle.pv_model.specs.Answer.{at_next_line}
 use Rattle.pv_model.specs.Attempt.{refused}
 use Rattle.pv_model.specs.State.{with_process}
 use Rattle.pv_laws_states.proofs.Processes.{update-is}
-use Rattle.pv_calls.proofs.Carrying.{answer-gone, answer-allowed-if, answer-refused, killed-so, loads-if, next-live, decided, find-end, told-tree, live-of, gone-of}
+use Rattle.pv_calls.proofs.Carrying.{answer-gone, answer-allowed-if, answer-refused, killed-so, loads-if, next-live, decided, find-end, reported-tree, live-of, gone-of}
 use Rattle.pv_calls.proofs.carry.carry_out.Goals as goal
 
 pub returns-in_default-clause-answered : goal.returns-in_default-clause-answered
 returns-in_default-clause-answered g c =
     answer-gone c.args.system.now.parts c.args.pid (call_of c.args.call) (gone-of c.args.system.now.parts c.args.pid (c.live_record.ensures ∙ ap option_copied c.in_default.is))
 
-pub tell-requires-clause-live : goal.tell-requires-clause-live
-tell-requires-clause-live g c =
+pub report-requires-clause-live : goal.report-requires-clause-live
+report-requires-clause-live g c =
     let has = c.live_record.ensures ∙ ap option_copied c.in-Some.is in
     let live = live-of c.args.system.now.parts c.args.pid c.in-Some.«record».now has in
     next-live c.args.system.now.parts c.advance.new.self c.args.pid c.advance.ensures (subst IsSome (sym live.1) refl)
@@ -54,7 +54,7 @@ returns-in-Refuse-clause-answered g c =
     let live = live-of c.args.system.now.parts c.args.pid c.in-Some.«record».now has in
     answer-refused c.args.system.now.parts c.args.pid (call_of c.args.call) live.0 live.1 c.in-Refuse.promise
     (decided c.args.system.now.parts c.args.pid c.in-Some.«record».now (call_of c.args.call) c.decide.result has c.decide.ensures live.0 live.1 ∙ c.in-Refuse.is)
-    ∙ c.tell.ensures.told c.args.system.now.parts (with_process c.args.system.now.parts c.args.pid (at_next_line live.0)) (at_next_line live.0) (refused 0 ENOSYS (ByPromise c.in-Refuse.promise)) refl
+    ∙ c.report.ensures.reported c.args.system.now.parts (with_process c.args.system.now.parts c.args.pid (at_next_line live.0)) (at_next_line live.0) (refused 0 ENOSYS (ByPromise c.in-Refuse.promise)) refl
     (c.advance.ensures ∙ update-is c.args.system.now.parts c.args.pid at_next_line live.0 live.1)
 
 pub returns-in-Refuse-clause-agrees : goal.returns-in-Refuse-clause-agrees
@@ -62,6 +62,6 @@ returns-in-Refuse-clause-agrees g c =
     let has = c.live_record.ensures ∙ ap option_copied c.in-Some.is in
     let live = live-of c.args.system.now.parts c.args.pid c.in-Some.«record».now has in
     let next = with_process c.args.system.now.parts c.args.pid (at_next_line live.0) in
-    let told = c.tell.ensures.told c.args.system.now.parts next (at_next_line live.0) (refused 0 ENOSYS (ByPromise c.in-Refuse.promise)) refl (c.advance.ensures ∙ update-is c.args.system.now.parts c.args.pid at_next_line live.0 live.1) in
+    let reported = c.report.ensures.reported c.args.system.now.parts next (at_next_line live.0) (refused 0 ENOSYS (ByPromise c.in-Refuse.promise)) refl (c.advance.ensures ∙ update-is c.args.system.now.parts c.args.pid at_next_line live.0 live.1) in
     subst (λ t. g.L.Lookup.agrees c.args.system.now.lookup (find_entry t))
-    (sym (told-tree c.args.system.now.parts next c.args.pid (at_next_line live.0) (record { walks = 0; errno = ENOSYS; cause = ByPromise c.in-Refuse.promise }) c.tell.new.parts c.tell.result told)) c.requires.agrees
+    (sym (reported-tree c.args.system.now.parts next c.args.pid (at_next_line live.0) (record { walks = 0; errno = ENOSYS; cause = ByPromise c.in-Refuse.promise }) c.report.new.parts c.report.result reported)) c.requires.agrees

@@ -10,7 +10,7 @@ use Rattle.pv_model.specs.Calls.Processes.{fork, wait}
 use Rattle.pv_model.specs.Grammar.Programs.{program_of}
 use Rattle.pv_model.specs.declared.call.Call.TheVariants.{Exit}
 use Rattle.pv_model.specs.Tree.{find_entry}
-use Rattle.pv_calls.specs.Calls.{goes_on}
+use Rattle.pv_calls.specs.Calls.{continues}
 use Rattle.pv_calls_plain.specs.Performed.{IsAnswered, IsPerformed}
 use Rattle.pv_calls.proofs.Performing.{names-answered, names-performed, quiet, quiet-wait, still, stays-fork, stays-pledge, stays-close, stays-dup, stays-dup2, stays-read, stays-write, stays-lseek, stays-fstat, stays-ftruncate, stays-getdents, stays-fchdir, word-back}
 use Rattle.pv_calls.proofs.carry.dispatch.Goals as goal
@@ -23,8 +23,8 @@ returns-in-Exit-clause-replied g c = rw c.in-Exit.is
     (subst (λ z. IsAnswered (λ s me. effect program_of s c.args.pid me (Exit z)) c.args.system.now.parts c.args.pid c.exit.new.parts c.exit.result)
     (word-back c.in-Exit.code (subst (λ x. is_call (call_of x) ≡ true) c.in-Exit.is c.requires.call)) c.exit.ensures.performed)
 
-pub wait-requires-clause-goes_on : goal.wait-requires-clause-goes_on
-wait-requires-clause-goes_on g c = subst (λ x. goes_on c.args.system.now.parts c.args.pid (call_of x)) c.in-Wait.is c.requires.goes_on
+pub wait-requires-clause-continues : goal.wait-requires-clause-continues
+wait-requires-clause-continues g c = subst (λ x. continues c.args.system.now.parts c.args.pid (call_of x)) c.in-Wait.is c.requires.continues
 
 pub returns-in-Wait-clause-replied : goal.returns-in-Wait-clause-replied
 unfolding effect
@@ -173,7 +173,7 @@ unfolding effect
 returns-in-Symlink-clause-replied g c = rw c.in-Symlink.is
     (subst (λ (p : Bytes). IsPerformed (λ s me. symlink s c.args.pid me p c.in-Symlink.path.now) c.args.system.now.parts c.args.pid c.symlink.new.system.parts c.symlink.result) c.as_slice.ensures.value c.symlink.ensures.performed)
 
--- ---- names stay where no path is walked
+-- ---- names stay if no path is walked
 
 pub returns-in-Exit-clause-agrees : goal.returns-in-Exit-clause-agrees
 unfolding effect

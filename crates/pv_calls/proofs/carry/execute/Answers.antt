@@ -6,7 +6,7 @@ use Rattle.pv_model.specs.Calls.Processes.{execve}
 use Rattle.pv_model.specs.Grammar.Programs.{program_of}
 use Rattle.pv_model.specs.State.{process_at, with_process}
 use Rattle.pv_laws_states.proofs.Processes.{update-is}
-use Rattle.pv_calls_state.specs.Attempts.{trimmed}
+use Rattle.pv_calls_state.specs.Attempts.{collected}
 use Rattle.pv_calls_path.specs.Execve.{Executes}
 use Rattle.pv_calls_state.proofs.Alone.{some-at}
 use Rattle.pv_calls.proofs.Carrying.{next-live}
@@ -15,16 +15,16 @@ use Rattle.pv_calls.proofs.Living.{lives}
 use Rattle.pv_calls.proofs.Performing.{performed-live}
 use Rattle.pv_calls.proofs.carry.execute.Goals as goal
 
-pub tell-requires-clause-live : goal.tell-requires-clause-live
+pub report-requires-clause-live : goal.report-requires-clause-live
 unfolding effect
-tell-requires-clause-live g c =
+report-requires-clause-live g c =
     let s = c.args.system.now.parts in
     let mine = some-at (process_at s c.args.pid) c.requires.live in
-    performed-live s c.execve.new.system.parts c.args.pid (Ok c.in-Ok.told) (execve s c.args.pid mine.0 program_of c.args.path.now) (c.in-Ok.ensures.performed mine.0 mine.1) tt c.requires.live
+    performed-live s c.execve.new.system.parts c.args.pid (Ok c.in-Ok.reported) (execve s c.args.pid mine.0 program_of c.args.path.now) (c.in-Ok.ensures.performed mine.0 mine.1) tt c.requires.live
     (lives s c.args.pid mine.0 mine.1 c.requires.whole (Execve c.args.path.now))
 
-pub tell-requires-in-Err-Refused-clause-live : goal.tell-requires-in-Err-Refused-clause-live
-tell-requires-in-Err-Refused-clause-live g c =
+pub report-requires-in-Err-Refused-clause-live : goal.report-requires-in-Err-Refused-clause-live
+report-requires-in-Err-Refused-clause-live g c =
     next-live c.execve.new.system.parts c.advance.new.self c.args.pid c.advance.ensures (subst (λ x. IsSome (process_at x c.args.pid)) (sym c.in-Err-Refused.ensures.unchanged) c.requires.live)
 
 pub returns-in-Ok-clause-carried : goal.returns-in-Ok-clause-carried
@@ -32,16 +32,16 @@ unfolding effect
 returns-in-Ok-clause-carried g c = λ me at.
     let s = c.args.system.now.parts in
     let next = with_process s c.args.pid (at_next_line me) in
-    c.tell.ensures.told s next (at_next_line me) (execve next c.args.pid (at_next_line me) program_of c.args.path.now)
-    (ap trimmed (execve-next s c.args.pid me c.args.path.now) ∙ c.in-Ok.ensures.performed me at) tt
+    c.report.ensures.reported s next (at_next_line me) (execve next c.args.pid (at_next_line me) program_of c.args.path.now)
+    (ap collected (execve-next s c.args.pid me c.args.path.now) ∙ c.in-Ok.ensures.performed me at) tt
 
 pub returns-in-Err-Refused-clause-carried : goal.returns-in-Err-Refused-clause-carried
 unfolding effect
 returns-in-Err-Refused-clause-carried g c = λ me at.
     let s = c.args.system.now.parts in
     let next = with_process s c.args.pid (at_next_line me) in
-    c.tell-in-Err-Refused.ensures.told s next (at_next_line me) (execve next c.args.pid (at_next_line me) program_of c.args.path.now)
-    (ap trimmed (execve-next s c.args.pid me c.args.path.now) ∙ subst (λ f. Executes s c.args.pid me c.args.path.now c.execve.new.system.parts (Err f)) c.in-Err-Refused.field-0-is (c.in-Err-Refused.ensures.performed me at))
+    c.report-in-Err-Refused.ensures.reported s next (at_next_line me) (execve next c.args.pid (at_next_line me) program_of c.args.path.now)
+    (ap collected (execve-next s c.args.pid me c.args.path.now) ∙ subst (λ f. Executes s c.args.pid me c.args.path.now c.execve.new.system.parts (Err f)) c.in-Err-Refused.field-0-is (c.in-Err-Refused.ensures.performed me at))
     (c.advance.ensures ∙ ap (λ x. update x c.args.pid at_next_line) c.in-Err-Refused.ensures.unchanged ∙ update-is s c.args.pid at_next_line me at)
 
 pub returns-in-Err-Memory-clause-memory : goal.returns-in-Err-Memory-clause-memory

@@ -4,12 +4,12 @@ use Rattle.pv_model.specs.CallRef.{call_of}
 use Rattle.pv_model.specs.Grammar.Programs.{program_of}
 use Rattle.pv_model.specs.Tree.{find_entry}
 use Rattle.pv_calls.proofs.Living.{lives}
-use Rattle.pv_calls.proofs.Performing.{told-live}
+use Rattle.pv_calls.proofs.Performing.{reported-live}
 use Rattle.pv_calls.proofs.carry.perform.Goals as goal
 
-pub tell-requires : goal.tell-requires
-tell-requires g c = record {
-  live = told-live (λ s me. effect program_of s c.args.pid me (call_of c.args.call)) c.args.system.now.parts c.dispatch.new.system.parts c.args.pid c.in-Performed.performed c.in-Performed.ensures.replied c.requires.live
+pub report-requires : goal.report-requires
+report-requires g c = record {
+  live = reported-live (λ s me. effect program_of s c.args.pid me (call_of c.args.call)) c.args.system.now.parts c.dispatch.new.system.parts c.args.pid c.in-Performed.performed c.in-Performed.ensures.replied c.requires.live
       (λ me at. lives c.args.system.now.parts c.args.pid me at c.requires.whole (call_of c.args.call));
   small = c.in-Performed.ensures.replied.small;
 }
@@ -17,8 +17,8 @@ tell-requires g c = record {
 pub returns-in-Performed-clause-performed : goal.returns-in-Performed-clause-performed
 returns-in-Performed-clause-performed g c = λ before me at.
     let is = c.in-Performed.ensures.replied in
-    c.tell.ensures.told before c.args.system.now.parts me (effect program_of c.args.system.now.parts c.args.pid me (call_of c.args.call)) (is.as_defined me at) is.unchanged
+    c.report.ensures.reported before c.args.system.now.parts me (effect program_of c.args.system.now.parts c.args.pid me (call_of c.args.call)) (is.as_defined me at) is.unchanged
 
 pub returns-in-Performed-clause-agrees : goal.returns-in-Performed-clause-agrees
 returns-in-Performed-clause-agrees g c =
-    subst (λ t. g.L.Lookup.agrees c.dispatch.new.system.lookup (find_entry t)) (sym c.tell.ensures.tree) c.in-Performed.ensures.agrees
+    subst (λ t. g.L.Lookup.agrees c.dispatch.new.system.lookup (find_entry t)) (sym c.report.ensures.tree) c.in-Performed.ensures.agrees

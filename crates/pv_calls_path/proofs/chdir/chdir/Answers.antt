@@ -1,9 +1,9 @@
 use Rattle.std.proofs.Common.{◌≡◌, ◌∙◌, ap, sym, true, false, arith, refl}
 use Rattle.std.proofs.lemmas.Result.{err_from_is_err_and}
-use Rattle.pv_calls_state.specs.Attempts.{trimmed}
+use Rattle.pv_calls_state.specs.Attempts.{collected}
 use Rattle.pv_calls_state.specs.Changes.{with_directory}
 use Rattle.pv_model.specs.Answer.{update_live}
-use Rattle.pv_model.specs.Held.{trim}
+use Rattle.pv_model.specs.Held.{collect}
 use Rattle.pv_model.specs.State.{with_process}
 use Rattle.pv_model.specs.Tree.{find_entry, is_directory_at}
 use Rattle.pv_calls_path.proofs.Naming.{alike_update}
@@ -16,7 +16,7 @@ pub returns-in_err-node-clause-performed : goal.returns-in_err-node-clause-perfo
 returns-in_err-node-clause-performed g c =
     let p = err_from_is_err_and c.from_residual.result c.from_residual.ensures.1 in
     record {
-      as_defined = λ me at. rw (p.1, p.2) (ap trimmed (missed-as c.args.system.now.parts me me.directory c.chdir-walk.ensures _ (c.in_err-node.ensures.missed me at) _));
+      as_defined = λ me at. rw (p.1, p.2) (ap collected (missed-as c.args.system.now.parts me me.directory c.chdir-walk.ensures _ (c.in_err-node.ensures.missed me at) _));
       unchanged = rw p.1 refl;
       small = rw p.1 tt;
     }
@@ -27,7 +27,7 @@ returns-then-not-is_directory-clause-performed g c =
     let n = c.in_ok-node.node in
     let other : is_directory_at s.tree n ≡ false = ap (λ t. is_directory_at t n) (sym c.tree.ensures) ∙ sym c.is_directory.ensures ∙ c.if-not-is_directory.true in
     record {
-      as_defined = λ me at. rw c.refusal.ensures (ap trimmed (chdir_refused s c.args.pid me c.args.path.now n (found-as s me me.directory c.chdir-walk.ensures n (c.in_ok-node.ensures.found me at)) other));
+      as_defined = λ me at. rw c.refusal.ensures (ap collected (chdir_refused s c.args.pid me c.args.path.now n (found-as s me me.directory c.chdir-walk.ensures n (c.in_ok-node.ensures.found me at)) other));
       unchanged = refl;
       small = tt;
     }
@@ -39,9 +39,9 @@ returns-clause-performed g c =
     let directory : is_directory_at s.tree n ≡ true = ap (λ t. is_directory_at t n) (sym c.tree.ensures) ∙ sym c.is_directory.ensures ∙ c.if-not-is_directory.false in
     record {
       as_defined = λ me at. rw c.answer_of.ensures
-          (leaves _ (trim (with_process s c.args.pid (with_directory n me))) c.set_directory.new.self
-          (ap trimmed (chdir_goes s c.args.pid me c.args.path.now n (found-as s me me.directory c.chdir-walk.ensures n (c.in_ok-node.ensures.found me at)) directory))
-          (ap (λ o. trim (update_live s c.args.pid (with_directory n) o)) (sym at) ∙ sym c.set_directory.ensures));
+          (leaves _ (collect (with_process s c.args.pid (with_directory n me))) c.set_directory.new.self
+          (ap collected (chdir_goes s c.args.pid me c.args.path.now n (found-as s me me.directory c.chdir-walk.ensures n (c.in_ok-node.ensures.found me at)) directory))
+          (ap (λ o. collect (update_live s c.args.pid (with_directory n) o)) (sym at) ∙ sym c.set_directory.ensures));
       unchanged = rw c.answer_of.ensures tt;
       small = rw c.answer_of.ensures (omega arith);
     }

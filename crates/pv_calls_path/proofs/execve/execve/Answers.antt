@@ -1,13 +1,13 @@
 use Rattle.std.specs.Result.{result_ok}
 use Rattle.std.proofs.Common.{◌≡◌, ◌∙◌, rules, None, Some, option_map, refl, ap, sym}
 use Rattle.pv_dirs.specs.Trees.{sort_of}
-use Rattle.pv_calls_state.specs.Attempts.{trimmed}
+use Rattle.pv_calls_state.specs.Attempts.{collected}
 use Rattle.pv_model.specs.declared.kind.Kind.TheVariants.{Executable}
 use Rattle.pv_model.specs.Answer.{update_live}
 use Rattle.pv_model.specs.Calls.Processes.{executable_bytes, with_program}
 use Rattle.pv_model.specs.Effect.{bytes_of}
 use Rattle.pv_model.specs.Grammar.Programs.{program_of, read_program}
-use Rattle.pv_model.specs.Held.{trim}
+use Rattle.pv_model.specs.Held.{collect}
 use Rattle.pv_model.specs.Walks.{execve_walk}
 use Rattle.pv_model.specs.State.{with_process}
 use Rattle.pv_model.specs.Tree.{find_entry, node_at}
@@ -23,7 +23,7 @@ kind-requires g c =
     rw c.tree.ensures (place-there c.args.system.now.parts.tree c.requires.whole.tree c.in-Ok.found.place c.in-Ok.found.node c.in-Ok.ensures.fine c.in-Ok.ensures.there)
 
 pub returns-in-Err-clause-performed : goal.returns-in-Err-clause-performed
-returns-in-Err-clause-performed g c = λ me at. ap trimmed (missed-as c.args.system.now.parts me me.directory c.execve-walk.ensures _ (c.in-Err.ensures.missed me at) _)
+returns-in-Err-clause-performed g c = λ me at. ap collected (missed-as c.args.system.now.parts me me.directory c.execve-walk.ensures _ (c.in-Err.ensures.missed me at) _)
 
 pub returns-then-ne-clause-performed : goal.returns-then-ne-clause-performed
 returns-then-ne-clause-performed g c =
@@ -32,7 +32,7 @@ returns-then-ne-clause-performed g c =
     let none : executable_bytes (node_at s.tree n) ≡ None =
     ap (λ t. executable_bytes (node_at t n)) (sym c.tree.ensures)
     ∙ no_bytes (node_at c.tree.result.now.tree n) c.kind.result c.ne.result c.kind.ensures (λ same. c.ne.ensures ∙ rw same refl) c.if-ne.true in
-    λ me at. rw c.refused.ensures (ap trimmed (execve_refused s c.args.pid me c.args.path.now n (found_there s me me.directory (execve_walk c.args.path.now) c.in-Ok.found.place n (reached-as s me me.directory c.execve-walk.ensures c.in-Ok.found.place (c.in-Ok.ensures.reached me at)) c.in-Ok.ensures.there) none))
+    λ me at. rw c.refused.ensures (ap collected (execve_refused s c.args.pid me c.args.path.now n (found_there s me me.directory (execve_walk c.args.path.now) c.in-Ok.found.place n (reached-as s me me.directory c.execve-walk.ensures c.in-Ok.found.place (c.in-Ok.ensures.reached me at)) c.in-Ok.ensures.there) none))
 
 pub returns-in-Ok-read_program-clause-performed : goal.returns-in-Ok-read_program-clause-performed
 returns-in-Ok-read_program-clause-performed g c =
@@ -41,12 +41,12 @@ returns-in-Ok-read_program-clause-performed g c =
     let executable : c.kind.result ≡ Executable = search rules in
     let bytes = bytes_of (node_at s.tree n) in
     let own : executable_bytes (node_at s.tree n) ≡ Some bytes = own_bytes (node_at s.tree n) c.kind.result (ap (λ t. option_map sort_of (node_at t n)) (sym c.tree.ensures) ∙ c.kind.ensures) executable in
-    let spelled : program_of bytes ≡ Some c.in-Ok-read_program.program =
+    let encoded : program_of bytes ≡ Some c.in-Ok-read_program.program =
     ap result_ok (ap (λ t. read_program (bytes_of (node_at t n))) (sym c.tree-2.ensures) ∙ c.in-Ok-read_program.ensures) in
     λ me at.
-    leaves _ (trim (with_process s c.args.pid (with_program s c.args.pid me c.in-Ok-read_program.program))) c.load.new.self
-    (ap trimmed (execve_goes s c.args.pid me c.args.path.now n (found_there s me me.directory (execve_walk c.args.path.now) c.in-Ok.found.place n (reached-as s me me.directory c.execve-walk.ensures c.in-Ok.found.place (c.in-Ok.ensures.reached me at)) c.in-Ok.ensures.there) bytes own c.in-Ok-read_program.program spelled))
-    (ap (λ o. trim (update_live s c.args.pid (λ p. with_program s c.args.pid p c.in-Ok-read_program.program) o)) (sym at) ∙ sym c.load.ensures)
+    leaves _ (collect (with_process s c.args.pid (with_program s c.args.pid me c.in-Ok-read_program.program))) c.load.new.self
+    (ap collected (execve_goes s c.args.pid me c.args.path.now n (found_there s me me.directory (execve_walk c.args.path.now) c.in-Ok.found.place n (reached-as s me me.directory c.execve-walk.ensures c.in-Ok.found.place (c.in-Ok.ensures.reached me at)) c.in-Ok.ensures.there) bytes own c.in-Ok-read_program.program encoded))
+    (ap (λ o. collect (update_live s c.args.pid (λ p. with_program s c.args.pid p c.in-Ok-read_program.program) o)) (sym at) ∙ sym c.load.ensures)
 
 pub returns-in-Err-Line-clause-performed : goal.returns-in-Err-Line-clause-performed
 returns-in-Err-Line-clause-performed g c =
@@ -57,7 +57,7 @@ returns-in-Err-Line-clause-performed g c =
     let own : executable_bytes (node_at s.tree n) ≡ Some bytes = own_bytes (node_at s.tree n) c.kind.result (ap (λ t. option_map sort_of (node_at t n)) (sym c.tree.ensures) ∙ c.kind.ensures) executable in
     let none : program_of bytes ≡ None =
     ap result_ok (ap (λ t. read_program (bytes_of (node_at t n))) (sym c.tree-2.ensures) ∙ unspelled c.in-Err-Line.field-0 c.in-Err-Line.field-0-0 c.in-Err-Line.field-0-1 _ c.in-Err-Line.field-0-is c.in-Err-Line.ensures) in
-    λ me at. rw c.refused-in-Err-Line.ensures (ap trimmed (execve_unspelled s c.args.pid me c.args.path.now n (found_there s me me.directory (execve_walk c.args.path.now) c.in-Ok.found.place n (reached-as s me me.directory c.execve-walk.ensures c.in-Ok.found.place (c.in-Ok.ensures.reached me at)) c.in-Ok.ensures.there) bytes own none))
+    λ me at. rw c.refused-in-Err-Line.ensures (ap collected (execve_unspelled s c.args.pid me c.args.path.now n (found_there s me me.directory (execve_walk c.args.path.now) c.in-Ok.found.place n (reached-as s me me.directory c.execve-walk.ensures c.in-Ok.found.place (c.in-Ok.ensures.reached me at)) c.in-Ok.ensures.there) bytes own none))
 
 pub returns-in-Err-Memory-clause-performed : goal.returns-in-Err-Memory-clause-performed
 returns-in-Err-Memory-clause-performed g c =

@@ -9,7 +9,7 @@ use Rattle.pv_model.specs.Effect.{returns_bytes}
 use Rattle.pv_model.specs.State.{process_at}
 use Rattle.pv_model.specs.Tree.{find_entry, node_at}
 use Rattle.pv_calls_state.proofs.Alone.{some-at}
-use Rattle.pv_calls_path.proofs.LookCalls.{link_rest, names-refused, names-told, readlink-is, readlink-not, text-short, whole-text}
+use Rattle.pv_calls_path.proofs.LookCalls.{link_rest, names-refused, names-reported, readlink-is, readlink-not, text-short, whole-text}
 use Rattle.pv_calls_path.proofs.Reaching.{found-as, missed-as}
 use Rattle.pv_calls_path.proofs.looking.readlink.Goals as goal
 
@@ -18,16 +18,16 @@ returns-in-Err-clause-performed g c = λ before me at.
     let s = c.args.system.now.parts in
     let r = c.in-Err.refused in
     ap (answer_by_attempt before s c.args.pid me) (missed-as s me me.directory c.readlink-walk.ensures r (c.in-Err.ensures.missed me at) (λ _. link_rest s))
-    ∙ c.tell.ensures.told before s me (refused r.walks r.errno r.cause) refl refl
+    ∙ c.report.ensures.reported before s me (refused r.walks r.errno r.cause) refl refl
 
 pub returns-in-Err-clause-agrees : goal.returns-in-Err-clause-agrees
 returns-in-Err-clause-agrees g c =
     let s = c.args.system.now.parts in
     let r = c.in-Err.refused in
-    let new = c.tell.new.parts in
+    let new = c.report.new.parts in
     let me = some-at (process_at s c.args.pid) c.requires.live in
     g.met.L.Lookup.same_answers c.reach_node.new.lookup (find_entry s.tree) (find_entry new.tree) c.in-Err.ensures.agrees
-    (names-refused s c.args.pid me.0 r new c.tell.result (c.tell.ensures.told s s me.0 (refused r.walks r.errno r.cause) refl refl))
+    (names-refused s c.args.pid me.0 r new c.report.result (c.report.ensures.reported s s me.0 (refused r.walks r.errno r.cause) refl refl))
 
 pub returns-then-not-is_link-clause-performed : goal.returns-then-not-is_link-clause-performed
 returns-then-not-is_link-clause-performed g c = λ before me at.
@@ -35,17 +35,17 @@ returns-then-not-is_link-clause-performed g c = λ before me at.
     let n = c.in-Ok.node in
     let other : is_link (node_at s.tree n) ≡ false = ap (λ t. is_link (node_at t n)) (sym c.tree.ensures) ∙ sym c.is_link.ensures ∙ c.if-not-is_link.true in
     ap (answer_by_attempt before s c.args.pid me) (readlink-not s c.args.pid me c.args.path.now n (found-as s me me.directory c.readlink-walk.ensures n (c.in-Ok.ensures.found me at)) other)
-    ∙ c.tell-then-not-is_link.ensures.told before s me (refused 1 EINVAL Plain) (rw c.refusal.ensures refl) refl
+    ∙ c.report-then-not-is_link.ensures.reported before s me (refused 1 EINVAL Plain) (rw c.refusal.ensures refl) refl
 
 pub returns-then-not-is_link-clause-agrees : goal.returns-then-not-is_link-clause-agrees
 returns-then-not-is_link-clause-agrees g c =
     let s = c.args.system.now.parts in
     let r = c.refusal.result in
-    let new = c.tell-then-not-is_link.new.parts in
+    let new = c.report-then-not-is_link.new.parts in
     let me = some-at (process_at s c.args.pid) c.requires.live in
     g.met.L.Lookup.same_answers c.reach_node.new.lookup (find_entry s.tree) (find_entry new.tree) c.in-Ok.ensures.agrees
-    (names-refused s c.args.pid me.0 r new c.tell-then-not-is_link.result
-    (c.tell-then-not-is_link.ensures.told s s me.0 (refused r.walks r.errno r.cause) refl refl))
+    (names-refused s c.args.pid me.0 r new c.report-then-not-is_link.result
+    (c.report-then-not-is_link.ensures.reported s s me.0 (refused r.walks r.errno r.cause) refl refl))
 
 pub returns-clause-performed : goal.returns-clause-performed
 returns-clause-performed g c = λ before me at.
@@ -58,12 +58,12 @@ returns-clause-performed g c = λ before me at.
     ap (answer_by_attempt before s c.args.pid me)
     (readlink-is s c.args.pid me c.args.path.now n (found-as s me me.directory c.readlink-walk.ensures n (c.in-Ok.ensures.found me at)) link
     ∙ ap₂ (λ k bs. done 1 (s, returns_bytes k bs)) (ap length (sym same) ∙ sym read.0) (sym same ∙ sym read.1))
-    ∙ c.tell_bytes.ensures before s s me c.invariant.ensures.trimmed
+    ∙ c.report_bytes.ensures before s s me c.invariant.ensures.collected
 
 pub returns-clause-agrees : goal.returns-clause-agrees
 returns-clause-agrees g c =
     let s = c.args.system.now.parts in
-    let new = c.tell_bytes.new.parts in
+    let new = c.report_bytes.new.parts in
     let me = some-at (process_at s c.args.pid) c.requires.live in
     g.met.L.Lookup.same_answers c.reach_node.new.lookup (find_entry s.tree) (find_entry new.tree) c.in-Ok.ensures.agrees
-    (names-told s c.requires.whole c.args.pid me.0 1 _ _ new c.tell_bytes.result (c.tell_bytes.ensures s s s me.0 c.invariant.ensures.trimmed))
+    (names-reported s c.requires.whole c.args.pid me.0 1 _ _ new c.report_bytes.result (c.report_bytes.ensures s s s me.0 c.invariant.ensures.collected))

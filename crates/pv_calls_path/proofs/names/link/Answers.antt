@@ -1,6 +1,6 @@
 use Rattle.std.proofs.Common.{◌≡◌, ◌∙◌, ap, sym, false, is_some, refl}
 use Rattle.std.proofs.lemmas.Result.{err_from_is_err_and}
-use Rattle.pv_calls_state.specs.Attempts.{trimmed}
+use Rattle.pv_calls_state.specs.Attempts.{collected}
 use Rattle.pv_model.specs.Effect.{node_of}
 use Rattle.pv_model.specs.Tree.{find_entry, is_directory_at}
 use Rattle.pv_calls_path.proofs.NameCalls.{link_crowded, names_linked}
@@ -12,7 +12,7 @@ pub returns-in_err-both-clause-performed : goal.returns-in_err-both-clause-perfo
 returns-in_err-both-clause-performed g c =
     let p = err_from_is_err_and c.from_residual.result c.from_residual.ensures.1 in
     record {
-      as_defined = λ me at. rw (p.1, p.2) (ap trimmed (both-missed-as c.args.system.now.parts me c.linked-first.ensures c.new_link-second.ensures _ (c.in_err-both.ensures.missed me at) _));
+      as_defined = λ me at. rw (p.1, p.2) (ap collected (both-missed-as c.args.system.now.parts me c.linked-first.ensures c.new_link-second.ensures _ (c.in_err-both.ensures.missed me at) _));
       unchanged = rw p.1 refl;
       small = rw p.1 tt;
     }
@@ -29,7 +29,7 @@ returns-in-Err-clause-performed g c =
     let plain : is_directory_at s.tree c.in_ok-both.both.node ≡ false = ap (λ t. is_directory_at t c.in_ok-both.both.node) (sym c.tree.ensures) ∙ sym c.is_directory.ensures ∙ c.if-is_directory.false in
     record {
       as_defined = λ me at. rw (c.refusal-in-Err.ensures, c.space_errno.ensures)
-          (ap trimmed (link_crowded s c.args.pid me c.args.path.now c.args.new.now c.in_ok-both.both.first c.in_ok-both.both.second
+          (ap collected (link_crowded s c.args.pid me c.args.path.now c.args.new.now c.in_ok-both.both.first c.in_ok-both.both.second
           (reached-as s me me.directory c.linked-first.ensures c.in_ok-both.both.first (c.in_ok-both.ensures.first me at)) (reached-as s me me.directory c.new_link-second.ensures c.in_ok-both.both.second (c.in_ok-both.ensures.second me at)) c.in_ok-both.both.node c.in_ok-both.ensures.there plain free
           c.in_ok-directory.directory c.in_ok-directory.name.now c.in_ok-directory.ensures.name c.in-Err.space c.in-Err.ensures.refused));
       unchanged = c.in-Err.ensures.unchanged;

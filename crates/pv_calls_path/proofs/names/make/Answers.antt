@@ -1,6 +1,6 @@
 use Rattle.std.proofs.Common.{◌≡◌, ◌∙◌, ap, sym, true, false, is_some, refl}
 use Rattle.std.proofs.lemmas.Result.{err_from_is_err_and}
-use Rattle.pv_calls_state.specs.Attempts.{trimmed}
+use Rattle.pv_calls_state.specs.Attempts.{collected}
 use Rattle.pv_model.specs.CallRef.{walk_of}
 use Rattle.pv_model.specs.Effect.{node_of}
 use Rattle.pv_model.specs.Tree.{find_entry}
@@ -14,7 +14,7 @@ pub returns-in_err-place-clause-performed : goal.returns-in_err-place-clause-per
 returns-in_err-place-clause-performed g c =
     let p = err_from_is_err_and c.from_residual.result c.from_residual.ensures.1 in
     record {
-      as_defined = λ me at. rw (p.1, p.2, c.requires.here) (ap trimmed (c.in_err-place.ensures.stopped me at _));
+      as_defined = λ me at. rw (p.1, p.2, c.requires.here) (ap collected (c.in_err-place.ensures.stopped me at _));
       unchanged = rw p.1 refl;
       small = rw p.1 tt;
     }
@@ -24,7 +24,7 @@ returns-in-Err-clause-performed g c =
     let free : is_some (node_of c.in_ok-place.place) ≡ false = ap is_some c.in_ok-directory.ensures.free in
     record {
       as_defined = λ me at. rw (c.refusal.ensures, c.space_errno.ensures)
-          (ap trimmed (make_crowded c.args.system.now.parts c.args.pid me (walk_of c.args.walk) c.requires.here (new_node c.args.kind) c.in_ok-place.place (c.in_ok-place.ensures.reached me at) free
+          (ap collected (make_crowded c.args.system.now.parts c.args.pid me (walk_of c.args.walk) c.requires.here (new_node c.args.kind) c.in_ok-place.place (c.in_ok-place.ensures.reached me at) free
           c.in_ok-directory.directory c.in_ok-directory.name.now c.in_ok-directory.ensures.name c.in-Err.space c.in-Err.ensures.refused));
       unchanged = c.in-Err.ensures.unchanged;
       small = tt;

@@ -1,5 +1,5 @@
 use Rattle.std.proofs.Common.{◌≡◌, ◌∙◌, ap, sym, true}
-use Rattle.pv_calls_state.specs.Attempts.{trimmed}
+use Rattle.pv_calls_state.specs.Attempts.{collected}
 use Rattle.pv_model.specs.Room.{fits}
 use Rattle.pv_model.specs.State.{process_at}
 use Rattle.pv_model.specs.Tree.{find_entry}
@@ -21,7 +21,7 @@ returns-in-Err-clause-performed g c =
     let s = c.args.parts.now in
     record {
       as_defined = λ me at. rw (c.refusal-in-Err.ensures, c.space_errno.ensures)
-          (ap trimmed (create_crowded s c.args.pid me c.args.flags c.requires.flags c.if-not-flags.false c.args.place.now c.requires.absent
+          (ap collected (create_crowded s c.args.pid me c.args.flags c.requires.flags c.if-not-flags.false c.args.place.now c.requires.absent
           c.in-Some.directory c.in-Some.name.now c.in-Some.ensures c.in-Err.space (c.in-Err.ensures.refused me at)));
       unchanged = c.in-Err.ensures.unchanged;
       small = tt;

@@ -1,6 +1,6 @@
 use Rattle.std.proofs.Common.{◌≡◌, ◌∙◌, ap, sym, true, false, arith, refl}
 use Rattle.std.proofs.lemmas.Result.{err_from_is_err_and}
-use Rattle.pv_calls_state.specs.Attempts.{trimmed}
+use Rattle.pv_calls_state.specs.Attempts.{collected}
 use Rattle.pv_calls_path.specs.Moving.{check_move}
 use Rattle.pv_calls_path.proofs.Renaming.{move_clear, move_empty, apart_from, move_refused, move_crowded, rename_missed, rename_refused, rename_goes, names_moved}
 use Rattle.pv_laws_states.proofs.ByTree.{FineName, named-place}
@@ -18,7 +18,7 @@ returns-in_err-both-clause-performed g c =
     let fine : ends_in_dot c.args.path.now ≡ false = sym c.ends_in_dot.ensures ∙ c.if-ends_in_dot.false in
     let other : ends_in_dot c.args.new.now ≡ false = sym c.ends_in_dot-else-ends_in_dot.ensures ∙ c.if-ends_in_dot-2.false in
     record {
-      as_defined = λ me at. rw (p.1, p.2) (ap trimmed (rename_missed c.args.system.now.parts c.args.pid me c.args.path.now c.args.new.now fine other _ (both-missed-as c.args.system.now.parts me c.rename-first.ensures c.rename-second.ensures _ (c.in_err-both.ensures.missed me at))));
+      as_defined = λ me at. rw (p.1, p.2) (ap collected (rename_missed c.args.system.now.parts c.args.pid me c.args.path.now c.args.new.now fine other _ (both-missed-as c.args.system.now.parts me c.rename-first.ensures c.rename-second.ensures _ (c.in_err-both.ensures.missed me at))));
       unchanged = rw p.1 refl;
       small = rw p.1 tt;
     }
@@ -32,7 +32,7 @@ returns-in-Err-clause-performed g c =
     let differs : same_node o c.in_ok-both.both.node ≡ false = ap (λ x. same_node x c.in_ok-both.both.node) (sym c.node-there.ensures) ∙ sym c.is_same_node.ensures ∙ c.if-is_same_node.false in
     record {
       as_defined = λ me at. rw c.refusal-in-Err.ensures
-          (ap trimmed (rename_refused s c.args.pid me c.args.path.now c.args.new.now fine other c.in_ok-both.both.first c.in_ok-both.both.second
+          (ap collected (rename_refused s c.args.pid me c.args.path.now c.args.new.now fine other c.in_ok-both.both.first c.in_ok-both.both.second
           (reached-as s me me.directory c.rename-first.ensures c.in_ok-both.both.first (c.in_ok-both.ensures.first me at)) (reached-as s me me.directory c.rename-second.ensures c.in_ok-both.both.second (c.in_ok-both.ensures.second me at)) c.in_ok-both.both.node c.in_ok-both.ensures.there
           c.in-Some-Some.from c.in-Some-Some.name.now c.in-Some-Some.ensures c.in-Some-Some.to c.in-Some-Some.other.now c.in-Some-Some.ensures' differs c.in-Err.errno
           (move_refused s c.args.pid me c.in_ok-both.both.node c.in-Some-Some.from c.in-Some-Some.name.now c.in-Some-Some.to c.in-Some-Some.other.now o c.in-Err.errno
@@ -63,7 +63,7 @@ returns-in-Err-rename-clause-performed g c =
     named-place s.tree c.in_ok-both.both.first (c.in-Some-Some.from, c.in-Some-Some.name.now) c.in_ok-both.ensures.fine c.in-Some-Some.ensures in
     record {
       as_defined = λ me at. rw (c.refusal-in-Err-rename.ensures, c.space_errno.ensures)
-          (ap trimmed (rename_refused s c.args.pid me c.args.path.now c.args.new.now fine other c.in_ok-both.both.first c.in_ok-both.both.second
+          (ap collected (rename_refused s c.args.pid me c.args.path.now c.args.new.now fine other c.in_ok-both.both.first c.in_ok-both.both.second
           (reached-as s me me.directory c.rename-first.ensures c.in_ok-both.both.first (c.in_ok-both.ensures.first me at)) (reached-as s me me.directory c.rename-second.ensures c.in_ok-both.both.second (c.in_ok-both.ensures.second me at)) c.in_ok-both.both.node c.in_ok-both.ensures.there
           c.in-Some-Some.from c.in-Some-Some.name.now c.in-Some-Some.ensures c.in-Some-Some.to c.in-Some-Some.other.now c.in-Some-Some.ensures' differs _
           (move_crowded s c.args.pid me c.in_ok-both.both.node c.in-Some-Some.from c.in-Some-Some.name.now c.in-Some-Some.to c.in-Some-Some.other.now o c.in-Err-rename.space passes
@@ -108,6 +108,6 @@ returns-clause-agrees g c =
     let new_named : FineName s.tree (c.in-Some-Some.to, c.in-Some-Some.other.now) o =
     named-place s.tree c.in_ok-both.both.second (c.in-Some-Some.to, c.in-Some-Some.other.now) c.in_ok-both.ensures.second_fine c.in-Some-Some.ensures' in
     let e = names_moved s c.requires.whole c.in-Some-Some.from c.in-Some-Some.name.now c.in-Some-Some.to c.in-Some-Some.other.now n named.directory (named.found ∙ c.in_ok-both.ensures.there)
-    (new_named.directory, new_named.stands) new_named.name (move_clear s.tree n c.in-Some-Some.to o passes) (λ is. apart_from o n differs (sym new_named.found ∙ is))
+    (new_named.directory, new_named.appears) new_named.name (move_clear s.tree n c.in-Some-Some.to o passes) (λ is. apart_from o n differs (sym new_named.found ∙ is))
     (ap (entries_there s.tree) new_named.found ∙ move_empty s.tree n c.in-Some-Some.to o passes) c.rename.new.self c.in_default-rename.ensures.moved in
     c.changed-2.ensures e.0 (find_entry c.rename.new.self.tree) (c.changed.ensures (find_entry s.tree) e.0 c.reach_both.ensures.agrees e.1) e.2

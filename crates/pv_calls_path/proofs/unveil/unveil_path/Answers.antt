@@ -1,10 +1,10 @@
 use Rattle.std.proofs.Common.{◌≡◌, ◌∙◌, ap, sym, subst, true, is_some, arith, refl}
 use Rattle.std.proofs.lemmas.Result.{err_from_is_err_and}
-use Rattle.pv_calls_state.specs.Attempts.{trimmed}
+use Rattle.pv_calls_state.specs.Attempts.{collected}
 use Rattle.pv_calls_state.specs.Changes.{unveiled_of, with_table}
 use Rattle.pv_model.specs.declared.target.Target.{Target}
 use Rattle.pv_model.specs.Attempt.{refused}
-use Rattle.pv_model.specs.Held.{trim}
+use Rattle.pv_model.specs.Held.{collect}
 use Rattle.pv_model.specs.State.{State, process_at, with_process}
 use Rattle.pv_model.specs.Tree.{Tree, find_entry, node_at}
 use Rattle.pv_model.specs.Unveil.{target_of, target_directory}
@@ -30,9 +30,9 @@ returns-in-Ok-clause-performed g c =
           let unlocked = is_unlocked s c.args.pid me at c.record-record.result.now c.record-record.ensures (sym c.is_locked.ensures ∙ c.if-is_locked.false) in
           let added = c.in-Ok.ensures.added me at in
           rw c.answer_of.ensures
-          (leaves _ (trim (with_process s c.args.pid (with_table added.table me))) c.unveil.new.self
-          (ap trimmed (unveil_added s c.args.pid me c.args.path.now c.args.permissions.now c.in-Some.permissions (sym c.in-Some.ensures) unlocked c.in_ok-place.place walked added.table (ap (λ (x : Target). add_to (unveiled_of me) x c.in-Some.permissions) (sym target) ∙ added.added)))
-          (ap trim (sym added.only) ∙ c.invariant.ensures.trimmed));
+          (leaves _ (collect (with_process s c.args.pid (with_table added.table me))) c.unveil.new.self
+          (ap collected (unveil_added s c.args.pid me c.args.path.now c.args.permissions.now c.in-Some.permissions (sym c.in-Some.ensures) unlocked c.in_ok-place.place walked added.table (ap (λ (x : Target). add_to (unveiled_of me) x c.in-Some.permissions) (sym target) ∙ added.added)))
+          (ap collect (sym added.only) ∙ c.invariant.ensures.collected));
       unchanged = rw c.answer_of.ensures tt;
       small = rw c.answer_of.ensures (omega arith);
     }
@@ -49,14 +49,14 @@ pub returns-in-Err-clause-performed : goal.returns-in-Err-clause-performed
 returns-in-Err-clause-performed g c =
     let s = c.args.system.now.parts in
     let target = c.target_of-target.ensures ∙ ap (λ (t : Tree). target_of t c.to_place.result) c.tree.ensures ∙ ap (target_of s.tree) c.to_place.ensures in
-    let told = c.answer_to-in-Err in
+    let reported = c.answer_to-in-Err in
     record {
       as_defined = λ me at.
           let walked = walked_by s c.args.pid me at c.record-record.result.now c.record-record.ensures c.args.path.now c.in_ok-place.place c.in_ok-place.ensures.walked in
           let unlocked = is_unlocked s c.args.pid me at c.record-record.result.now c.record-record.ensures (sym c.is_locked.ensures ∙ c.if-is_locked.false) in
-          ap trimmed (unveil_refused s c.args.pid me c.args.path.now c.args.permissions.now c.in-Some.permissions (sym c.in-Some.ensures) unlocked c.in_ok-place.place walked told.result.errno told.result.cause
-          (ap (λ (x : Target). add_to (unveiled_of me) x c.in-Some.permissions) (sym target) ∙ c.in-Err.ensures.refused me at ∙ told.ensures.fault))
-          ∙ ap (λ w. refused w told.result.errno told.result.cause) (sym told.ensures.walks);
+          ap collected (unveil_refused s c.args.pid me c.args.path.now c.args.permissions.now c.in-Some.permissions (sym c.in-Some.ensures) unlocked c.in_ok-place.place walked reported.result.errno reported.result.cause
+          (ap (λ (x : Target). add_to (unveiled_of me) x c.in-Some.permissions) (sym target) ∙ c.in-Err.ensures.refused me at ∙ reported.ensures.fault))
+          ∙ ap (λ w. refused w reported.result.errno reported.result.cause) (sym reported.ensures.walks);
       unchanged = c.in-Err.ensures.unchanged;
       small = tt;
     }
@@ -69,7 +69,7 @@ returns-in_err-place-clause-performed g c =
       as_defined = λ me at.
           let unlocked = is_unlocked s c.args.pid me at c.record-record.result.now c.record-record.ensures (sym c.is_locked.ensures ∙ c.if-is_locked.false) in
           let lost = lost_by s c.args.pid me at c.record-record.result.now c.record-record.ensures c.args.path.now _ c.in_err-place.ensures.lost in
-          rw (p.1, p.2) (ap trimmed (unveil_lost s c.args.pid me c.args.path.now c.args.permissions.now c.in-Some.permissions (sym c.in-Some.ensures) unlocked _ lost));
+          rw (p.1, p.2) (ap collected (unveil_lost s c.args.pid me c.args.path.now c.args.permissions.now c.in-Some.permissions (sym c.in-Some.ensures) unlocked _ lost));
       unchanged = rw p.1 refl;
       small = rw p.1 tt;
     }

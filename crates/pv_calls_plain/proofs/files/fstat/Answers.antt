@@ -21,5 +21,5 @@ returns c = record {
       let node = file-part (λ (f : OpenFile). f.node) c.files.result.now.files s.files k on.file c.node.result c.files.ensures c.node.ensures on.there in
       let bytes = c.status-bytes.ensures ∙ ap₂ status c.tree.ensures node in
       ap (answer_by_attempt before s c.args.pid me) (fstat-is s c.args.pid me c.args.d k on.file on.opened ∙ ap (λ bs. done 0 (s, returns_bytes 0 bs)) (sym bytes))
-      ∙ c.tell_bytes.ensures before s s me c.invariant.ensures.trimmed;
+      ∙ c.report_bytes.ensures before s s me c.invariant.ensures.collected;
 }

@@ -21,7 +21,7 @@ returns-in-None c = record {
       let dir = ap₂ is_directory_at (sym c.tree.ensures) (sym node) ∙ sym c.is_directory.ensures ∙ c.if-not-is_directory.false in
       let none = ap (λ n. next_name on.file.listed (entries_at s.tree n)) (sym node) ∙ sym (c.next_name.ensures on.file on.there) ∙ c.in-None.is in
       ap (answer_by_attempt before s c.args.pid me) (getdents-none s c.args.pid me c.args.d k on.file on.opened dir none)
-      ∙ c.tell_bytes.ensures before s s me c.invariant.ensures.trimmed;
+      ∙ c.report_bytes.ensures before s s me c.invariant.ensures.collected;
 }
 
 pub returns-in-Some-next_name : goal.returns-in-Some-next_name
@@ -35,11 +35,11 @@ returns-in-Some-next_name c = record {
       let node = file-part (λ (f : OpenFile). f.node) c.files.result.now.files s.files k on.file c.node-node.result c.files.ensures c.node-node.ensures on.there in
       let dir = ap₂ is_directory_at (sym c.tree.ensures) (sym node) ∙ sym c.is_directory.ensures ∙ c.if-not-is_directory.false in
       let some = ap (λ n. next_name on.file.listed (entries_at s.tree n)) (sym node) ∙ sym (c.next_name.ensures on.file on.there) ∙ c.in-Some-next_name.is in
-      let kept = part-is (λ (f : OpenFile). with_file s k (record f { listed = Some c.copy.result })) (at_number s.files k) on.file new c.set_last_name.ensures on.there
+      let preserved = part-is (λ (f : OpenFile). with_file s k (record f { listed = Some c.copy.result })) (at_number s.files k) on.file new c.set_last_name.ensures on.there
       ∙ ap (λ bs. with_file s k (record on.file { listed = Some bs })) c.copy.ensures in
       ap (answer_by_attempt before s c.args.pid me)
       (getdents-some s c.args.pid me c.args.d k on.file on.opened name dir some
-      ∙ ap (λ x. done 0 (x, returns_bytes (length name) name)) (sym kept)
+      ∙ ap (λ x. done 0 (x, returns_bytes (length name) name)) (sym preserved)
       ∙ ap₂ (λ n bs. done 0 (new, returns_bytes n bs)) (sym c.len.ensures.value) (sym c.as_slice.ensures.value))
-      ∙ c.tell_bytes-in-Some-next_name.ensures before s new me c.invariant-in-Some-next_name.ensures.trimmed;
+      ∙ c.report_bytes-in-Some-next_name.ensures before s new me c.invariant-in-Some-next_name.ensures.collected;
 }

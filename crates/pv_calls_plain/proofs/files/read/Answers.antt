@@ -4,12 +4,12 @@ use Rattle.pv_model.specs.declared.outcome.Cause.TheVariants.{Plain}
 use Rattle.pv_model.specs.Answer.{answer_by_attempt}
 use Rattle.pv_model.specs.Attempt.{refused}
 use Rattle.pv_model.specs.Calls.Descriptors.{read}
-use Rattle.pv_model.specs.Held.{trim}
+use Rattle.pv_model.specs.Held.{collect}
 use Rattle.pv_calls_plain.specs.Performed.{attempt_of}
 use Rattle.pv_calls_plain.proofs.files.read.Goals as goal
 
-pub tell_front-requires-clause-live : goal.tell_front-requires-clause-live
-tell_front-requires-clause-live c = c.read_front.ensures.live
+pub report_front-requires-clause-live : goal.report_front-requires-clause-live
+report_front-requires-clause-live c = c.read_front.ensures.live
 
 pub returns-in-Ok : goal.returns-in-Ok
 returns-in-Ok c = record {
@@ -18,7 +18,7 @@ returns-in-Ok c = record {
       let given = c.in-Ok.ensures.performed me at in
       ap (answer_by_attempt before s c.args.pid me)
       (ap₂ (λ d n. read s c.args.pid me d n) (sym (to_z-of_z w32 c.args.d c.ranges.d)) (sym (to_z-of_z w32 c.args.n c.ranges.n)) ∙ given.gives)
-      ∙ c.tell_front.ensures before s given.after me given.bytes given.long (ap trim (sym given.front) ∙ c.invariant.ensures.trimmed);
+      ∙ c.report_front.ensures before s given.after me given.bytes given.long (ap collect (sym given.front) ∙ c.invariant.ensures.collected);
 }
 
 pub returns-in-Err : goal.returns-in-Err
@@ -27,5 +27,5 @@ returns-in-Err c = record {
       let s = c.args.parts.now in
       ap (answer_by_attempt before s c.args.pid me)
       (ap₂ (λ d n. read s c.args.pid me d n) (sym (to_z-of_z w32 c.args.d c.ranges.d)) (sym (to_z-of_z w32 c.args.n c.ranges.n)) ∙ c.in-Err.ensures.performed me at)
-      ∙ c.tell.ensures.told before s me (refused 0 c.in-Err.errno Plain) (ap (λ r. attempt_of c.read_front.new.parts (Err r)) (sym c.refusal.ensures)) c.in-Err.ensures.unchanged;
+      ∙ c.report.ensures.reported before s me (refused 0 c.in-Err.errno Plain) (ap (λ r. attempt_of c.read_front.new.parts (Err r)) (sym c.refusal.ensures)) c.in-Err.ensures.unchanged;
 }

@@ -15,7 +15,7 @@ use Rattle.pv_laws_states.proofs.ByProcess.{within-limit}
 use Rattle.pv_calls_state.specs.Changes.{bytes_read}
 use Rattle.pv_calls_state.proofs.Alone.{some-at}
 use Rattle.pv_calls_plain.proofs.FileCalls.{file-part, is-plain, offset-moved, read-is}
-use Rattle.pv_calls_plain.proofs.Telling.{live-update}
+use Rattle.pv_calls_plain.proofs.Reporting.{live-update}
 use Rattle.pv_calls_plain.proofs.files.read_front.Goals as goal
 
 pub read_front-taken-requires-clause-file : goal.read_front-taken-requires-clause-file

@@ -1,5 +1,5 @@
 use Rattle.std.proofs.Common.{◌≡◌, ◌∙◌, ◌+◌, ap, sym}
-use Rattle.pv_calls_state.specs.Attempts.{trimmed}
+use Rattle.pv_calls_state.specs.Attempts.{collected}
 use Rattle.pv_calls_plain.specs.Performed.{attempt_of}
 use Rattle.pv_model.specs.Calls.Descriptors.{is_past_greatest}
 use Rattle.pv_tree.specs.Rooms.{refusal}
@@ -13,7 +13,7 @@ returns-then-is_past_greatest-clause-performed c = λ me f proc at.
     let first = c.write_place-at.result in
     let place = c.write_place-at.ensures.place c.args.pid me f at in
     let past = ap (λ t. is_past_greatest t (first + c.args.count)) (sym c.tree.ensures) ∙ sym c.is_past_greatest.ensures ∙ c.if-is_past_greatest.true in
-    ap trimmed (some-past s c.args.pid me c.args.file f c.args.count first c.requires.some place past) ∙ ap (λ r. attempt_of s (Rattle.std.proofs.Common.Err r)) (sym c.refusal.ensures)
+    ap collected (some-past s c.args.pid me c.args.file f c.args.count first c.requires.some place past) ∙ ap (λ r. attempt_of s (Rattle.std.proofs.Common.Err r)) (sym c.refusal.ensures)
 
 pub returns-in-Ok-clause-performed : goal.returns-in-Ok-clause-performed
 returns-in-Ok-clause-performed c = λ me f proc at.
@@ -33,4 +33,4 @@ returns-in-Err-clause-performed c = λ me f proc at.
     let place = c.write_place-at.ensures.place c.args.pid me f at in
     let short = ap (λ t. is_past_greatest t (first + c.args.count)) (sym c.tree.ensures) ∙ sym c.is_past_greatest.ensures ∙ c.if-is_past_greatest.false in
     rw (c.refusal-in-Err.ensures, c.space_errno.ensures)
-    (ap trimmed (some-crowded s c.args.pid me c.args.file f c.args.count first c.requires.some place short c.in-Err.why (c.in-Err.ensures.refused me f proc at)))
+    (ap collected (some-crowded s c.args.pid me c.args.file f c.args.count first c.requires.some place short c.in-Err.why (c.in-Err.ensures.refused me f proc at)))

@@ -1,16 +1,16 @@
 use Rattle.std.proofs.Common.{◌∙◌, ap, arith, refl, sym}
 use Rattle.std.specs.Prelude.{option_copied}
-use Rattle.pv_calls_state.specs.Attempts.{trimmed}
+use Rattle.pv_calls_state.specs.Attempts.{collected}
 use Rattle.pv_calls_plain.specs.Performed.{attempt_of}
 use Rattle.pv_model.specs.Attempt.{done}
 use Rattle.pv_model.specs.Effect.{returns}
-use Rattle.pv_model.specs.Held.{trim}
+use Rattle.pv_model.specs.Held.{collect}
 use Rattle.pv_model.specs.State.{process_at}
 use Rattle.pv_procs.specs.declared.record.ProcessRecord.{ProcessRecord}
 use Rattle.pv_promises.specs.Pledge.{bits_of, narrow_both}
 use Rattle.pv_laws_states.proofs.Processes.{update-is}
 use Rattle.pv_calls_state.proofs.Alone.{lent-is}
-use Rattle.pv_calls_plain.proofs.Pledging.{pledge-kept, pledge-refused, with_pledged}
+use Rattle.pv_calls_plain.proofs.Pledging.{pledge-preserved, pledge-refused, with_pledged}
 use Rattle.pv_calls_plain.proofs.pledge.pledge.Goals as goal
 
 pub returns-in-Err-narrow : goal.returns-in-Err-narrow
@@ -21,7 +21,7 @@ returns-in-Err-narrow c = record {
         let now = bits_of c.in-Ok.set in
         let later = bits_of c.in-Ok-asked.set in
         let lent = lent-is (process_at s c.args.pid) me c.record.result.now c.record.ensures at in
-        ap trimmed
+        ap collected
         (pledge-refused s c.args.pid me (option_copied c.args.promises) (option_copied c.args.execpromises) now later c.in-Ok.ensures c.in-Ok-asked.ensures c.in-Err-narrow.promise
         (ap (λ (r : ProcessRecord). narrow_both r.pledge now later) (sym lent) ∙ c.in-Err-narrow.ensures.refused));
     unchanged = refl;
@@ -36,12 +36,12 @@ returns-in-Ok-narrow c = record {
         let s = c.args.parts.now in
         let now = bits_of c.in-Ok.set in
         let later = bits_of c.in-Ok-asked.set in
-        let kept = c.narrow.new.self in
+        let preserved = c.narrow.new.self in
         let lent = lent-is (process_at s c.args.pid) me c.record.result.now c.record.ensures at in
-        ap trimmed
-        (pledge-kept s c.args.pid me (option_copied c.args.promises) (option_copied c.args.execpromises) now later c.in-Ok.ensures c.in-Ok-asked.ensures kept
+        ap collected
+        (pledge-preserved s c.args.pid me (option_copied c.args.promises) (option_copied c.args.execpromises) now later c.in-Ok.ensures c.in-Ok-asked.ensures preserved
         (ap (λ (r : ProcessRecord). narrow_both r.pledge now later) (sym lent) ∙ c.in-Ok-narrow.ensures.narrowed))
-        ∙ ap (λ x. done 0 (x, returns 0)) (ap trim (sym (c.set_pledge.ensures ∙ update-is s c.args.pid (with_pledged kept) me at)) ∙ c.invariant.ensures.trimmed)
+        ∙ ap (λ x. done 0 (x, returns 0)) (ap collect (sym (c.set_pledge.ensures ∙ update-is s c.args.pid (with_pledged preserved) me at)) ∙ c.invariant.ensures.collected)
         ∙ sym (ap (attempt_of c.set_pledge.new.self) c.answer_of.ensures);
     unchanged = rw c.answer_of.ensures tt;
     small = rw c.answer_of.ensures (omega arith);

@@ -14,7 +14,7 @@ returns c =
     let found = some-at (process_at s c.args.pid) c.requires.live in
     record {
       performed = record {
-        as_defined = λ me at. ap (λ x. done 0 (x, returns_number c.args.pid)) c.invariant.ensures.trimmed ∙ ap (attempt_of s) (sym c.answer_of.ensures);
+        as_defined = λ me at. ap (λ x. done 0 (x, returns_number c.args.pid)) c.invariant.ensures.collected ∙ ap (attempt_of s) (sym c.answer_of.ensures);
         unchanged = rw c.answer_of.ensures tt;
         small = subst (λ r. IfOk r (λ d. d.value ≤ 2147483647)) (sym c.answer_of.ensures) (good-getpid s c.args.pid found.0 c.requires.whole found.1).1;
       };

@@ -26,7 +26,7 @@ returns c =
     let found = some-at (process_at s c.args.pid) c.requires.live in
     record {
       performed = record {
-        as_defined = λ me at. ap (λ x. done 0 (x, returns_number me.parent)) c.invariant.ensures.trimmed ∙ ap (λ n. done 0 (s, returns_number n)) (sym (parent-is c me at)) ∙ ap (attempt_of s) (sym c.answer_of.ensures);
+        as_defined = λ me at. ap (λ x. done 0 (x, returns_number me.parent)) c.invariant.ensures.collected ∙ ap (λ n. done 0 (s, returns_number n)) (sym (parent-is c me at)) ∙ ap (attempt_of s) (sym c.answer_of.ensures);
         unchanged = rw c.answer_of.ensures tt;
         small = subst (λ r. IfOk r (λ d. d.value ≤ 2147483647)) (sym c.answer_of.ensures)
             (subst (λ n. n ≤ 2147483647) (sym (parent-is c found.0 found.1)) (good-getppid s c.args.pid found.0 c.requires.whole found.1).1);

@@ -6,17 +6,17 @@ use Rattle.pv_model.specs.Effect.{returns_bytes}
 use Rattle.pv_model.specs.State.{process_at}
 use Rattle.pv_procs.specs.Reaping.{waited}
 use Rattle.pv_calls_state.proofs.Alone.{some-at}
-use Rattle.pv_calls_plain.proofs.Waits.{low-child, told-alike, waiter-lives}
+use Rattle.pv_calls_plain.proofs.Waits.{low-child, reported-alike, waiter-lives}
 use Rattle.pv_calls_plain.proofs.processes.wait.Goals as goal
 
-pub tell_bytes-requires-clause-live : goal.tell_bytes-requires-clause-live
-tell_bytes-requires-clause-live c =
+pub report_bytes-requires-clause-live : goal.report_bytes-requires-clause-live
+report_bytes-requires-clause-live c =
     let s = c.args.parts.now in
     let mine = some-at (process_at s c.args.pid) c.requires.live in
     waiter-lives s c.reap.new.self c.args.pid mine.0 c.requires.whole mine.1 c.in-Child.number c.in-Child.status (c.reap.ensures.performed mine.0 mine.1 ∙ ap (λ r. waited r c.reap.new.self) c.in-Child.is)
 
-pub tell_bytes-requires-clause-small : goal.tell_bytes-requires-clause-small
-tell_bytes-requires-clause-small c =
+pub report_bytes-requires-clause-small : goal.report_bytes-requires-clause-small
+report_bytes-requires-clause-small c =
     let s = c.args.parts.now in
     let mine = some-at (process_at s c.args.pid) c.requires.live in
     low-child s c.reap.new.self c.args.pid mine.0 c.requires.whole mine.1 c.in-Child.number c.in-Child.status (c.reap.ensures.performed mine.0 mine.1 ∙ ap (λ r. waited r c.reap.new.self) c.in-Child.is)
@@ -27,7 +27,7 @@ returns-in-Child c = record {
       let s = c.args.parts.now in
       let number = c.in-Child.number in
       let found = c.reap.ensures.performed me at ∙ ap (λ r. waited r c.reap.new.self) c.in-Child.is in
-      told-alike before s c.reap.new.self c.args.pid me (wait s c.args.pid me) (record { walks = 0; value = number }) c.four_bytes.result (answered c.tell_bytes.new.parts c.tell_bytes.result)
+      reported-alike before s c.reap.new.self c.args.pid me (wait s c.args.pid me) (record { walks = 0; value = number }) c.four_bytes.result (answered c.report_bytes.new.parts c.report_bytes.result)
       (found ∙ ap (λ bytes. done 0 (c.reap.new.self, returns_bytes number bytes)) (sym c.four_bytes.ensures))
-      (λ after left. c.tell_bytes.ensures before s after me left);
+      (λ after left. c.report_bytes.ensures before s after me left);
 }

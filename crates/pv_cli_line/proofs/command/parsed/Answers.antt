@@ -19,27 +19,27 @@ returns-in_err-matches-clause-refused g c =
     (subst (λ (app : App). HasKind (fault_of app words) error) app_is has) in
     refused_result c.from_residual-in_err-matches.result (of_parser error) (RefusesWords words) c.from_residual-in_err-matches.ensures.1 refusal
 
--- what stands in the matches is what the words ask for
-stands : (parser : Parser) (words : List Text) (m : ArgMatches) → app_of parser ≡ pvsim_app → HasMatchesOf (app_of parser) words m → subcommand_rows_of m ≡ subcommand_of pvsim_app words
-stands parser words m app_is has = (subst (λ (app : App). HasMatchesOf app words m) app_is has pvsim_has_matches).1
+-- the command in the matches is the one that the words ask for
+appears : (parser : Parser) (words : List Text) (m : ArgMatches) → app_of parser ≡ pvsim_app → HasMatchesOf (app_of parser) words m → subcommand_rows_of m ≡ subcommand_of pvsim_app words
+appears parser words m app_is has = (subst (λ (app : App). HasMatchesOf app words m) app_is has pvsim_has_matches).1
 
 pub returns-in-Some-Command-clause-asked : goal.returns-in-Some-Command-clause-asked
 returns-in-Some-Command-clause-asked g c =
-    let e = stands c.in_ok-parser.parser (map g.S.AsStr.text c.args.words.now) c.in_ok-matches.matches c.in_ok-parser.ensures c.in_ok-matches.ensures.ok.2 in
+    let e = appears c.in_ok-parser.parser (map g.S.AsStr.text c.args.words.now) c.in_ok-matches.matches c.in_ok-parser.ensures c.in_ok-matches.ensures.ok.2 in
     subst (λ (entered : Option (Text × List Row)). IsCommandIn entered c.in-Some-Command.command) e (rw c.in-Some-Command.field-0-is at c.in-Some-Command.ensures.found)
 
 pub returns-in-Some-Command-clause-verbose : goal.returns-in-Some-Command-clause-verbose
 returns-in-Some-Command-clause-verbose g c =
-    let e = stands c.in_ok-parser.parser (map g.S.AsStr.text c.args.words.now) c.in_ok-matches.matches c.in_ok-parser.ensures c.in_ok-matches.ensures.ok.2 in
+    let e = appears c.in_ok-parser.parser (map g.S.AsStr.text c.args.words.now) c.in_ok-matches.matches c.in_ok-parser.ensures c.in_ok-matches.ensures.ok.2 in
     c.is_verbose.ensures ∙ ap is_verbose_in e
 
 pub returns-in-Some-Number-clause-refused : goal.returns-in-Some-Number-clause-refused
 returns-in-Some-Number-clause-refused g c =
-    let e = stands c.in_ok-parser.parser (map g.S.AsStr.text c.args.words.now) c.in_ok-matches.matches c.in_ok-parser.ensures c.in_ok-matches.ensures.ok.2 in
+    let e = appears c.in_ok-parser.parser (map g.S.AsStr.text c.args.words.now) c.in_ok-matches.matches c.in_ok-parser.ensures c.in_ok-matches.ensures.ok.2 in
     subst LacksNumber e (rw c.in-Some-Number.field-0-is at c.in-Some-Number.ensures.found)
 
 pub returns-clause-refused : goal.returns-clause-refused
 returns-clause-refused g c =
     let words = map g.S.AsStr.text c.args.words.now in
-    let e = stands c.in_ok-parser.parser words c.in_ok-matches.matches c.in_ok-parser.ensures c.in_ok-matches.ensures.ok.2 in
+    let e = appears c.in_ok-parser.parser words c.in_ok-matches.matches c.in_ok-parser.ensures c.in_ok-matches.ensures.ok.2 in
     nothing-asked words (subcommand_rows_of c.in_ok-matches.matches) e c.in_ok-error-in-None.field-0 c.in_ok-error-in-None.ensures.kind (c.in-None.ensures.none refl)

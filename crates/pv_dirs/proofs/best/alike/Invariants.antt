@@ -1,7 +1,7 @@
 use Rattle.std.proofs.Common.{◌≡◌, ◌-◌, ◌≤◌, take}
 use Rattle.pv_dirs.proofs.best.alike.Given as goal
 
--- the bytes so far are the same
+-- the bytes so far are equal
 abbrev pub invariant-loop-k : goal.invariant-loop-k
 invariant-loop-k l = record {
   within : l.k ≤ l.most;

@@ -23,7 +23,7 @@ loop-k-init c = record {
   known = λ d other. refl;
 }
 
--- the name in the run, if it has a whole one, is that of the slot
+-- the name in the run, if it contains a whole one, is that of the slot
 named : (c : After-name_in_run-name) → IfSome c.name_in_run-name.result (λ name. name.now ≡ slot_name (slot_at c.args.dir.now.inodes.now.version (bytes_in c.args.dir.now) c.loop-k.k))
 named c =
     let v = c.args.dir.now.inodes.now.version in

@@ -3,8 +3,8 @@ use Rattle.std.proofs.lemmas.Result.{err_from_is_err_and}
 use Rattle.pv_model.specs.Answers.Settings.{settings_of}
 use Rattle.pv_model.specs.Bytes.{Bytes}
 use Rattle.pv_model.specs.State.{process_at}
-use Rattle.pv_streams.specs.Sinks.{and_all, TellsBeginning}
-use Rattle.pv_streams.proofs.Telling.{begins_first, begins_then, on_err, written_both}
+use Rattle.pv_streams.specs.Sinks.{and_all, WritesPrefix}
+use Rattle.pv_streams.proofs.Reporting.{begins_first, begins_then, on_err, written_both}
 use Rattle.pv_explain.specs.declared.making.MadeStep.TheVariants.{Call as CallMade}
 use Rattle.pv_explain.specs.Keeping.{settings_in}
 use Rattle.pv_explain.specs.Made.{settings_made}
@@ -18,19 +18,19 @@ returns-in_err-made-clause-stopped g c =
     rw p.1 (stops-here c.args.step.number c.args.origins.now c.args.session.now c.make_call.new.session c.args.step.pid (g.W.Sink.written c.args.out.now)
     c.in_err-made.ensures.unchanged c.in_err-made.ensures.memory p.0 p.2)
 
-pub returns-in_err-write_step_line-clause-beginning : goal.returns-in_err-write_step_line-clause-beginning
-returns-in_err-write_step_line-clause-beginning g c =
+pub returns-in_err-write_step_line-clause-prefix : goal.returns-in_err-write_step_line-clause-prefix
+returns-in_err-write_step_line-clause-prefix g c =
     on_err c.from_residual-in_err-write_step_line.result
-    (subst (λ (bs : Bytes). TellsBeginning bs (g.W.Sink.written c.args.out.now) (g.W.Sink.written c.write_step_line.new.out))
+    (subst (λ (bs : Bytes). WritesPrefix bs (g.W.Sink.written c.args.out.now) (g.W.Sink.written c.write_step_line.new.out))
     (step-text c.args.session.now c.args.step.pid (CallMade c.in_ok-made.made) c.make_call.new.session c.in_ok-made.ensures.made c.args.step.number c.args.origins.now _ refl)
-    (begins_first _ _ _ _ c.in_err-write_step_line.ensures.beginning))
+    (begins_first _ _ _ _ c.in_err-write_step_line.ensures.prefix))
 
-pub returns-in_err-write_call-clause-beginning : goal.returns-in_err-write_call-clause-beginning
-returns-in_err-write_call-clause-beginning g c =
+pub returns-in_err-write_call-clause-prefix : goal.returns-in_err-write_call-clause-prefix
+returns-in_err-write_call-clause-prefix g c =
     on_err c.from_residual-in_err-write_call.result
-    (subst (λ (bs : Bytes). TellsBeginning bs (g.W.Sink.written c.args.out.now) (g.W.Sink.written c.write_call.new.out))
+    (subst (λ (bs : Bytes). WritesPrefix bs (g.W.Sink.written c.args.out.now) (g.W.Sink.written c.write_call.new.out))
     (step-text c.args.session.now c.args.step.pid (CallMade c.in_ok-made.made) c.make_call.new.session c.in_ok-made.ensures.made c.args.step.number c.args.origins.now (settings_in c.of.result.now) c.of.ensures.value)
-    (begins_then _ _ _ _ _ c.in_ok-write_step_line.ensures.whole c.in_err-write_call.ensures.beginning))
+    (begins_then _ _ _ _ _ c.in_ok-write_step_line.ensures.whole c.in_err-write_call.ensures.prefix))
 
 pub returns-clause-after : goal.returns-clause-after
 returns-clause-after g c = left-by c.args.session.now c.args.step.pid (CallMade c.in_ok-made.made) c.make_call.new.session c.in_ok-made.ensures.made

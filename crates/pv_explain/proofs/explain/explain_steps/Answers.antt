@@ -4,8 +4,8 @@ use Rattle.std.proofs.lemmas.Result.{err_from_is_err_and}
 use Rattle.pv_model.specs.Answers.Lines.{answer_bytes}
 use Rattle.pv_model.specs.Step.{steps_of}
 use Rattle.pv_session.specs.declared.session.Stop.{Stop}
-use Rattle.pv_streams.specs.Sinks.{and_all, TellsBeginning}
-use Rattle.pv_streams.proofs.Telling.{on_err}
+use Rattle.pv_streams.specs.Sinks.{and_all, WritesPrefix}
+use Rattle.pv_streams.proofs.Reporting.{on_err}
 use Rattle.pv_explain.specs.Steps.{StopsExplained, steps_lines}
 use Rattle.pv_explain.proofs.Steps.{schedule-on, schedule-begun, schedule-stopped, schedule-number}
 use Rattle.pv_explain.proofs.explain.explain_steps.Goals as goal
@@ -33,14 +33,14 @@ explain_turn-requires g c = omega (arith, c.loop-turn.invariant.few, c.requires,
 pub overflow_add-number : goal.overflow_add-number
 overflow_add-number g c = omega (arith, c.loop-turn.invariant.few, c.requires, c.loop-turn-test.true, c.from-number.ensures)
 
-pub returns-in_err-explain_turn-clause-beginning : goal.returns-in_err-explain_turn-clause-beginning
-returns-in_err-explain_turn-clause-beginning g c =
+pub returns-in_err-explain_turn-clause-prefix : goal.returns-in_err-explain_turn-clause-prefix
+returns-in_err-explain_turn-clause-prefix g c =
     let i = c.loop-turn in
     let entry = get_or c.args.schedule.now i.turn-index (0, 0) in
     on_err c.from_residual.result
     (schedule-begun c.args.explainer.now c.args.schedule.now i.turn-index c.loop-turn-test.true c.args.session.now i.session i.explainer _ _ i.invariant.made c.parts.ensures.whole _
-    (subst (λ (n : ℕ). TellsBeginning (answer_bytes (steps_lines n i.explainer (replicate entry.1 entry.0) i.session)) (g.W.Sink.written i.out) (g.W.Sink.written c.explain_turn.new.out))
-    i.invariant.number c.in_err-explain_turn.ensures.beginning))
+    (subst (λ (n : ℕ). WritesPrefix (answer_bytes (steps_lines n i.explainer (replicate entry.1 entry.0) i.session)) (g.W.Sink.written i.out) (g.W.Sink.written c.explain_turn.new.out))
+    i.invariant.number c.in_err-explain_turn.ensures.prefix))
 
 pub returns-in_err-explain_turn-clause-stopped : goal.returns-in_err-explain_turn-clause-stopped
 returns-in_err-explain_turn-clause-stopped g c =

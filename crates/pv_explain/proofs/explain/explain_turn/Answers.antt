@@ -2,8 +2,8 @@ use Rattle.std.proofs.Common.{◌+◌, ◌∙◌, ℕ, ap, sym, subst, refl, [],
 use Rattle.std.proofs.lemmas.Result.{err_from_is_err_and}
 use Rattle.pv_model.specs.Answers.Lines.{answer_bytes}
 use Rattle.pv_session.specs.declared.session.Stop.{Stop}
-use Rattle.pv_streams.specs.Sinks.{and_all, TellsBeginning}
-use Rattle.pv_streams.proofs.Telling.{on_err}
+use Rattle.pv_streams.specs.Sinks.{and_all, WritesPrefix}
+use Rattle.pv_streams.proofs.Reporting.{on_err}
 use Rattle.pv_explain.specs.Steps.{StopsExplained, step_lines}
 use Rattle.pv_explain.proofs.Steps.{none-made, turn-on, turn-begun, turn-stopped}
 use Rattle.pv_explain.proofs.explain.explain_turn.Goals as goal
@@ -25,14 +25,14 @@ loop-step-preserved g c =
       quiet = ok.quiet ∙ i.invariant.quiet;
     }
 
-pub returns-in_err-explain_step-clause-beginning : goal.returns-in_err-explain_step-clause-beginning
-returns-in_err-explain_step-clause-beginning g c =
+pub returns-in_err-explain_step-clause-prefix : goal.returns-in_err-explain_step-clause-prefix
+returns-in_err-explain_step-clause-prefix g c =
     let i = c.loop-step in
     on_err c.from_residual.result
     (turn-begun c.args.number c.args.explainer.now c.args.pid i.step c.args.session.now i.session i.explainer _ _ i.invariant.made c.parts.ensures.whole
     c.args.count c.loop-step-test.true _
-    (subst (λ (n : ℕ). TellsBeginning (answer_bytes (step_lines (c.args.number + n) i.explainer i.session c.args.pid)) (g.W.Sink.written i.out) (g.W.Sink.written c.explain_step.new.out))
-    c.from.ensures c.in_err-explain_step.ensures.beginning))
+    (subst (λ (n : ℕ). WritesPrefix (answer_bytes (step_lines (c.args.number + n) i.explainer i.session c.args.pid)) (g.W.Sink.written i.out) (g.W.Sink.written c.explain_step.new.out))
+    c.from.ensures c.in_err-explain_step.ensures.prefix))
 
 pub returns-in_err-explain_step-clause-stopped : goal.returns-in_err-explain_step-clause-stopped
 returns-in_err-explain_step-clause-stopped g c =

@@ -13,7 +13,7 @@ returns c =
     record {
       me = made.me;
       lives = made.lives;
-      stood = c.line-line.ensures ∙ sym (ap (λ (r : ProcessRecord). r.context.line) same);
+      appeared = c.line-line.ensures ∙ sym (ap (λ (r : ProcessRecord). r.context.line) same);
       then_is = made.after;
       comes = made.step;
       left = made.only;

@@ -1,7 +1,7 @@
 use Rattle.std.proofs.Common.{◌<◌, ◌∙◌, ap, length, get_or, false, arith}
 use Rattle.pv_explain.specs.declared.origins.Origin.{Origin}
 use Rattle.pv_explain.specs.Keeping.{aged}
-use Rattle.pv_explain.proofs.Kept.{got-own}
+use Rattle.pv_explain.proofs.ProcessOrigins.{got-own}
 use Rattle.pv_procs.proofs.Steps.{mapped_further}
 use Rattle.pv_explain.proofs.origins.age.Goals as goal
 

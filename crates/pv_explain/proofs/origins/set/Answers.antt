@@ -1,6 +1,6 @@
 use Rattle.std.proofs.Common.{◌∙◌, ap, length, arith}
 use Rattle.pv_explain.specs.Keeping.{settings_in}
-use Rattle.pv_explain.proofs.Kept.{set-there, set-next}
+use Rattle.pv_explain.proofs.ProcessOrigins.{set-there, set-next}
 use Rattle.pv_explain.proofs.origins.set.Goals as goal
 
 pub returns-then-entry-as_slice : goal.returns-then-entry-as_slice

@@ -1,4 +1,4 @@
-use Rattle.pv_explore.specs.KeptStates.{AreCellsOf, AreKeptSteps}
+use Rattle.pv_explore.specs.VisitedStates.{AreCellsOf, AreCachedSteps}
 use Rattle.pv_explore.specs.Rows.{Grew}
 use Rattle.pv_explore.proofs.ahead.make_ahead.Given as goal
 
@@ -6,6 +6,6 @@ abbrev pub invariant-ahead : goal.invariant-ahead
 invariant-ahead l = record {
   parts_grew : Grew l.fn.parts l.parts;
   groups_grew : Grew l.fn.groups l.groups;
-  steps : AreKeptSteps l.parts l.groups l.steps.steps.items;
+  steps : AreCachedSteps l.parts l.groups l.steps.steps.items;
   cells : AreCellsOf l.parts l.groups l.position l.cells.items;
 }

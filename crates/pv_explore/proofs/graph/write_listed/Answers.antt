@@ -2,13 +2,13 @@ use Rattle.std.proofs.Common.{◌∙◌}
 use Rattle.pv_explore.proofs.Graphed.{listed-next}
 use Rattle.pv_listing.proofs.Rests.{rest_after, rest_begins}
 use Rattle.pv_model.specs.Grammar.Lines.{lines_of}
-use Rattle.pv_streams.proofs.Telling.{on_err}
+use Rattle.pv_streams.proofs.Reporting.{on_err}
 use Rattle.pv_explore.proofs.graph.write_listed.Goals as goal
 
-pub returns-in_err-write_listing_line-clause-beginning : goal.returns-in_err-write_listing_line-clause-beginning
-returns-in_err-write_listing_line-clause-beginning g c =
+pub returns-in_err-write_listing_line-clause-prefix : goal.returns-in_err-write_listing_line-clause-prefix
+returns-in_err-write_listing_line-clause-prefix g c =
     let is = listed-next c.loop-line.rest.now c.in-Some.line.now (lines_of c.in-Some.following.now) c.in-Some.ensures.lines in
-    on_err c.from_residual.result (rest_begins _ _ _ _ _ _ _ c.loop-line.invariant.left is c.in_err-write_listing_line.ensures.beginning)
+    on_err c.from_residual.result (rest_begins _ _ _ _ _ _ _ c.loop-line.invariant.left is c.in_err-write_listing_line.ensures.prefix)
 
 pub loop-line-preserved : goal.loop-line-preserved
 loop-line-preserved g c =

@@ -8,77 +8,77 @@ use Rattle.pv_model.specs.Answers.Lines.{answer_bytes, answer_line, answer_line_
 use Rattle.pv_model.specs.Answers.ProcessRecord.{state_lines}
 use Rattle.pv_model.specs.Bytes.{Bytes}
 use Rattle.pv_model.specs.Grammar.Programs.{program_of}
-use Rattle.pv_streams.specs.Sinks.{and_all, TellsBeginning}
-use Rattle.pv_streams.proofs.Telling.{begins_first, begins_then, on_err, written_both}
+use Rattle.pv_streams.specs.Sinks.{and_all, WritesPrefix}
+use Rattle.pv_streams.proofs.Reporting.{begins_first, begins_then, on_err, written_both}
 use Rattle.pv_explore.proofs.graph.write_vertex.Goals as goal
 
-pub returns-in_err-write_number-clause-beginning : goal.returns-in_err-write_number-clause-beginning
-returns-in_err-write_number-clause-beginning g c =
+pub returns-in_err-write_number-clause-prefix : goal.returns-in_err-write_number-clause-prefix
+returns-in_err-write_number-clause-prefix g c =
     let t = c.in_ok-position.position in
     let states = answer_bytes (state_lines t) in
     let tree = answer_bytes (tree_lines c.args.tree t) in
-    let steps = steps_left_at c.args.states.now c.args.beginning.now c.args.way.now (live_at program_of c.args.beginning.now c.args.way.now) in
+    let steps = steps_left_at c.args.states.now c.args.first_machine.now c.args.witness.now (live_at program_of c.args.first_machine.now c.args.witness.now) in
     let front = answer_line_bytes (answer_line 0 (codes "AT") (decimal c.args.number)) in
     on_err c.from_residual-in_err-write_number.result
-    (subst (λ (bs : Bytes). TellsBeginning bs (g.W.Sink.written c.args.out.now) (g.W.Sink.written c.write_number.new.out))
-    (vertex-bytes c.args.states.now c.args.beginning.now c.args.way.now c.args.tree c.args.number t c.in_ok-position.ensures)
-    (begins_first front ((states ++ tree) ++ steps) _ _ c.in_err-write_number.ensures.beginning))
+    (subst (λ (bs : Bytes). WritesPrefix bs (g.W.Sink.written c.args.out.now) (g.W.Sink.written c.write_number.new.out))
+    (vertex-bytes c.args.states.now c.args.first_machine.now c.args.witness.now c.args.tree c.args.number t c.in_ok-position.ensures)
+    (begins_first front ((states ++ tree) ++ steps) _ _ c.in_err-write_number.ensures.prefix))
 
-pub returns-in_err-write_state-clause-beginning : goal.returns-in_err-write_state-clause-beginning
-returns-in_err-write_state-clause-beginning g c =
+pub returns-in_err-write_state-clause-prefix : goal.returns-in_err-write_state-clause-prefix
+returns-in_err-write_state-clause-prefix g c =
     let t = c.in_ok-position.position in
     let states = answer_bytes (state_lines t) in
     let tree = answer_bytes (tree_lines c.args.tree t) in
-    let steps = steps_left_at c.args.states.now c.args.beginning.now c.args.way.now (live_at program_of c.args.beginning.now c.args.way.now) in
+    let steps = steps_left_at c.args.states.now c.args.first_machine.now c.args.witness.now (live_at program_of c.args.first_machine.now c.args.witness.now) in
     let front = answer_line_bytes (answer_line 0 (codes "AT") (decimal c.args.number)) in
     on_err c.from_residual-in_err-write_state.result
-    (subst (λ (bs : Bytes). TellsBeginning bs (g.W.Sink.written c.args.out.now) (g.W.Sink.written c.write_state.new.out))
-    (vertex-bytes c.args.states.now c.args.beginning.now c.args.way.now c.args.tree c.args.number t c.in_ok-position.ensures)
+    (subst (λ (bs : Bytes). WritesPrefix bs (g.W.Sink.written c.args.out.now) (g.W.Sink.written c.write_state.new.out))
+    (vertex-bytes c.args.states.now c.args.first_machine.now c.args.witness.now c.args.tree c.args.number t c.in_ok-position.ensures)
     (begins_then front ((states ++ tree) ++ steps) _ _ _ c.in_ok-write_number.ensures.whole
-    (begins_first (states ++ tree) steps _ _ (begins_first states tree _ _ (rw c.parts.ensures.value at c.in_err-write_state.ensures.beginning)))))
+    (begins_first (states ++ tree) steps _ _ (begins_first states tree _ _ (rw c.parts.ensures.value at c.in_err-write_state.ensures.prefix)))))
 
-pub returns-in_err-write_tree-clause-beginning : goal.returns-in_err-write_tree-clause-beginning
-returns-in_err-write_tree-clause-beginning g c =
+pub returns-in_err-write_tree-clause-prefix : goal.returns-in_err-write_tree-clause-prefix
+returns-in_err-write_tree-clause-prefix g c =
     let t = c.in_ok-position.position in
     let states = answer_bytes (state_lines t) in
     let tree = answer_bytes (tree_lines c.args.tree t) in
-    let steps = steps_left_at c.args.states.now c.args.beginning.now c.args.way.now (live_at program_of c.args.beginning.now c.args.way.now) in
+    let steps = steps_left_at c.args.states.now c.args.first_machine.now c.args.witness.now (live_at program_of c.args.first_machine.now c.args.witness.now) in
     let front = answer_line_bytes (answer_line 0 (codes "AT") (decimal c.args.number)) in
     on_err c.from_residual-in_err-write_tree.result
-    (subst (λ (bs : Bytes). TellsBeginning bs (g.W.Sink.written c.args.out.now) (g.W.Sink.written c.write_tree.new.out))
-    (vertex-bytes c.args.states.now c.args.beginning.now c.args.way.now c.args.tree c.args.number t c.in_ok-position.ensures)
+    (subst (λ (bs : Bytes). WritesPrefix bs (g.W.Sink.written c.args.out.now) (g.W.Sink.written c.write_tree.new.out))
+    (vertex-bytes c.args.states.now c.args.first_machine.now c.args.witness.now c.args.tree c.args.number t c.in_ok-position.ensures)
     (begins_then front ((states ++ tree) ++ steps) _ _ _ c.in_ok-write_number.ensures.whole
     (begins_first (states ++ tree) steps _ _
-    (begins_then states tree _ _ _ (rw c.parts.ensures.value at c.in_ok-write_state.ensures.whole) (rw c.parts-2.ensures.value at c.in_err-write_tree.ensures.beginning)))))
+    (begins_then states tree _ _ _ (rw c.parts.ensures.value at c.in_ok-write_state.ensures.whole) (rw c.parts-2.ensures.value at c.in_err-write_tree.ensures.prefix)))))
 
 pub returns-clause-whole : goal.returns-clause-whole
 returns-clause-whole g c =
     let t = c.in_ok-position.position in
     let states = answer_bytes (state_lines t) in
     let tree = answer_bytes (tree_lines c.args.tree t) in
-    let steps = steps_left_at c.args.states.now c.args.beginning.now c.args.way.now (live_at program_of c.args.beginning.now c.args.way.now) in
+    let steps = steps_left_at c.args.states.now c.args.first_machine.now c.args.witness.now (live_at program_of c.args.first_machine.now c.args.witness.now) in
     let front = answer_line_bytes (answer_line 0 (codes "AT") (decimal c.args.number)) in
     let first = rw c.parts.ensures.value at c.in_ok-write_state.ensures.whole in
     let second = rw c.parts-2.ensures.value at c.in_ok-write_tree.ensures.whole in
     on_ok_weaker c.write_steps.result
     (λ last.
     written_both front ((states ++ tree) ++ steps) _ _ _ c.in_ok-write_number.ensures.whole (written_both (states ++ tree) steps _ _ _ (written_both states tree _ _ _ first second) last)
-    ∙ ap (and_all (g.W.Sink.written c.args.out.now)) (vertex-bytes c.args.states.now c.args.beginning.now c.args.way.now c.args.tree c.args.number t c.in_ok-position.ensures))
+    ∙ ap (and_all (g.W.Sink.written c.args.out.now)) (vertex-bytes c.args.states.now c.args.first_machine.now c.args.witness.now c.args.tree c.args.number t c.in_ok-position.ensures))
     c.write_steps.ensures.whole
 
-pub returns-clause-beginning : goal.returns-clause-beginning
-returns-clause-beginning g c =
+pub returns-clause-prefix : goal.returns-clause-prefix
+returns-clause-prefix g c =
     let t = c.in_ok-position.position in
     let states = answer_bytes (state_lines t) in
     let tree = answer_bytes (tree_lines c.args.tree t) in
-    let steps = steps_left_at c.args.states.now c.args.beginning.now c.args.way.now (live_at program_of c.args.beginning.now c.args.way.now) in
+    let steps = steps_left_at c.args.states.now c.args.first_machine.now c.args.witness.now (live_at program_of c.args.first_machine.now c.args.witness.now) in
     let front = answer_line_bytes (answer_line 0 (codes "AT") (decimal c.args.number)) in
     let first = rw c.parts.ensures.value at c.in_ok-write_state.ensures.whole in
     let second = rw c.parts-2.ensures.value at c.in_ok-write_tree.ensures.whole in
     on_err_weaker c.write_steps.result
     (λ begun.
-    subst (λ (bs : Bytes). TellsBeginning bs (g.W.Sink.written c.args.out.now) (g.W.Sink.written c.write_steps.new.out))
-    (vertex-bytes c.args.states.now c.args.beginning.now c.args.way.now c.args.tree c.args.number t c.in_ok-position.ensures)
+    subst (λ (bs : Bytes). WritesPrefix bs (g.W.Sink.written c.args.out.now) (g.W.Sink.written c.write_steps.new.out))
+    (vertex-bytes c.args.states.now c.args.first_machine.now c.args.witness.now c.args.tree c.args.number t c.in_ok-position.ensures)
     (begins_then front ((states ++ tree) ++ steps) _ _ _ c.in_ok-write_number.ensures.whole
     (begins_then (states ++ tree) steps _ _ _ (written_both states tree _ _ _ first second) begun)))
-    c.write_steps.ensures.beginning
+    c.write_steps.ensures.prefix

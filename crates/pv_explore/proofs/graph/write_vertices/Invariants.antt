@@ -1,11 +1,11 @@
 use Rattle.std.proofs.Common.{◌≡◌}
-use Rattle.pv_explore.specs.Searches.{kept_of}
+use Rattle.pv_explore.specs.Searches.{visited_of}
 use Rattle.pv_explore.proofs.Graphed.{vertices_left}
 use Rattle.pv_listing.proofs.Rests.{LeavesRest}
 use Rattle.pv_explore.proofs.graph.write_vertices.Given as goal
 
 abbrev pub invariant-loop-number : goal.invariant-loop-number
 invariant-loop-number g l = record {
-  left : LeavesRest (vertices_left l.search.states l.beginning l.tree (kept_of l.search).ways l.number) (vertices_left l.search.states l.beginning l.tree (kept_of l.search).ways 0) (g.W.Sink.written l.fn.out) (g.W.Sink.written l.out);
+  left : LeavesRest (vertices_left l.search.states l.first_machine l.tree (visited_of l.search).witnesses l.number) (vertices_left l.search.states l.first_machine l.tree (visited_of l.search).witnesses 0) (g.W.Sink.written l.fn.out) (g.W.Sink.written l.out);
   quiet : g.W.Sink.failures l.out ≡ g.W.Sink.failures l.fn.out;
 }

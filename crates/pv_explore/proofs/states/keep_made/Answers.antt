@@ -1,9 +1,9 @@
 use Rattle.std.proofs.Common.{◌≡◌, ◌≢◌, ◌∙◌, ◌<◌, ap, arith, inl, inr, length, nat_lt, subst, sym, true, false, vec_len, ◌==◌, List, [], Some}
 use Rattle.std.proofs.lemmas.Bool.Decides.{nat_tests}
 use Rattle.std.proofs.lemmas.Option.{slice_get-get_or}
-use Rattle.pv_explore.proofs.KeptStates.{either}
-use Rattle.pv_kept_steps.specs.declared.cells.Cell.{Cell}
-use Rattle.pv_kept_steps.specs.Steps.{Adds}
+use Rattle.pv_explore.proofs.VisitedStates.{either}
+use Rattle.pv_step_cache.specs.declared.cells.Cell.{Cell}
+use Rattle.pv_step_cache.specs.Steps.{Adds}
 use Rattle.pv_explore.proofs.states.keep_made.Goals as goal
 
 pub returns : goal.returns
@@ -18,7 +18,7 @@ returns c =
     let long : vec_len c.in-Some.before.now ≡ 0 = c.in-Some.before.now.ok.0 ∙ ap length none in
     let test : true ≡ false = sym (ap (λ n. n == 0) long) ∙ sym c.is_empty.ensures ∙ c.if-is_empty.false in
     cc in
-    either c.keep.result c.keep.ensures.kept c.keep.ensures.unchanged
+    either c.keep.result c.keep.ensures.cached c.keep.ensures.unchanged
     (λ adds. inr (record {
       before = before;
       at = slice_get-get_or cells number before within ∙ ap Some (sym found.1);

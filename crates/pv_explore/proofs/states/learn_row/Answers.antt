@@ -15,11 +15,11 @@ loop-part-preserved c =
     let grew = learnt-grew old new part c.in_ok-number.ensures.added in
     record {
       grew = grew-then c.args.parts.now old new c.loop-part.invariant.grew grew;
-      kept =
-          all-next (λ (p : Vec ℕ). p.items) group i c.part-item.result (IsAmong new) c.loop-part-test.true (all-grew old new (take i (parts_in group)) grew c.loop-part.invariant.kept)
+      visited =
+          all-next (λ (p : Vec ℕ). p.items) group i c.part-item.result (IsAmong new) c.loop-part-test.true (all-grew old new (take i (parts_in group)) grew c.loop-part.invariant.visited)
           (subst (IsAmong c.number.new.self) is (learnt-among old new part c.in_ok-number.ensures.added));
       row =
-          row-learnt (λ (p : Vec ℕ). p.items) group i c.part-item.result old new c.in_ok-number.number _ _ grew c.loop-part-test.true c.loop-part.invariant.kept
+          row-learnt (λ (p : Vec ℕ). p.items) group i c.part-item.result old new c.in_ok-number.number _ _ grew c.loop-part-test.true c.loop-part.invariant.visited
           (c.in_ok-number.ensures.number ∙ ap (number_in c.number.new.self) is) c.loop-part.invariant.row c.in_ok-push_number.ensures;
     }
 

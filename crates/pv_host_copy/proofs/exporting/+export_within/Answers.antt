@@ -5,9 +5,9 @@ use Rattle.pv_listing.proofs.Children.{past-none, last-is, front-is, length-path
 use Rattle.pv_model.specs.Bytes.{Bytes}
 use Rattle.pv_model.specs.Tree.{entries_at, node_at}
 use Rattle.pv_host_copy.specs.declared.target.TargetFault.TheVariants.{Memory}
-use Rattle.pv_host_copy.specs.Exported.{Spells, Stops}
-use Rattle.pv_host_copy.specs.Spelled.{spells_node, spells_within}
-use Rattle.pv_host_copy.proofs.Exports.{none-within, refused, spells_on-start, spells_on-step, spells_on-end, spells_on-memory, spells_on-node, spells_on-within, stops-within}
+use Rattle.pv_host_copy.specs.Exported.{Encodes, Stops}
+use Rattle.pv_host_copy.specs.Encoded.{encodes_node, encodes_within}
+use Rattle.pv_host_copy.proofs.Exports.{none-within, refused, encodes_on-start, encodes_on-step, encodes_on-end, encodes_on-memory, encodes_on-node, encodes_on-within, stops-within}
 use Rattle.pv_host_copy.proofs.exporting.+export_within.Goals as goal
 use Rattle.pv_host_copy.proofs.exporting.+export_within.Goals.{then-depth-eq0-via-then-depth-eq0, then-depth-eq0-via-else-depth-eq0+then-not-is_directory}
 
@@ -30,7 +30,7 @@ loop-child-init g t c =
     record {
       within = omega (arith, c.len-base.ensures);
       front = take_all c.len-base.result path (omega arith);
-      spelled = spells_on-start tree (c.args.depth - 1) path _ es c.args.firsts.now.items (g.T.HostTarget.made c.args.target.now) all;
+      encoded = encodes_on-start tree (c.args.depth - 1) path _ es c.args.firsts.now.items (g.T.HostTarget.made c.args.target.now) all;
     }
 
 pub returns-in_err-child-clause-made : goal.returns-in_err-child-clause-made
@@ -42,8 +42,8 @@ returns-in_err-child-clause-made g t c =
     let made1 = g.T.HostTarget.made c.loop-child.target in
     let at = c.next_child.new.path.items in
     let left = entries_after (last_name (drop c.len-base.result c.loop-child.path.items)) (entries_at tree c.args.node) in
-    refused firsts c.loop-child.firsts.items made made1 (spells_within tree c.args.depth path c.args.node) at c.from_residual.result Memory c.from_residual.ensures.1
-    (spells_on-memory tree c.args.depth path c.args.node left firsts c.loop-child.firsts.items made made1 at (omega arith) c.loop-child.invariant.spelled)
+    refused firsts c.loop-child.firsts.items made made1 (encodes_within tree c.args.depth path c.args.node) at c.from_residual.result Memory c.from_residual.ensures.1
+    (encodes_on-memory tree c.args.depth path c.args.node left firsts c.loop-child.firsts.items made made1 at (omega arith) c.loop-child.invariant.encoded)
 
 pub returns-in_err-export_node-clause-made : goal.returns-in_err-export_node-clause-made
 returns-in_err-export_node-clause-made g t c =
@@ -61,13 +61,13 @@ returns-in_err-export_node-clause-made g t c =
     let at = c.next_child.new.path.items in
     let next = subst (λ (o : Option ℕ). IsNextChild es last (take base c.loop-child.path.items) o at) c.in-Some.is c.in_ok-child.ensures in
     let ends : at ≡ path ++ codes "/" ++ next.0 = next.2 ∙ ap (λ d. d ++ codes "/" ++ next.0) c.loop-child.invariant.front in
-    let stops : Stops (spells_node at child (node_at tree child)) c.loop-child.firsts.items made1 made2 at fault =
-    subst (λ (bs : Bytes). Stops (spells_node bs child (node_at tree child)) c.loop-child.firsts.items made1 made2 bs fault) c.deref.ensures.value c.in_err-export_node.ensures in
-    refused firsts c.export_node.new.firsts.items made made2 (spells_within tree c.args.depth path c.args.node) at c.from_residual-in_err-export_node.result fault
+    let stops : Stops (encodes_node at child (node_at tree child)) c.loop-child.firsts.items made1 made2 at fault =
+    subst (λ (bs : Bytes). Stops (encodes_node bs child (node_at tree child)) c.loop-child.firsts.items made1 made2 bs fault) c.deref.ensures.value c.in_err-export_node.ensures in
+    refused firsts c.export_node.new.firsts.items made made2 (encodes_within tree c.args.depth path c.args.node) at c.from_residual-in_err-export_node.result fault
     c.from_residual-in_err-export_node.ensures.1
     (stops-within tree c.args.depth path c.args.node firsts made made2 at fault (omega arith)
-    (spells_on-node tree (c.args.depth - 1) path at next.0 child (entries_after last es) (entries_after (Some next.0) es) es firsts c.loop-child.firsts.items firsts firsts made made1 made2 made
-    c.loop-child.invariant.spelled next.1 ends at fault stops))
+    (encodes_on-node tree (c.args.depth - 1) path at next.0 child (entries_after last es) (entries_after (Some next.0) es) es firsts c.loop-child.firsts.items firsts firsts made made1 made2 made
+    c.loop-child.invariant.encoded next.1 ends at fault stops))
 
 pub returns-in_err-export_within-clause-made : goal.returns-in_err-export_within-clause-made
 returns-in_err-export_within-clause-made g t c =
@@ -86,14 +86,14 @@ returns-in_err-export_within-clause-made g t c =
     let at = c.next_child.new.path.items in
     let next = subst (λ (o : Option ℕ). IsNextChild es last (take base c.loop-child.path.items) o at) c.in-Some.is c.in_ok-child.ensures in
     let ends : at ≡ path ++ codes "/" ++ next.0 = next.2 ∙ ap (λ d. d ++ codes "/" ++ next.0) c.loop-child.invariant.front in
-    let node : Spells (spells_node at child (node_at tree child)) c.loop-child.firsts.items made1 c.export_node.new.firsts.items made2 =
-    subst (λ (bs : Bytes). Spells (spells_node bs child (node_at tree child)) c.loop-child.firsts.items made1 c.export_node.new.firsts.items made2) c.deref.ensures.value
+    let node : Encodes (encodes_node at child (node_at tree child)) c.loop-child.firsts.items made1 c.export_node.new.firsts.items made2 =
+    subst (λ (bs : Bytes). Encodes (encodes_node bs child (node_at tree child)) c.loop-child.firsts.items made1 c.export_node.new.firsts.items made2) c.deref.ensures.value
     c.in_ok-export_node.ensures in
-    refused firsts c.export_within.new.firsts.items made made3 (spells_within tree c.args.depth path c.args.node) c.export_within.new.path.items
+    refused firsts c.export_within.new.firsts.items made made3 (encodes_within tree c.args.depth path c.args.node) c.export_within.new.path.items
     c.from_residual-in_err-export_within.result fault c.from_residual-in_err-export_within.ensures.1
     (stops-within tree c.args.depth path c.args.node firsts made made3 c.export_within.new.path.items fault (omega arith)
-    (spells_on-within tree (c.args.depth - 1) path at next.0 child (entries_after last es) (entries_after (Some next.0) es) es firsts c.loop-child.firsts.items c.export_node.new.firsts.items firsts
-    made made1 made2 made3 c.loop-child.invariant.spelled next.1 ends c.export_within.new.path.items fault node c.in_err-export_within.ensures.made))
+    (encodes_on-within tree (c.args.depth - 1) path at next.0 child (entries_after last es) (entries_after (Some next.0) es) es firsts c.loop-child.firsts.items c.export_node.new.firsts.items firsts
+    made made1 made2 made3 c.loop-child.invariant.encoded next.1 ends c.export_within.new.path.items fault node c.in_err-export_within.ensures.made))
 
 pub loop-child-preserved : goal.loop-child-preserved
 loop-child-preserved g t c =
@@ -114,16 +114,16 @@ loop-child-preserved g t c =
     let name = next.0 in
     let ends : at ≡ path ++ codes "/" ++ name = next.2 ∙ ap (λ d. d ++ codes "/" ++ name) c.loop-child.invariant.front in
     let after : c.export_within.new.path.items ≡ path ++ codes "/" ++ name = c.in_ok-export_within.ensures.path ∙ ends in
-    let node : Spells (spells_node at child (node_at tree child)) c.loop-child.firsts.items made1 c.export_node.new.firsts.items made2 =
-    subst (λ (bs : Bytes). Spells (spells_node bs child (node_at tree child)) c.loop-child.firsts.items made1 c.export_node.new.firsts.items made2) c.deref.ensures.value
+    let node : Encodes (encodes_node at child (node_at tree child)) c.loop-child.firsts.items made1 c.export_node.new.firsts.items made2 =
+    subst (λ (bs : Bytes). Encodes (encodes_node bs child (node_at tree child)) c.loop-child.firsts.items made1 c.export_node.new.firsts.items made2) c.deref.ensures.value
     c.in_ok-export_node.ensures in
     record {
       within = omega (arith, length-path path name c.export_within.new.path.items after);
       front = front-is path name c.export_within.new.path.items base long after;
-      spelled =
+      encoded =
           rw (last-is path name c.export_within.new.path.items base long after)
-          (spells_on-step tree (c.args.depth - 1) path at name child (entries_after last es) (entries_after (Some name) es) es firsts c.loop-child.firsts.items c.export_node.new.firsts.items
-          c.export_within.new.firsts.items made made1 made2 made3 c.loop-child.invariant.spelled next.1 ends node c.in_ok-export_within.ensures.made);
+          (encodes_on-step tree (c.args.depth - 1) path at name child (entries_after last es) (entries_after (Some name) es) es firsts c.loop-child.firsts.items c.export_node.new.firsts.items
+          c.export_within.new.firsts.items made made1 made2 made3 c.loop-child.invariant.encoded next.1 ends node c.in_ok-export_within.ensures.made);
     }
 
 pub returns-clause-made : goal.returns-clause-made
@@ -133,5 +133,5 @@ returns-clause-made g t c =
     let base = c.len-base.result in
     let last = last_name (drop base c.loop-child.path.items) in
     let next = subst (λ (o : Option ℕ). IsNextChild es last (take base c.loop-child.path.items) o c.next_child.new.path.items) c.in_default.is c.in_ok-child.ensures in
-    spells_on-end tree c.args.depth c.args.path.now.items c.args.node _ c.args.firsts.now.items c.loop-child.firsts.items (g.T.HostTarget.made c.args.target.now)
-    (g.T.HostTarget.made c.loop-child.target) (omega arith) next.0 c.loop-child.invariant.spelled
+    encodes_on-end tree c.args.depth c.args.path.now.items c.args.node _ c.args.firsts.now.items c.loop-child.firsts.items (g.T.HostTarget.made c.args.target.now)
+    (g.T.HostTarget.made c.loop-child.target) (omega arith) next.0 c.loop-child.invariant.encoded

@@ -1,8 +1,8 @@
 use Rattle.std.proofs.Common.{◌++◌, codes}
 use Rattle.pv_model.specs.Listing.{listed_path}
 use Rattle.pv_model.specs.Trace.{quote}
-use Rattle.pv_streams.proofs.Telling.{written_both}
-use Rattle.pv_host_copy.proofs.ToldLines.{on_ok}
+use Rattle.pv_streams.proofs.Reporting.{written_both}
+use Rattle.pv_host_copy.proofs.SkippedLines.{on_ok}
 use Rattle.pv_host_copy.proofs.lines.write_unmade.Goals as goal
 
 pub returns : goal.returns

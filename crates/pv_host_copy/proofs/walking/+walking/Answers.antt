@@ -2,10 +2,10 @@ use Rattle.std.proofs.Common.{◌∙◌, arith, refl, subst, sym, Ok, Err}
 use Rattle.std.specs.Prelude.{IfSome}
 use Rattle.pv_host_copy.specs.Gathered.{and_directory, gather}
 use Rattle.pv_host_copy.specs.Importing.{Keeps}
-use Rattle.pv_host_copy.specs.Telling.{Tells}
+use Rattle.pv_host_copy.specs.Reporting.{Reports}
 use Rattle.pv_host_copy.specs.Walking.{GoesByNode}
 use Rattle.pv_host_copy.proofs.Stepping.{goes_if-residual}
-use Rattle.pv_host_copy.proofs.Walks.{directory-kept, directory-stops, goes_on-step, goes_on-stops, path_at, front_at}
+use Rattle.pv_host_copy.proofs.Walks.{directory-preserved, directory-stops, continues-step, continues-stops, path_at, front_at}
 use Rattle.pv_host_copy.proofs.walking.+walking.Goals as goal
 
 pub import_directory-returns-in_err-take-clause-goes : goal.import_directory-returns-in_err-take-clause-goes
@@ -23,9 +23,9 @@ import_directory-returns-in_err-take-clause-goes g t c =
     c.loop-directory.invariant.path c.in_ok-push.ensures.items c.in_ok-extend_from_slice.ensures.items c.deref.ensures.value
     in
     goes_if-residual (rest c.args.directory) (gather v path) c.args.importing.now c.from_residual-in_err-take.result next s c.from_residual-in_err-take.ensures.1
-    (goes_on-stops rest bytes v path e (rest c.next.new.self) now next (Unit {0}) s (rest c.args.directory) (rest c.loop-directory.directory) c.args.importing.now
+    (continues-stops rest bytes v path e (rest c.next.new.self) now next (Unit {0}) s (rest c.args.directory) (rest c.loop-directory.directory) c.args.importing.now
     c.loop-directory.invariant.goes
-    (subst (λ told. IfSome (rest c.loop-directory.directory) (λ entries. Tells rest bytes entries told (rest c.next.new.self))) c.in-Some.is c.in_ok-entry.ensures.told)
+    (subst (λ reported. IfSome (rest c.loop-directory.directory) (λ entries. Reports rest bytes entries reported (rest c.next.new.self))) c.in-Some.is c.in_ok-entry.ensures.reported)
     (subst (λ p. GoesByNode {X = Unit {0}} rest bytes v p e.node now (Err s) next) at
     (subst (λ w. GoesByNode {X = Unit {0}} rest bytes w c.extend_from_slice.new.self.items e.node now (Err s) next) c.loop-directory.invariant.version c.in_err-take.ensures.goes)))
 
@@ -51,9 +51,9 @@ import_directory-loop-directory-preserved g t c =
       level = omega (arith, lower, level);
       version = c.in_ok-take.ensures.version ∙ c.loop-directory.invariant.version;
       goes =
-          goes_on-step rest bytes v path e (rest c.next.new.self) now next done (rest c.args.directory) (rest c.loop-directory.directory) c.args.importing.now
+          continues-step rest bytes v path e (rest c.next.new.self) now next done (rest c.args.directory) (rest c.loop-directory.directory) c.args.importing.now
           c.loop-directory.invariant.goes
-          (subst (λ told. IfSome (rest c.loop-directory.directory) (λ entries. Tells rest bytes entries told (rest c.next.new.self))) c.in-Some.is c.in_ok-entry.ensures.told)
+          (subst (λ reported. IfSome (rest c.loop-directory.directory) (λ entries. Reports rest bytes entries reported (rest c.next.new.self))) c.in-Some.is c.in_ok-entry.ensures.reported)
           (subst (λ p. GoesByNode rest bytes v p e.node now (Ok done) next) at
           (subst (λ w. GoesByNode rest bytes w c.extend_from_slice.new.self.items e.node now (Ok done) next) c.loop-directory.invariant.version c.in_ok-take.ensures.goes));
     }
@@ -82,9 +82,9 @@ take-returns-else-not-branch-clause-goes g t c =
     let mid = c.keep_directory.new.self in
     let after = c.import_directory.new.importing in
     let r = c.import_directory.result in
-    let kept = c.in_ok-keep_directory-in-Directory.field-0 in
+    let preserved = c.in_ok-keep_directory-in-Directory.field-0 in
     subst (λ node. GoesByNode rest bytes before.version path node before r after) (sym c.in-Directory.is)
-    (directory-kept before.version before path (rest c.in-Directory.inside) refl mid after mid.version r c.in_ok-keep_directory-in-Directory.ensures.version
+    (directory-preserved before.version before path (rest c.in-Directory.inside) refl mid after mid.version r c.in_ok-keep_directory-in-Directory.ensures.version
     (subst (λ b. Keeps path before (Ok b) mid) c.if-not-branch.false
-    (subst (λ p. Keeps p before (Ok kept) mid) c.deref.ensures.value c.in_ok-keep_directory-in-Directory.ensures.keeps))
+    (subst (λ p. Keeps p before (Ok preserved) mid) c.deref.ensures.value c.in_ok-keep_directory-in-Directory.ensures.keeps))
     c.import_directory.ensures.goes)

@@ -1,14 +1,14 @@
 use Rattle.std.proofs.Common.{◌≡◌, ◌∙◌, ℕ, true, Result, Err, sym, ap, subst, arith}
 use Rattle.pv_model.specs.Tree.{Tree}
-use Rattle.pv_laws_trees.specs.Kept.{EachIsNamed}
+use Rattle.pv_laws_trees.specs.Preserved.{EachIsNamed}
 use Rattle.pv_image_write.specs.declared.fault.WriteFault.{WriteFault}
 use Rattle.pv_image_write.specs.declared.fault.WriteFault.TheVariants.{Write}
 use Rattle.pv_image.specs.Migrated.{has_room}
 use Rattle.pv_image.proofs.Enlarged.{roomy, named_need-needed}
-use Rattle.pv_image.proofs.Migrations.{begins-migrated, tells-migrated}
+use Rattle.pv_image.proofs.Migrations.{begins-migrated, reports-migrated}
 use Rattle.pv_image.proofs.migrating.migrate.Goals as goal
 
--- the same of the tree that is lent
+-- the same for the borrowed tree
 room-of : (t old : Tree) (blocks inodes : ℕ) → t ≡ old → has_room old blocks inodes ≡ true → has_room t blocks inodes ≡ true
 room-of t old blocks inodes same room = ap (λ (u : Tree). has_room u blocks inodes) same ∙ room
 
@@ -33,7 +33,7 @@ write_as-requires-clause-room g c =
 
 pub returns-in-Ok-clause-as_written : goal.returns-in-Ok-clause-as_written
 returns-in-Ok-clause-as_written g c =
-    tells-migrated c.args.bytes.items c.args.blocks c.args.inodes c.in_ok-store.store c.tree.result.now.tree c.in_ok-store.ensures.mounted c.tree.ensures.tree c.invariant.ensures.named
+    reports-migrated c.args.bytes.items c.args.blocks c.args.inodes c.in_ok-store.store c.tree.result.now.tree c.in_ok-store.ensures.mounted c.tree.ensures.tree c.invariant.ensures.named
     (room-of c.tree.result.now.tree c.in_ok-store.store c.args.blocks c.args.inodes c.tree.ensures.tree c.in_ok-store.ensures.room)
     (g.W.Sink.written c.args.out.now) (g.W.Sink.written c.write_as.new.image) c.in-Ok.ensures.whole
 

@@ -20,4 +20,4 @@ pub loop-rest-preserved : goal.loop-rest-preserved
 loop-rest-preserved c =
     IsContained-step c.args.tree.now.tree c.args.path.now c.loop-rest.directory c.loop-rest.name.now c.in-Some.following.now (option_copied c.loop-rest.rest) (ap option_copied c.in-Some.is)
     c.loop-rest.invariant c.in_ok-directory.directory c.split_component-in-Some.result.0.now (option_copied c.split_component-in-Some.result.1) c.split_component-in-Some.ensures.components
-    c.in_ok-directory.ensures.entered c.in_ok-directory.ensures.stands
+    c.in_ok-directory.ensures.entered c.in_ok-directory.ensures.appears

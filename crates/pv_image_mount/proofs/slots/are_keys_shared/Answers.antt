@@ -4,7 +4,7 @@ use Rattle.std.proofs.lemmas.Cmp.{nat_cmp_total}
 use Rattle.std.proofs.lemmas.List.{map-id}
 use Rattle.std.specs.Prelude.{◌==◌}
 use Rattle.std.specs.Cmp.{unsigned_ties}
-use Rattle.pv_model.specs.Mount.{stands_twice}
+use Rattle.pv_model.specs.Mount.{appears_twice}
 use Rattle.pv_image_mount.proofs.SortedNames.{once_sorted, pair_apart, twice_found}
 use Rattle.pv_image_mount.proofs.slots.are_keys_shared.Goals as goal
 
@@ -16,11 +16,11 @@ loop-i-preserved c =
 
 pub returns-then-keys-i : goal.returns-then-keys-i
 returns-then-keys-i c =
-    sym (ap (stands_twice ◌==◌) (sym (map-id c.args.keys.now))
+    sym (ap (appears_twice ◌==◌) (sym (map-id c.args.keys.now))
     ∙ twice_found nat_cmp_total unsigned_ties (λ (key : ℕ). key) c.args.keys.now c.sort_unstable.new.self c.loop-i.i _ _ c.sort_unstable.ensures.permutation c.loop-i.auto.i c.loop-i-test.true (eq-eqb _ _ c.if-keys-i.true))
 
 pub returns : goal.returns
 returns c =
-    sym (ap (stands_twice ◌==◌) (sym (map-id c.args.keys.now))
+    sym (ap (appears_twice ◌==◌) (sym (map-id c.args.keys.now))
     ∙ once_sorted nat_cmp_total unsigned_ties (λ (key : ℕ). key) c.args.keys.now c.sort_unstable.new.self c.sort_unstable.ensures.permutation c.sort_unstable.ensures.sorted
     (λ k within. c.loop-i.invariant k (omega (arith, c.loop-i-test.false))))

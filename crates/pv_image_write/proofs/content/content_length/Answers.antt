@@ -5,16 +5,16 @@ use Rattle.pv_model.specs.Effect.{size_of}
 use Rattle.pv_model.specs.Room.{entry_length, greatest_length}
 use Rattle.pv_model.specs.Tree.{node_at, is_directory_at, greatest_name}
 use Rattle.pv_tree.specs.Holding.{HeldTree}
-use Rattle.pv_tree.specs.Standing.{IsStanding}
-use Rattle.pv_image_write.specs.Spelling.{content_of}
+use Rattle.pv_tree.specs.Present.{IsPresent}
+use Rattle.pv_image_write.specs.Encoding.{content_of}
 use Rattle.pv_image_write.proofs.PlacedTrees.{content-allowed, directory-length, greatest-small, other-length}
 use Rattle.pv_image_write.proofs.content.content_length.Goals as goal
 
-of_directory : (h : HeldTree) → IsStanding h → (v : Version) → greatest_name h.tree.version ≤ greatest_name v → (n size slot : ℕ) → slot ≡ entry_length v
+of_directory : (h : HeldTree) → IsPresent h → (v : Version) → greatest_name h.tree.version ≤ greatest_name v → (n size slot : ℕ) → slot ≡ entry_length v
     → is_directory_at h.tree n ≡ true → option_map size_of (node_at h.tree n) ≡ Some size → slot * size ≡ length (content_of v (node_at h.tree n))
 of_directory h s v names n size slot entry is written = ap (λ k. k * size) entry ∙ sym (directory-length h s v 0 h.tree.inodes (le_refl h.tree.inodes) names n size is written)
 
-short : (h : HeldTree) → IsStanding h → (v : Version) → greatest_name h.tree.version ≤ greatest_name v → (n : ℕ) → length (content_of v (node_at h.tree n)) ≤ greatest_length v
+short : (h : HeldTree) → IsPresent h → (v : Version) → greatest_name h.tree.version ≤ greatest_name v → (n : ℕ) → length (content_of v (node_at h.tree n)) ≤ greatest_length v
 short h s v names n = content-allowed h s v 0 h.tree.inodes (le_refl h.tree.inodes) names n
 
 pub overflow_mul-result : goal.overflow_mul-result

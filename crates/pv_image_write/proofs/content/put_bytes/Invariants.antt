@@ -2,7 +2,7 @@ use Rattle.std.proofs.Common.{◌≡◌, ◌≤◌, ◌+◌, ◌-◌, ◌++◌, 
 use Rattle.pv_dirs.specs.Trees.{bytes_at}
 use Rattle.pv_image_write.proofs.content.put_bytes.Given as goal
 
--- the bytes so far stand after what stood there
+-- the bytes so far follow the old ones
 abbrev pub invariant-loop-at : goal.invariant-loop-at
 invariant-loop-at l = record {
   within : l.at ≤ length (bytes_at l.tree.tree l.node);

@@ -1,7 +1,7 @@
 use Rattle.std.proofs.Common.{◌≡◌, ℕ, suc, ◌+◌, ◌≤◌, le_refl, add-one, sym, ap, subst, ◌∙◌, arith}
 use Rattle.pv_model.specs.Tree.{node_at}
 use Rattle.pv_image_write.specs.Placed.{placed, written_at}
-use Rattle.pv_image_write.specs.Spelling.{taken_of, taken_before}
+use Rattle.pv_image_write.specs.Encoding.{taken_of, taken_before}
 use Rattle.pv_image_write.proofs.PlacedTrees.{node-placed, placed-needs, placed-short, placed-well_formed, taken-few, taken_before-few}
 use Rattle.pv_image_write.proofs.image.needed_blocks.Goals as goal
 
@@ -9,7 +9,7 @@ pub loop-slot-init : goal.loop-slot-init
 unfolding placed
 loop-slot-init c =
     let h = c.args.tree.now in
-    let s = c.sizes-slot-end.ensures.standing in
+    let s = c.sizes-slot-end.ensures.present in
     let none = ap (taken_of c.args.version) (placed-well_formed h s c.args.version 0 h.tree.inodes (le_refl h.tree.inodes) c.requires).no_zero in
     omega (arith, none)
 
@@ -17,7 +17,7 @@ pub overflow_add-needed : goal.overflow_add-needed
 unfolding placed
 overflow_add-needed c =
     let h = c.args.tree.now in
-    let s = c.sizes-slot-end.ensures.standing in
+    let s = c.sizes-slot-end.ensures.present in
     let v = c.args.version in
     let n = c.loop-slot.slot in
     let u = placed h.tree v 0 h.tree.inodes in
@@ -31,7 +31,7 @@ pub loop-slot-preserved : goal.loop-slot-preserved
 unfolding placed
 loop-slot-preserved c =
     let h = c.args.tree.now in
-    let s = c.sizes-slot-end.ensures.standing in
+    let s = c.sizes-slot-end.ensures.present in
     let v = c.args.version in
     let n = c.loop-slot.slot in
     let u = placed h.tree v 0 h.tree.inodes in
@@ -43,7 +43,7 @@ loop-slot-preserved c =
 pub returns : goal.returns
 returns c =
     let h = c.args.tree.now in
-    let s = c.sizes-slot-end.ensures.standing in
+    let s = c.sizes-slot-end.ensures.present in
     let v = c.args.version in
     let all : c.loop-slot.slot ≡ h.tree.inodes = omega (arith, c.sizes-slot-end.ensures.inodes) in
     c.loop-slot.invariant ∙ ap (λ k. taken_before (placed h.tree v 0 h.tree.inodes) (suc k)) all

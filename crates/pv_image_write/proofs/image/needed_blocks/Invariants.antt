@@ -1,6 +1,6 @@
 use Rattle.std.proofs.Common.{◌≡◌, suc}
 use Rattle.pv_image_write.specs.Placed.{placed}
-use Rattle.pv_image_write.specs.Spelling.{taken_before}
+use Rattle.pv_image_write.specs.Encoding.{taken_before}
 use Rattle.pv_image_write.proofs.image.needed_blocks.Given as goal
 
 abbrev pub invariant-loop-slot : goal.invariant-loop-slot

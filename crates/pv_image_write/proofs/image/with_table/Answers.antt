@@ -1,7 +1,7 @@
 use Rattle.std.proofs.Common.{◌≡◌, suc, ◌+◌, length, sym, ap, subst, ◌∙◌, add-one, arith}
 use Rattle.pv_model.specs.Tree.{node_at, names_of}
 use Rattle.pv_image_write.specs.Placed.{placed, written_at}
-use Rattle.pv_image_write.specs.Spelling.{first_block, all_inodes}
+use Rattle.pv_image_write.specs.Encoding.{first_block, all_inodes}
 use Rattle.pv_image_write.specs.Writable.{AreWritten}
 use Rattle.pv_image_write.proofs.PlacedTrees.{node-placed, names-placed, placed-counted}
 use Rattle.pv_image_write.proofs.Places.{length-first_block}

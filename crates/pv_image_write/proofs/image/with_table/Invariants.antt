@@ -1,6 +1,6 @@
 use Rattle.std.proofs.Common.{◌*◌, ◌≤◌, vec_capacity}
 use Rattle.pv_image_write.specs.Placed.{placed}
-use Rattle.pv_image_write.specs.Spelling.{all_inodes, first_block}
+use Rattle.pv_image_write.specs.Encoding.{all_inodes, first_block}
 use Rattle.pv_image_write.specs.Writable.{AreWritten}
 use Rattle.pv_image_write.proofs.image.with_table.Given as goal
 

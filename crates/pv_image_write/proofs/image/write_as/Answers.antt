@@ -5,19 +5,19 @@ use Rattle.std.proofs.lemmas.Result.{on_ok_weaker}
 use Rattle.pv_model.specs.Bytes.{Bytes}
 use Rattle.pv_model.specs.Image.{inode_blocks, greatest_blocks}
 use Rattle.pv_model.specs.Tree.{Tree}
-use Rattle.pv_streams.specs.Sinks.{and_all, TellsBeginning}
+use Rattle.pv_streams.specs.Sinks.{and_all, WritesPrefix}
 use Rattle.pv_image_write.specs.Placed.{placed}
-use Rattle.pv_image_write.specs.Spelling.{image_bytes}
-use Rattle.pv_image_write.specs.Written.{BeginsImage, TellsImage}
+use Rattle.pv_image_write.specs.Encoding.{image_bytes}
+use Rattle.pv_image_write.specs.Written.{BeginsImage, WritesImage}
 use Rattle.pv_image_write.specs.Writable.{IsWritable}
 use Rattle.pv_image_write.proofs.Law.{is-written_image}
 use Rattle.pv_image_write.proofs.PlacedTrees.{placed-writable}
 use Rattle.pv_image_write.proofs.image.write_as.Goals as goal
 
-tells : (u : Tree) → IsWritable u → (before after : Option Bytes) → after ≡ and_all before (image_bytes u) → TellsImage u before after
-tells u w before after written = record { image = image_bytes u; holds = is-written_image u w; written = written }
+reports : (u : Tree) → IsWritable u → (before after : Option Bytes) → after ≡ and_all before (image_bytes u) → WritesImage u before after
+reports u w before after written = record { image = image_bytes u; holds = is-written_image u w; written = written }
 
-begins : (u : Tree) → IsWritable u → (before after : Option Bytes) → TellsBeginning (image_bytes u) before after → BeginsImage u before after
+begins : (u : Tree) → IsWritable u → (before after : Option Bytes) → WritesPrefix (image_bytes u) before after → BeginsImage u before after
 begins u w before after written = record { image = image_bytes u; holds = is-written_image u w; written = written }
 
 pub write_bytes-requires : goal.write_bytes-requires
@@ -35,7 +35,7 @@ pub returns-clause-whole : goal.returns-clause-whole
 returns-clause-whole g c =
     let u = placed c.args.tree.now.tree c.args.version c.args.blocks c.args.inodes in
     let w = placed-writable c.args.tree.now c.invariant.ensures c.args.version c.args.blocks c.args.inodes c.requires.inodes c.requires.names c.requires.sizes c.requires.room in
-    on_ok_weaker c.write_bytes.result (tells u w (g.O.Sink.written c.args.image.now) (g.O.Sink.written c.write_bytes.new.image)) c.write_bytes.ensures.whole
+    on_ok_weaker c.write_bytes.result (reports u w (g.O.Sink.written c.args.image.now) (g.O.Sink.written c.write_bytes.new.image)) c.write_bytes.ensures.whole
 
 pub returns-clause-cut : goal.returns-clause-cut
 returns-clause-cut g c failed =

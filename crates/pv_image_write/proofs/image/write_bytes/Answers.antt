@@ -1,7 +1,7 @@
 use Rattle.std.proofs.Common.{◌≡◌, ℕ, ◌+◌, ◌-◌, ◌≤◌, subst, arith}
 use Rattle.pv_model.specs.Bytes.{Bytes}
 use Rattle.pv_model.specs.Image.{inode_blocks}
-use Rattle.pv_streams.specs.Sinks.{and_all, TellsBeginning}
+use Rattle.pv_streams.specs.Sinks.{and_all, WritesPrefix}
 use Rattle.pv_image_write.specs.Placed.{placed}
 use Rattle.pv_image_write.proofs.Writing.{image-as_written, length-with_table}
 use Rattle.pv_image_write.proofs.image.write_bytes.Goals as goal
@@ -28,4 +28,4 @@ returns-in_err-write_contents-clause-cut g c failed =
     let u = placed c.args.tree.now.tree c.args.version c.args.blocks c.args.inodes in
     let whole = whole-image c.args.blocks (inode_blocks c.args.version c.args.inodes) c.requires.sizes in
     let is = image-as_written u c.requires.writable c.args.blocks c.in_ok-window.window.items whole c.in_ok-window.ensures.items in
-    subst (λ (xs : Bytes). TellsBeginning xs (g.O.Sink.written c.args.image.now) (g.O.Sink.written c.write_contents.new.image)) is c.in_err-write_contents.ensures.cut
+    subst (λ (xs : Bytes). WritesPrefix xs (g.O.Sink.written c.args.image.now) (g.O.Sink.written c.write_contents.new.image)) is c.in_err-write_contents.ensures.cut

@@ -5,18 +5,18 @@ use Rattle.pv_model.specs.Bytes.{Bytes}
 use Rattle.pv_model.specs.Image.{inode_blocks}
 use Rattle.pv_model.specs.Tree.{node_at, greatest_name}
 use Rattle.pv_tree.specs.Holding.{HeldTree}
-use Rattle.pv_tree.specs.Standing.{IsStanding}
-use Rattle.pv_streams.proofs.Telling.{on_err}
-use Rattle.pv_streams.specs.Sinks.{and_all, TellsBeginning}
+use Rattle.pv_tree.specs.Present.{IsPresent}
+use Rattle.pv_streams.proofs.Reporting.{on_err}
+use Rattle.pv_streams.specs.Sinks.{and_all, WritesPrefix}
 use Rattle.pv_image_write.specs.Placed.{placed, written_at}
-use Rattle.pv_image_write.specs.Spelling.{all_contents, padded}
+use Rattle.pv_image_write.specs.Encoding.{all_contents, padded}
 use Rattle.pv_image_write.proofs.PlacedTrees.{node-placed}
 use Rattle.pv_image_write.proofs.Windows.{put-all, put-cut, put-on}
 use Rattle.pv_image_write.proofs.Writing.{blocks-left, cut-node, node-room, put-node, put-none, put-zeros, written-node, as_written-room, zeros-room}
 use Rattle.pv_image_write.proofs.image.write_contents.Goals as goal
 
--- the node that is next
-next-node : (h : HeldTree) → IsStanding h → (v : Version) (blocks inodes : ℕ) → h.tree.inodes ≤ inodes → greatest_name h.tree.version ≤ greatest_name v → (n : ℕ)
+-- the next node
+next-node : (h : HeldTree) → IsPresent h → (v : Version) (blocks inodes : ℕ) → h.tree.inodes ≤ inodes → greatest_name h.tree.version ≤ greatest_name v → (n : ℕ)
     → written_at h.tree (n + 1) ≡ node_at (placed h.tree v blocks inodes) (suc n)
 next-node h s v blocks inodes more longer n =
     let u = placed h.tree v blocks inodes in
@@ -160,7 +160,7 @@ returns-clause-whole g c =
     let left = c.write_zeros.new.window.items in
     let zeros = c.loop-slot.window.items ++ replicate (512 * (c.args.blocks - c.loop-slot.next)) 0 in
     let now = put-on entry mid last zeros image left put c.in_ok-write_zeros.ensures.put in
-    on_ok_weaker c.write_through.result (λ written. put-all entry last after left image now (written ∙ ap (and_all last) c.as_slice.ensures.value)) c.write_through.ensures.whole
+    on_ok_weaker c.write_through.result (λ written. put-all entry last after left image now (written ∙ ap (and_all last) c.as_slice.ensures.value)) c.write_through.ensures.written.whole
 
 pub returns-clause-cut : goal.returns-clause-cut
 unfolding placed
@@ -179,4 +179,4 @@ returns-clause-cut g c =
     let zeros = c.loop-slot.window.items ++ replicate (512 * (c.args.blocks - c.loop-slot.next)) 0 in
     let now = put-on entry mid last zeros image left put c.in_ok-write_zeros.ensures.put in
     on_err_weaker c.write_through.result
-    (λ begun. put-cut entry last after left image now (subst (λ (xs : Bytes). TellsBeginning xs last after) c.as_slice.ensures.value begun)) c.write_through.ensures.beginning
+    (λ begun. put-cut entry last after left image now (subst (λ (xs : Bytes). WritesPrefix xs last after) c.as_slice.ensures.value begun)) c.write_through.ensures.written.prefix

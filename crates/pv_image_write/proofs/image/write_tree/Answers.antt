@@ -6,13 +6,13 @@ use Rattle.pv_model.specs.Image.{inode_blocks}
 use Rattle.pv_model.specs.Mount.{are_image_sizes}
 use Rattle.pv_model.specs.Tree.{Tree, greatest_name}
 use Rattle.pv_tree.specs.Holding.{HeldTree}
-use Rattle.pv_tree.specs.Standing.{IsStanding}
+use Rattle.pv_tree.specs.Present.{IsPresent}
 use Rattle.pv_image_write.specs.Placed.{placed, named_need}
-use Rattle.pv_image_write.specs.Written.{BeginsImage, TellsImage}
+use Rattle.pv_image_write.specs.Written.{BeginsImage, WritesImage}
 use Rattle.pv_image_write.proofs.PlacedTrees.{named-fits, own-sizes, placed-itself}
 use Rattle.pv_image_write.proofs.image.write_tree.Goals as goal
 
--- sizes that are the tree's own
+-- sizes that are those of the tree itself
 record AreOwn (t : Tree) (v : Version) (all n : ℕ) : Type 0 where
   version : v ≡ t.version
   blocks : all ≡ inode_blocks t.version t.inodes + 1 + t.blocks
@@ -25,19 +25,19 @@ own t v table b n version blocks inodes first = record {
   inodes = inodes;
 }
 
-allowed : (h : HeldTree) → IsStanding h → (v : Version) (all n : ℕ) → AreOwn h.tree v all n → are_image_sizes v all n ≡ true
+allowed : (h : HeldTree) → IsPresent h → (v : Version) (all n : ℕ) → AreOwn h.tree v all n → are_image_sizes v all n ≡ true
 allowed h s v all n o =
     ap (λ x. are_image_sizes x all n) o.version ∙ ap (λ k. are_image_sizes h.tree.version k n) o.blocks
     ∙ ap (are_image_sizes h.tree.version (inode_blocks h.tree.version h.tree.inodes + 1 + h.tree.blocks)) o.inodes ∙ own-sizes h s
 
-roomy : (h : HeldTree) → IsStanding h → (v : Version) (all n : ℕ) → AreOwn h.tree v all n → inode_blocks v n + 1 + named_need h.tree v ≤ all
+roomy : (h : HeldTree) → IsPresent h → (v : Version) (all n : ℕ) → AreOwn h.tree v all n → inode_blocks v n + 1 + named_need h.tree v ≤ all
 roomy h s v all n o =
     let t = h.tree in
     let needs = ap (named_need t) o.version in
     let table = ap (λ x. inode_blocks x n) o.version ∙ ap (inode_blocks t.version) o.inodes in
     omega (arith, needs, table, o.blocks, named-fits t s.fits)
 
-itself : (h : HeldTree) → IsStanding h → (v : Version) (all n : ℕ) → AreOwn h.tree v all n → placed h.tree v all n ≡ named_tree h.tree
+itself : (h : HeldTree) → IsPresent h → (v : Version) (all n : ℕ) → AreOwn h.tree v all n → placed h.tree v all n ≡ named_tree h.tree
 itself h s v all n o =
     let t = h.tree in
     ap (λ x. placed t x all n) o.version ∙ ap (λ k. placed t t.version k n) o.blocks
@@ -46,7 +46,7 @@ itself h s v all n o =
 pub write_as-requires : goal.write_as-requires
 write_as-requires g c =
     let h = c.args.tree.now in
-    let s = c.sizes-sizes.ensures.standing in
+    let s = c.sizes-sizes.ensures.present in
     let v = c.sizes-sizes.result.version in
     let n = c.sizes-sizes.result.inodes in
     let o = own h.tree v c.table_blocks.result c.sizes-sizes.result.blocks n c.sizes-sizes.ensures.version c.sizes-sizes.ensures.blocks c.sizes-sizes.ensures.inodes c.table_blocks.ensures in
@@ -61,17 +61,17 @@ write_as-requires g c =
 pub returns-clause-whole : goal.returns-clause-whole
 returns-clause-whole g c =
     let h = c.args.tree.now in
-    let s = c.sizes-sizes.ensures.standing in
+    let s = c.sizes-sizes.ensures.present in
     let v = c.sizes-sizes.result.version in
     let n = c.sizes-sizes.result.inodes in
     let o = own h.tree v c.table_blocks.result c.sizes-sizes.result.blocks n c.sizes-sizes.ensures.version c.sizes-sizes.ensures.blocks c.sizes-sizes.ensures.inodes c.table_blocks.ensures in
     let all = c.table_blocks.result + 1 + c.sizes-sizes.result.blocks in
-    on_ok_weaker c.write_as.result (subst (λ (u : Tree). TellsImage u (g.O.Sink.written c.args.image.now) (g.O.Sink.written c.write_as.new.image)) (itself h s v all n o)) c.write_as.ensures.whole
+    on_ok_weaker c.write_as.result (subst (λ (u : Tree). WritesImage u (g.O.Sink.written c.args.image.now) (g.O.Sink.written c.write_as.new.image)) (itself h s v all n o)) c.write_as.ensures.whole
 
 pub returns-clause-cut : goal.returns-clause-cut
 returns-clause-cut g c failed =
     let h = c.args.tree.now in
-    let s = c.sizes-sizes.ensures.standing in
+    let s = c.sizes-sizes.ensures.present in
     let v = c.sizes-sizes.result.version in
     let n = c.sizes-sizes.result.inodes in
     let o = own h.tree v c.table_blocks.result c.sizes-sizes.result.blocks n c.sizes-sizes.ensures.version c.sizes-sizes.ensures.blocks c.sizes-sizes.ensures.inodes c.table_blocks.ensures in

@@ -1,20 +1,20 @@
 use Rattle.std.proofs.Common.{◌≡◌, ℕ, ◌+◌, ◌*◌, ◌-◌, ◌≤◌, ◌++◌, replicate, ap, subst, ◌∙◌, append_assoc, arith}
 use Rattle.std.proofs.lemmas.List.{length-append, length-replicate, replicate-append-replicate}
 use Rattle.pv_model.specs.Bytes.{Bytes}
-use Rattle.pv_streams.proofs.Telling.{on_err}
-use Rattle.pv_streams.specs.Sinks.{TellsBeginning}
+use Rattle.pv_streams.proofs.Reporting.{on_err}
+use Rattle.pv_streams.specs.Sinks.{WritesPrefix}
 use Rattle.pv_image_write.specs.Written.{IsPut}
-use Rattle.pv_streams.proofs.Telling.{begins_first}
+use Rattle.pv_streams.proofs.Reporting.{begins_first}
 use Rattle.pv_image_write.proofs.Windows.{put-cut, put-more, put-on, put-within}
 use Rattle.pv_image_write.proofs.window.write_zeros.Goals as goal
 
--- zeros of one block more
+-- zeros of one more block
 one-more : (n : ℕ) (xs : Bytes) → (xs ++ replicate (512 * n) 0) ++ replicate 512 0 ≡ xs ++ replicate (512 * (n + 1)) 0
 one-more n xs =
     let all : 512 * n + 512 ≡ 512 * (n + 1) = omega arith in
     append_assoc xs (replicate (512 * n) 0) (replicate 512 0) ∙ ap (λ (ys : Bytes). xs ++ ys) (replicate-append-replicate (512 * n) 512 0 ∙ ap (λ k. replicate k 0) all)
 
--- all of them begin with those so far
+-- all of them start with those so far
 all-begin : (n m : ℕ) (xs : Bytes) → n ≤ m → (xs ++ replicate (512 * n) 0) ++ replicate (512 * (m - n)) 0 ≡ xs ++ replicate (512 * m) 0
 all-begin n m xs within =
     let all : 512 * n + 512 * (m - n) ≡ 512 * m = omega arith in
@@ -39,9 +39,9 @@ returns-in_err-write_full-clause-cut g c =
     let after = g.O.Sink.written c.write_full.new.image in
     let more = put-more entry mid c.loop-block.window.items (had ++ replicate (512 * n) 0) c.put_zeros.new.bytes.items (replicate 512 0) c.loop-block.invariant.put c.put_zeros.ensures.items in
     let begun = put-cut entry mid after c.put_zeros.new.bytes.items ((had ++ replicate (512 * n) 0) ++ replicate 512 0) more c.in_err-write_full.ensures.cut in
-    let here = subst (λ (xs : Bytes). TellsBeginning xs entry after) (one-more n had) begun in
+    let here = subst (λ (xs : Bytes). WritesPrefix xs entry after) (one-more n had) begun in
     let further = begins_first (had ++ replicate (512 * (n + 1)) 0) (replicate (512 * (m - (n + 1))) 0) entry after here in
-    on_err c.from_residual.result (subst (λ (xs : Bytes). TellsBeginning xs entry after) (all-begin (n + 1) m had (omega arith)) further)
+    on_err c.from_residual.result (subst (λ (xs : Bytes). WritesPrefix xs entry after) (all-begin (n + 1) m had (omega arith)) further)
 
 pub loop-block-preserved : goal.loop-block-preserved
 loop-block-preserved g c =

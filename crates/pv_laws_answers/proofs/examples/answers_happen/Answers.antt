@@ -1,6 +1,5 @@
 use Rattle.pv_laws_answers.proofs.examples.answers_happen.Goals as goal
 use Rattle.pv_laws_answers.proofs.Worked.{answers-happen}
 
--- src/examples.rt:7:1
 pub returns : goal.returns
 returns c = answers-happen

@@ -1,8 +1,8 @@
 use Rattle.pv_model.specs.Grammar.Programs.{program_of}
-use Rattle.pv_laws_secrecy.proofs.ForEver.{frozen-for_ever}
-use Rattle.pv_laws_runs.proofs.Ranges.{program_of-spells}
+use Rattle.pv_laws_access.proofs.ForEver.{frozen-for_ever}
+use Rattle.pv_laws_runs.proofs.Ranges.{program_of-encodes}
 use Rattle.pv_laws_runs.proofs.Starting.{reached-whole}
 use Rattle.pv_laws_runs.proofs.runs.frozen_is_left.Goals as goal
 
 pub returns : goal.returns
-returns c = λ bytes s pids f is. frozen-for_ever program_of program_of-spells s pids f (reached-whole bytes s is)
+returns c = λ bytes s pids f is. frozen-for_ever program_of program_of-encodes s pids f (reached-whole bytes s is)

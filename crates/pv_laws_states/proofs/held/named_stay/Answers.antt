@@ -1,5 +1,5 @@
-use Rattle.pv_laws_states.proofs.Trim.{trim_nodes_all}
+use Rattle.pv_laws_states.proofs.Collect.{collect_nodes_all}
 use Rattle.pv_laws_states.proofs.held.named_stay.Goals as goal
 
 pub returns : goal.returns
-returns c = trim_nodes_all
+returns c = collect_nodes_all

@@ -1,12 +1,12 @@
-use Rattle.std.proofs.Common.{◌≡◌, ◌∙◌, ◌<◌, ◌++◌, ℕ, [], ◌∷◌, length, take, drop, flat_map, get_or, ap, sym, arith}
+use Rattle.std.proofs.Common.{◌≡◌, ◌∙◌, ◌<◌, ◌++◌, ℕ, [], ◌∷◌, length, take, drop, flat_map, get_or, ap, sym, arith, rules}
 use Rattle.std.proofs.lemmas.List.{append-nil, length-take-le}
 use Rattle.pv_model.specs.Bytes.{Bytes}
 use Rattle.pv_model.specs.Trace.{quote_byte}
-use Rattle.pv_streams.proofs.Telling.{on_err}
-use Rattle.pv_listing.proofs.Rests.{rest_after, rest_begins, components-split}
+use Rattle.pv_streams.proofs.Reporting.{on_err}
+use Rattle.pv_listing.proofs.Rests.{rest_after, rest_begins, components-split, rest_all, written_text}
 use Rattle.pv_listing.proofs.path.write_bytes.Goals as goal
 
--- bytes that stand for themselves, and then the others
+-- bytes that represent themselves, and then the others
 plain-split : (text front following : Bytes) (n : ℕ) → front ≡ take n text → following ≡ drop n text → flat_map quote_byte (take n text) ≡ take n text
     → flat_map quote_byte text ≡ front ++ flat_map quote_byte following
 plain-split text front following n first then same =
@@ -23,11 +23,16 @@ byte-split : (text front following as_written : Bytes) → 0 < length text → f
 byte-split text front following as_written some first then is =
     components-split quote_byte text front following as_written 1 first then (is ∙ one-byte front (ap length first ∙ length-take-le 1 text (omega arith)))
 
-pub returns-in_err-write_whole-clause-beginning : goal.returns-in_err-write_whole-clause-beginning
-returns-in_err-write_whole-clause-beginning g c =
-    let is = plain-split c.loop-rest.rest.now c.split_at.result.0.now c.split_at.result.1.now c.plain_count-plain.result
-    c.split_at.ensures.front c.split_at.ensures.back c.plain_count-plain.ensures.same in
-    on_err c.from_residual.result (rest_begins _ c.split_at.result.0.now _ _ _ _ _ c.loop-rest.invariant.left is c.in_err-write_whole.ensures.beginning)
+pub returns-in_err-write_whole : goal.returns-in_err-write_whole
+returns-in_err-write_whole g c = record {
+  whole = search (rules, rest_all, written_text);
+  prefix =
+      (let is = plain-split c.loop-rest.rest.now c.split_at.result.0.now c.split_at.result.1.now c.plain_count-plain.result
+      c.split_at.ensures.front c.split_at.ensures.back c.plain_count-plain.ensures.same in
+      on_err c.from_residual.result (rest_begins _ c.split_at.result.0.now _ _ _ _ _ c.loop-rest.invariant.left is c.in_err-write_whole.ensures.prefix));
+  failed = search (rules, rest_all, written_text);
+  quiet = search (rules, rest_all, written_text);
+}
 
 pub loop-rest-preserved-then-plain-gt0 : goal.loop-rest-preserved-then-plain-gt0
 loop-rest-preserved-then-plain-gt0 g c =
@@ -38,12 +43,17 @@ loop-rest-preserved-then-plain-gt0 g c =
       quiet = c.in_ok-write_whole.ensures.quiet ∙ c.loop-rest.invariant.quiet;
     }
 
-pub returns-in_err-write_whole-2-clause-beginning : goal.returns-in_err-write_whole-2-clause-beginning
-returns-in_err-write_whole-2-clause-beginning g c =
-    let as_written = c.as_slice.result.now in
-    let is = byte-split c.loop-rest.rest.now c.split_at-else-plain-gt0.result.0.now c.split_at-else-plain-gt0.result.1.now as_written (omega arith)
-    c.split_at-else-plain-gt0.ensures.front c.split_at-else-plain-gt0.ensures.back (c.as_slice.ensures.value ∙ c.quoted.ensures) in
-    on_err c.from_residual-in_err-write_whole-2.result (rest_begins _ as_written _ _ _ _ _ c.loop-rest.invariant.left is c.in_err-write_whole-2.ensures.beginning)
+pub returns-in_err-write_whole-2 : goal.returns-in_err-write_whole-2
+returns-in_err-write_whole-2 g c = record {
+  whole = search (rules, rest_all, written_text);
+  prefix =
+      (let as_written = c.as_slice.result.now in
+      let is = byte-split c.loop-rest.rest.now c.split_at-else-plain-gt0.result.0.now c.split_at-else-plain-gt0.result.1.now as_written (omega arith)
+      c.split_at-else-plain-gt0.ensures.front c.split_at-else-plain-gt0.ensures.back (c.as_slice.ensures.value ∙ c.quoted.ensures) in
+      on_err c.from_residual-in_err-write_whole-2.result (rest_begins _ as_written _ _ _ _ _ c.loop-rest.invariant.left is c.in_err-write_whole-2.ensures.prefix));
+  failed = search (rules, rest_all, written_text);
+  quiet = search (rules, rest_all, written_text);
+}
 
 pub loop-rest-preserved : goal.loop-rest-preserved
 loop-rest-preserved g c =

@@ -3,10 +3,10 @@ use Rattle.pv_model.specs.Walk.{components, weight}
 use Rattle.pv_namei.specs.Components.{with_slashes}
 use Rattle.pv_namei.proofs.joined.push_components.Given as goal
 
--- what is there, and what is still to come
+-- the components so far, and those that remain
 abbrev pub invariant-loop-component : goal.invariant-loop-component
 invariant-loop-component l = record {
-  spelled : l.bytes.items ++ with_slashes (components l.left) ≡ l.fn.bytes.items ++ with_slashes (components l.path);
+  encoded : l.bytes.items ++ with_slashes (components l.left) ≡ l.fn.bytes.items ++ with_slashes (components l.path);
   weighed : length l.bytes.items + weight (components l.left) ≡ length l.fn.bytes.items + weight (components l.path);
   longer : length l.fn.bytes.items ≤ length l.bytes.items;
   within : weight (components l.path) - weight (components l.left) ≤ 1024 - length l.fn.bytes.items;

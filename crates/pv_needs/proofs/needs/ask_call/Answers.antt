@@ -8,7 +8,7 @@ use Rattle.pv_model.specs.Step.{Stepped}
 use Rattle.pv_procs.specs.declared.record.ProcessRecord.{ProcessRecord}
 use Rattle.pv_session.proofs.Stepping.{step-called}
 use Rattle.pv_needs.specs.Asking.{IsMoreBy, ends_before}
-use Rattle.pv_needs.specs.Stints.{first_walks, judged_in}
+use Rattle.pv_needs.specs.ProcessImages.{first_walks, judged_in}
 use Rattle.pv_needs.proofs.Asked.{asks-call}
 use Rattle.pv_needs.proofs.needs.ask_call.Goals as goal
 
@@ -18,8 +18,8 @@ returns-in-Ok-keep-clause-after c =
     let a : Answered = record { after = c.call.new.self; outcome = c.in_ok-answer.answer.outcome; walks = c.in_ok-answer.answer.walks } in
     sym (ap (λ (x : Stepped). x.after) (step-called c.args.session.now c.args.pid comes.0 (call_of c.args.call) a comes.1 comes.2 c.in_ok-answer.ensures.answered))
 
-pub returns-in-Ok-keep-clause-kept : goal.returns-in-Ok-keep-clause-kept
-returns-in-Ok-keep-clause-kept c =
+pub returns-in-Ok-keep-clause-recorded : goal.returns-in-Ok-keep-clause-recorded
+returns-in-Ok-keep-clause-recorded c =
     let s = c.args.session.now in
     let pid = c.args.pid in
     let call = call_of c.args.call in
@@ -28,8 +28,8 @@ returns-in-Ok-keep-clause-kept c =
     let same = c.parts-parts.ensures.value in
     let at = ap (λ (x : State). process_at x pid) same ∙ comes.1 in
     let a : Answered = record { after = c.call.new.self; outcome = c.in_ok-answer.answer.outcome; walks = c.in_ok-answer.answer.walks } in
-    let now : Asked = record { line = c.line-line.result; promises = c.promises_needed.result.now; walks = judged_in c.first_ones.result; ends_stint = c.begins_program.result } in
-    subst (λ o. IsMoreBy c.args.kept.now pid o c.keep.new.self)
+    let now : Asked = record { line = c.line-line.result; promises = c.promises_needed.result.now; walks = judged_in c.first_ones.result; ends_process_image = c.begins_program.result } in
+    subst (λ o. IsMoreBy c.args.recorded.now pid o c.keep.new.self)
     (sym (asks-call s pid me call comes.1 comes.2 a c.in_ok-answer.ensures.answered now
     (c.line-line.ensures ∙ sym (ap (λ (r : ProcessRecord). r.context.line) (recorded (process_at c.parts-parts.result.now pid) me c.record.result.now at c.record.ensures)))
     c.promises_needed.ensures

@@ -1,7 +1,7 @@
 use Rattle.std.proofs.Common.{◌∙◌, ap, arith, sym, refl, subst, []}
 use Rattle.pv_model.specs.Step.{Run}
 use Rattle.pv_session.proofs.Turns.{schedule_more}
-use Rattle.pv_needs.specs.Stints.{Keeps}
+use Rattle.pv_needs.specs.ProcessImages.{Keeps}
 use Rattle.pv_needs.proofs.AskedRuns.{keeps-none, keeps-schedule, steps-longer}
 use Rattle.pv_needs.proofs.needs.ask_schedule.Goals as goal
 
@@ -9,7 +9,7 @@ pub loop-turn-init : goal.loop-turn-init
 loop-turn-init c = record {
   after = refl;
   few = omega arith;
-  kept = subst (λ k. Keeps k []) (sym c.new-kept.ensures) keeps-none;
+  recorded = subst (λ k. Keeps k []) (sym c.new-recorded.ensures) keeps-none;
 }
 
 pub loop-turn-preserved : goal.loop-turn-preserved
@@ -18,7 +18,7 @@ loop-turn-preserved c = record {
       c.in_ok-ask_turn.ensures.after
       ∙ sym (ap (λ (r : Run). r.final) (schedule_more c.args.session.now c.loop-turn.session c.args.schedule.now c.loop-turn.turn-index c.loop-turn-test.true c.loop-turn.invariant.after));
   few = omega (arith, steps-longer c.args.schedule.now c.loop-turn.turn-index c.loop-turn-test.true, c.loop-turn.invariant.few);
-  kept =
-      keeps-schedule c.args.session.now c.loop-turn.session c.args.schedule.now c.loop-turn.turn-index c.loop-turn.kept c.ask_turn.new.kept c.loop-turn-test.true
-      c.loop-turn.invariant.after c.loop-turn.invariant.kept c.in_ok-ask_turn.ensures.kept;
+  recorded =
+      keeps-schedule c.args.session.now c.loop-turn.session c.args.schedule.now c.loop-turn.turn-index c.loop-turn.recorded c.ask_turn.new.recorded c.loop-turn-test.true
+      c.loop-turn.invariant.after c.loop-turn.invariant.recorded c.in_ok-ask_turn.ensures.recorded;
 }

@@ -13,8 +13,8 @@ returns-in-Register c =
     let made = c.register.ensures in
     record {
       after = made.only ∙ sym (ap (λ (w : Stepped). w.after) (step-is program_of s pid made.me made.lives ∙ ap (step_by program_of s pid made.me) made.step));
-      kept =
-          subst (λ o. IsMoreBy c.args.kept.now pid o c.args.kept.now)
+      recorded =
+          subst (λ o. IsMoreBy c.args.recorded.now pid o c.args.recorded.now)
           (sym (asks-nothing s pid c.fetch.result (inl c.in-Register.is) c.fetch.ensures.next)) refl;
       memory = tt;
     }
@@ -22,8 +22,8 @@ returns-in-Register c =
 pub returns-in_ok-step-in-Gone : goal.returns-in_ok-step-in-Gone
 returns-in_ok-step-in-Gone c = record {
   after = c.in_ok-step-in-Gone.ensures.after;
-  kept =
-      subst (λ o. IsMoreBy c.args.kept.now c.args.pid o c.args.kept.now)
+  recorded =
+      subst (λ o. IsMoreBy c.args.recorded.now c.args.pid o c.args.recorded.now)
       (sym (asks-nothing c.args.session.now c.args.pid c.fetch.result (inr c.in-Gone.is) c.fetch.ensures.next)) refl;
   memory = tt;
 }

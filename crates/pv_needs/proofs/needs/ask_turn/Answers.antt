@@ -9,7 +9,7 @@ loop-preserved c = record {
   after =
       c.in_ok-ask_step.ensures.after
       ∙ sym (ap (λ (r : Run). r.final) (turn_more c.args.session.now c.loop.session c.args.pid c.loop.counter c.loop.invariant.after));
-  kept =
-      keeps-turn c.args.session.now c.loop.session c.args.pid c.loop.counter c.args.kept.now c.loop.kept c.ask_step.new.kept c.loop.invariant.after c.loop.invariant.kept
-      c.in_ok-ask_step.ensures.kept;
+  recorded =
+      keeps-turn c.args.session.now c.loop.session c.args.pid c.loop.counter c.args.recorded.now c.loop.recorded c.ask_step.new.recorded c.loop.invariant.after c.loop.invariant.recorded
+      c.in_ok-ask_step.ensures.recorded;
 }

@@ -4,7 +4,7 @@ use Rattle.pv_needs.proofs.paths.around_last.Given as goal
 abbrev pub decreases-loop-last : goal.decreases-loop-last
 decreases-loop-last l = length l.front
 
--- what is left is a front of the bytes
+-- the remaining bytes are a prefix
 abbrev pub invariant-loop-last : goal.invariant-loop-last
 invariant-loop-last l = record {
   front : l.front ≡ take (length l.front) l.bytes;

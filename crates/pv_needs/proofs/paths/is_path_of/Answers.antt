@@ -9,12 +9,12 @@ use Rattle.pv_needs.proofs.paths.is_path_of.Goals as goal
 
 pub find-requires : goal.find-requires
 find-requires c =
-    above-directory c.args.tree.now.tree c.sizes.ensures.standing.well_formed c.loop-before.reached c.if-reached-eq-ROOT.false c.in-Some-parent.above (sym c.in-Some-parent.ensures)
+    above-directory c.args.tree.now.tree c.sizes.ensures.present.well_formed c.loop-before.reached c.if-reached-eq-ROOT.false c.in-Some-parent.above (sym c.in-Some-parent.ensures)
 
 pub loop-before-preserved : goal.loop-before-preserved
 loop-before-preserved c =
     let t = c.args.tree.now.tree in
-    let w = c.sizes.ensures.standing.well_formed in
+    let w = c.sizes.ensures.present.well_formed in
     let reached = c.loop-before.reached in
     let above = c.in-Some-parent.above in
     let found : find_entry t above c.in-Some.name.now ≡ Some reached = search rules in
@@ -36,4 +36,4 @@ returns-in-empty c at-root =
     let rest = c.loop-before.rest.now in
     c.loop-before.invariant.path
     (subst (λ n. node_path t n ≡ Some rest) (sym (eqb-true c.loop-before.reached 1 at-root))
-    (root-known t c.sizes.ensures.standing.well_formed ∙ ap Some (empty-below rest c.in-empty.len_below)))
+    (root-known t c.sizes.ensures.present.well_formed ∙ ap Some (empty-below rest c.in-empty.len_below)))

@@ -7,7 +7,7 @@ use Rattle.pv_needs.proofs.paths.is_path_of.Given as goal
 abbrev pub decreases-loop-before : goal.decreases-loop-before
 decreases-loop-before l = length l.rest
 
--- where the rest is the path of the directory that was reached, the path is that of the directory
+-- if the rest is the path of the directory reached, the whole is the path of the directory
 abbrev pub invariant-loop-before : goal.invariant-loop-before
 invariant-loop-before l = record {
   directory : IsTrue (is_directory_at l.tree.tree l.reached);

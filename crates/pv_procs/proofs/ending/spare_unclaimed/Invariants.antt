@@ -2,7 +2,7 @@ use Rattle.std.proofs.Common.{◌≡◌, ◌++◌, ◌+◌, filter, take, drop, 
 use Rattle.pv_procs.specs.Slots.{is_claimed}
 use Rattle.pv_procs.proofs.ending.spare_unclaimed.Given as goal
 
--- what stands from place k on was looked at
+-- the slots from k on were processed
 abbrev pub invariant-loop-k : goal.invariant-loop-k
 invariant-loop-k l = record {
   slots : l.slots.items ≡ take l.k l.initial.slots.items ++ filter is_claimed (drop l.k l.initial.slots.items);

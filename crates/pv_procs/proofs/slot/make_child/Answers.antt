@@ -11,7 +11,7 @@ context_of p = record { line = p.line; registers = p.registers; buffer = p.buffe
 
 pub returns : goal.returns
 returns c =
-    let told = ap context_of (c.tell.ensures [] (first_process [])) in
+    let reported = ap context_of (c.report.ensures [] (first_process [])) in
     let made = λ (r : ProcessRecord) (m : Context). record (child_slot c.args.number c.args.parent.now) { «record» = record r { context = m } } in
-    ap (made c.copy_from.new.self) told
+    ap (made c.copy_from.new.self) reported
     ∙ ap (λ (r : ProcessRecord). made r (record r.context { registers = Rattle.std.specs.Prelude.slice_set (Rattle.std.specs.Prelude.slice_set r.context.registers 0 (Rattle.std.specs.Prelude.pos 0)) 1 (Rattle.std.specs.Prelude.pos 0) })) (rw c.get.ensures at c.copy_from.ensures)

@@ -1,6 +1,6 @@
 use Rattle.std.proofs.Common.{option_map}
 use Rattle.std.proofs.lemmas.Result.{err_from_is_err_and}
-use Rattle.pv_run.proofs.Audited.{kinds, no_machine, nothing_written, reads_no_more, stopped_all, tells, written_all}
+use Rattle.pv_run.proofs.Audited.{kinds, no_machine, nothing_written, reads_no_more, stopped_all, reports, written_all}
 use Rattle.pv_run.proofs.auditing.audit_image.Goals as goal
 
 pub returns-in_err-session-clause-refused : goal.returns-in_err-session-clause-refused
@@ -29,7 +29,7 @@ returns-clause-kind g c =
 
 pub returns-clause-unwritten : goal.returns-clause-unwritten
 returns-clause-unwritten g c =
-    tells c.in_ok-session.session (option_map (λ b. b.now) c.args.path) (g.W.Sink.written c.args.out.now) (g.W.Sink.written c.audit_machine.new.out) c.audit_machine.result c.audit_machine.ensures.refused
+    reports c.in_ok-session.session (option_map (λ b. b.now) c.args.path) (g.W.Sink.written c.args.out.now) (g.W.Sink.written c.audit_machine.new.out) c.audit_machine.result c.audit_machine.ensures.refused
 
 pub returns-clause-read : goal.returns-clause-read
 returns-clause-read g c is =

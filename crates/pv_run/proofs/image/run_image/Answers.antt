@@ -10,7 +10,7 @@ returns-in_err-summary-clause-refused g c =
     rw p.1 (stops_on (image_started c.args.bytes.items c.args.schedule.now) c.in_ok-ready.ready.session c.in_ok-ready.ready.schedule c.in_ok-ready.ensures.asked c.in_ok-ready.ensures.machine
     (g.W.Sink.written c.args.trace.now) (g.W.Sink.written c.make_turns.new.trace) (g.O.Sink.written c.args.image.now) (g.O.Sink.written c.args.image.now)
     c.make_turns.new.ready.session c.in_err-summary.field-0.0 p.0 p.2 (g.W.Sink.failures c.args.trace.now) (g.W.Sink.failures c.make_turns.new.trace) c.in_err-summary.ensures.failed
-    c.in_err-summary.ensures.beginning c.in_err-summary.ensures.memory)
+    c.in_err-summary.ensures.prefix c.in_err-summary.ensures.memory)
 
 pub returns-in_err-write_image-clause-refused : goal.returns-in_err-write_image-clause-refused
 returns-in_err-write_image-clause-refused g c =

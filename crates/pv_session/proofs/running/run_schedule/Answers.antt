@@ -1,7 +1,7 @@
 use Rattle.std.proofs.Common.{◌∙◌, ap, sym, subst, length, get_or, drop, arith, ◌+◌}
 use Rattle.std.proofs.lemmas.Result.{err_from_is_err_and}
 use Rattle.pv_model.specs.Step.{Run}
-use Rattle.pv_streams.proofs.Telling.{on_err}
+use Rattle.pv_streams.proofs.Reporting.{on_err}
 use Rattle.pv_session.specs.Running.{BeginsLines, WrittenLines, turn, run_of, run_of_first}
 use Rattle.pv_session.proofs.Turns.{begun_before, begun_after, schedule_more, schedule_rest, written_after, lines_after}
 use Rattle.pv_session.proofs.Stopped.{in-schedule}
@@ -22,8 +22,8 @@ loop-turn-preserved g c =
       quiet = c.in_ok-lines.ensures.quiet ∙ c.loop-turn.invariant.quiet;
     }
 
-pub returns-in_err-lines-clause-beginning : goal.returns-in_err-lines-clause-beginning
-returns-in_err-lines-clause-beginning g c =
+pub returns-in_err-lines-clause-prefix : goal.returns-in_err-lines-clause-prefix
+returns-in_err-lines-clause-prefix g c =
     let s = c.args.session.now in
     let schedule = c.args.schedule.now in
     let n = c.loop-turn.turn-index in
@@ -34,7 +34,7 @@ returns-in_err-lines-clause-beginning g c =
     (subst (λ (r : Run). BeginsLines r.lines (g.W.Sink.written c.args.trace.now) (g.W.Sink.written c.run_turn.new.trace)) (sym rest)
     (begun_before (run_of_first s (n + 1) schedule) (run_of (run_of_first s (n + 1) schedule).final (drop (n + 1) schedule)) _ _
     (subst (λ (r : Run). BeginsLines r.lines (g.W.Sink.written c.args.trace.now) (g.W.Sink.written c.run_turn.new.trace)) (sym more)
-    (begun_after (run_of_first s n schedule) (turn c.loop-turn.session entry.0 entry.1) _ _ _ c.loop-turn.invariant.written c.in_err-lines.ensures.beginning))))
+    (begun_after (run_of_first s n schedule) (turn c.loop-turn.session entry.0 entry.1) _ _ _ c.loop-turn.invariant.written c.in_err-lines.ensures.prefix))))
 
 pub returns-in_err-lines-clause-stopped : goal.returns-in_err-lines-clause-stopped
 returns-in_err-lines-clause-stopped g c =

@@ -2,14 +2,14 @@ use Rattle.std.proofs.Common.{◌≡◌, ◌≤◌, ◌∙◌, ap, sym, subst, l
 use Rattle.std.proofs.lemmas.Result.{err_from_is_err_and}
 use Rattle.pv_model.specs.State.{State}
 use Rattle.pv_model.specs.Step.{Run}
-use Rattle.pv_streams.proofs.Telling.{on_err}
+use Rattle.pv_streams.proofs.Reporting.{on_err}
 use Rattle.pv_session.specs.Running.{BeginsLines, WrittenLines, turn}
 use Rattle.pv_session.proofs.Turns.{begun_before, begun_after, one_step, turn_more, turn_passed, turn_rest, written_after, lines_after}
 use Rattle.pv_session.proofs.Stopped.{in-turn}
 use Rattle.pv_session.proofs.running.run_turn.Goals as goal
 use Rattle.pv_session.proofs.running.run_turn.Goals.{then-written-eq0, else-written-eq0}
 
--- a step and what was made after it at once, which has no lines
+-- a step, and the silent steps made at once after it
 record Made (s : State) (pid n count made : ℕ) (now : State) : Type 0 where
   run : turn s pid made ≡ record { lines = (turn s pid (n + 1)).lines; final = now }
   more : n + 1 ≤ made
@@ -57,8 +57,8 @@ loop-made-preserved g c =
       quiet = c.in_ok-written.ensures.quiet ∙ c.loop-made.invariant.quiet;
     }
 
-pub returns-in_err-written-clause-beginning : goal.returns-in_err-written-clause-beginning
-returns-in_err-written-clause-beginning g c =
+pub returns-in_err-written-clause-prefix : goal.returns-in_err-written-clause-prefix
+returns-in_err-written-clause-prefix g c =
     let s = c.args.session.now in
     let pid = c.args.pid in
     let n = c.loop-made.made in
@@ -68,7 +68,7 @@ returns-in_err-written-clause-beginning g c =
     (subst (λ (r : Run). BeginsLines r.lines (g.W.Sink.written c.args.trace.now) (g.W.Sink.written c.trace_step.new.trace)) (sym rest)
     (begun_before (turn s pid (n + 1)) (turn (turn s pid (n + 1)).final pid (c.args.count - (n + 1))) _ _
     (subst (λ (r : Run). BeginsLines r.lines (g.W.Sink.written c.args.trace.now) (g.W.Sink.written c.trace_step.new.trace)) (sym more)
-    (begun_after (turn s pid n) (one_step c.loop-made.session pid) _ _ _ c.loop-made.invariant.written c.in_err-written.ensures.beginning))))
+    (begun_after (turn s pid n) (one_step c.loop-made.session pid) _ _ _ c.loop-made.invariant.written c.in_err-written.ensures.prefix))))
 
 pub returns-in_err-written-clause-stopped : goal.returns-in_err-written-clause-stopped
 returns-in_err-written-clause-stopped g c =

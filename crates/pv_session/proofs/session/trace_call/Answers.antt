@@ -4,23 +4,23 @@ use Rattle.pv_calls.specs.Kernel.{Running}
 use Rattle.pv_model.specs.CallRef.{call_of}
 use Rattle.pv_model.specs.Step.{Stepped}
 use Rattle.pv_model.specs.Trace.{Line}
-use Rattle.pv_streams.proofs.Telling.{on_err}
+use Rattle.pv_streams.proofs.Reporting.{on_err}
 use Rattle.pv_session.specs.Running.{BeginsLines, WrittenLines, stepped}
 use Rattle.pv_session.proofs.Stepping.{begins-none, called-is, called-lines}
 use Rattle.pv_session.proofs.Stopped.{stops-called}
 use Rattle.pv_session.proofs.session.trace_call.Goals as goal
 
-pub returns-in_err-outcome-clause-beginning : goal.returns-in_err-outcome-clause-beginning
-returns-in_err-outcome-clause-beginning g c =
+pub returns-in_err-outcome-clause-prefix : goal.returns-in_err-outcome-clause-prefix
+returns-in_err-outcome-clause-prefix g c =
     on_err c.from_residual.result (begins-none (stepped c.args.kernel.now.state c.args.pid).lines (g.W.Sink.written c.args.trace.now))
 
-pub returns-in_err-write_call_lines-clause-beginning : goal.returns-in_err-write_call_lines-clause-beginning
-returns-in_err-write_call_lines-clause-beginning g c =
+pub returns-in_err-write_call_lines-clause-prefix : goal.returns-in_err-write_call_lines-clause-prefix
+returns-in_err-write_call_lines-clause-prefix g c =
     let same =
     called-lines c.args.kernel.now.state c.args.pid (call_of c.args.call) c.call.new.self c.in_ok-outcome.outcome c.requires.next c.in_ok-outcome.ensures.answered
     c.buffer-front.result.now c.walks-walks.result c.buffer-front.ensures.value c.walks-walks.ensures in
     on_err c.from_residual-in_err-write_call_lines.result
-    (subst (λ (ls : List Line). BeginsLines ls (g.W.Sink.written c.args.trace.now) (g.W.Sink.written c.write_call_lines.new.out)) same c.in_err-write_call_lines.ensures.beginning)
+    (subst (λ (ls : List Line). BeginsLines ls (g.W.Sink.written c.args.trace.now) (g.W.Sink.written c.write_call_lines.new.out)) same c.in_err-write_call_lines.ensures.written.prefix)
 
 pub returns-clause-after : goal.returns-clause-after
 returns-clause-after g c =
@@ -31,7 +31,7 @@ returns-clause-whole g c =
     let same =
     called-lines c.args.kernel.now.state c.args.pid (call_of c.args.call) c.call.new.self c.in_ok-outcome.outcome c.requires.next c.in_ok-outcome.ensures.answered
     c.buffer-front.result.now c.walks-walks.result c.buffer-front.ensures.value c.walks-walks.ensures in
-    subst (λ (ls : List Line). WrittenLines ls (g.W.Sink.written c.args.trace.now) (g.W.Sink.written c.write_call_lines.new.out)) same c.in_ok-write_call_lines.ensures.whole
+    subst (λ (ls : List Line). WrittenLines ls (g.W.Sink.written c.args.trace.now) (g.W.Sink.written c.write_call_lines.new.out)) same c.in_ok-write_call_lines.ensures.written.whole
 
 pub returns-clause-lines : goal.returns-clause-lines
 returns-clause-lines g c =

@@ -2,7 +2,7 @@ use Rattle.std.proofs.Common.{◌≡◌, ◌∙◌, ap, sym, subst, ◌∷◌, [
 use Rattle.pv_source.specs.Reading.{numbered, worded}
 use Rattle.pv_source.specs.ReadPrograms.{labelled_value}
 use Rattle.pv_model.specs.Source.Programs.{LabelledLine, labelled_lines, or_exit}
-use Rattle.pv_source.proofs.SourcePrograms.{to_labelled, labelled_none, labelled_kept, labelled_more, labelled_exit, some_words, no_words}
+use Rattle.pv_source.proofs.SourcePrograms.{to_labelled, labelled_none, labelled_preserved, labelled_more, labelled_exit, some_words, no_words}
 use Rattle.pv_source.proofs.programs.next_labelled.Goals as goal
 
 pub returns-in_default-clause-line : goal.returns-in_default-clause-line
@@ -12,7 +12,7 @@ pub returns-clause-line : goal.returns-clause-line
 returns-clause-line c =
     let line = worded c.in-Some.line in
     let read : labelled_value c.with_label_apart-line.result ≡ to_labelled line = c.with_label_apart-line.ensures in
-    labelled_kept (numbered c.args.lines) (numbered c.in-Some.rest) line c.in-Some.ensures.counts
+    labelled_preserved (numbered c.args.lines) (numbered c.in-Some.rest) line c.in-Some.ensures.counts
     (subst (λ (l : LabelledLine). l.words ≢ []) read (some_words c.has_no_word.result _ c.has_no_word.ensures c.if-has_no_word.false))
     ∙ ap (λ l. l ∷ labelled_lines (numbered c.in-Some.rest)) (sym read)
 

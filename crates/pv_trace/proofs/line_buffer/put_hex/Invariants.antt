@@ -2,7 +2,7 @@ use Rattle.std.proofs.Common.{◌≡◌, ◌≤◌, ◌+◌, ◌*◌, ◌++◌, 
 use Rattle.pv_model.specs.Trace.{hex_byte}
 use Rattle.pv_trace.proofs.line_buffer.put_hex.Given as goal
 
--- each round takes bytes off those that are left
+-- each iteration removes bytes from those that remain
 abbrev pub decreases-loop-left : goal.decreases-loop-left
 decreases-loop-left l = length l.left
 

@@ -2,11 +2,11 @@ use Rattle.std.proofs.Common.{◌≡◌, ◌≤◌, ◌+◌, ◌*◌, ◌++◌, 
 use Rattle.pv_model.specs.Trace.{quote_byte}
 use Rattle.pv_trace.proofs.line_buffer.put_quoted_bytes.Given as goal
 
--- each round takes bytes off the rest
+-- each iteration removes bytes from the rest
 abbrev pub decreases-loop-first : goal.decreases-loop-first
 decreases-loop-first l = length l.rest
 
--- what is on the line buffer, with the rest as it will be written, is the text
+-- the line buffer followed by the encoding of the rest is the text
 abbrev pub invariant-loop-first : goal.invariant-loop-first
 invariant-loop-first l = record {
   text : l.out.items ++ flat_map quote_byte l.rest ≡ l.initial.out.items ++ flat_map quote_byte l.bytes;

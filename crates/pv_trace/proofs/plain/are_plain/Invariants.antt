@@ -3,6 +3,6 @@ use Rattle.std.specs.List.{list_all}
 use Rattle.pv_model.specs.Trace.{is_plain}
 use Rattle.pv_trace.proofs.plain.are_plain.Given as goal
 
--- the answer so far is that of the bytes after
+-- the result so far is that of the remaining bytes
 abbrev pub invariant-loop-byte : goal.invariant-loop-byte
 invariant-loop-byte l = l.plain ≡ list_all is_plain (take l.byte-index l.bytes)

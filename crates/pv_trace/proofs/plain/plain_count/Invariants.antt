@@ -2,11 +2,11 @@ use Rattle.std.proofs.Common.{◌≡◌, ◌≤◌, ◌-◌, length, take, drop,
 use Rattle.pv_model.specs.Trace.{quote_byte}
 use Rattle.pv_trace.proofs.plain.plain_count.Given as goal
 
--- each round takes bytes off the rest
+-- each iteration removes bytes from the rest
 abbrev pub decreases-loop-component : goal.decreases-loop-component
 decreases-loop-component l = length l.rest
 
--- the rest stands at the end of the text, and the bytes before it are quoted as they are
+-- the rest is the end of the text, and the bytes before it are quoted unchanged
 abbrev pub invariant-loop-component : goal.invariant-loop-component
 invariant-loop-component l = record {
   within : length l.rest ≤ length l.text;

@@ -1,19 +1,34 @@
-use Rattle.std.proofs.Common.{◌++◌}
+use Rattle.std.proofs.Common.{◌++◌, rules}
 use Rattle.std.proofs.lemmas.Result.{on_err_weaker}
-use Rattle.pv_streams.proofs.Telling.{begins_first, begins_then, written_both, on_err}
+use Rattle.pv_streams.proofs.Reporting.{begins_first, begins_then, written_both, on_err}
 use Rattle.pv_answers.proofs.fragments.Tuple3Fragment.write.Goals as goal
 
-pub returns-in_err-write-clause-beginning : goal.returns-in_err-write-clause-beginning
-returns-in_err-write-clause-beginning g c =
-    on_err c.from_residual.result
-    (begins_first (g.A.Fragment.text c.args.self.now.0 ++ g.B.Fragment.text c.args.self.now.1) (g.C.Fragment.text c.args.self.now.2) _ _ (begins_first (g.A.Fragment.text c.args.self.now.0) (g.B.Fragment.text c.args.self.now.1) _ _ c.in_err-write.ensures.beginning))
+pub returns-in_err-write : goal.returns-in_err-write
+returns-in_err-write g c = record {
+  whole = search (rules, written_both);
+  prefix =
+      (on_err c.from_residual.result
+      (begins_first (g.A.Fragment.text c.args.self.now.0 ++ g.B.Fragment.text c.args.self.now.1) (g.C.Fragment.text c.args.self.now.2) _ _ (begins_first (g.A.Fragment.text c.args.self.now.0) (g.B.Fragment.text c.args.self.now.1) _ _ c.in_err-write.ensures.prefix)));
+  failed = search (rules, written_both);
+  quiet = search (rules, written_both);
+}
 
-pub returns-in_err-write-2-clause-beginning : goal.returns-in_err-write-2-clause-beginning
-returns-in_err-write-2-clause-beginning g c =
-    on_err c.from_residual-in_err-write-2.result
-    (begins_first (g.A.Fragment.text c.args.self.now.0 ++ g.B.Fragment.text c.args.self.now.1) (g.C.Fragment.text c.args.self.now.2) _ _ (begins_then (g.A.Fragment.text c.args.self.now.0) (g.B.Fragment.text c.args.self.now.1) _ _ _ c.in_ok-write.ensures.whole c.in_err-write-2.ensures.beginning))
+pub returns-in_err-write-2 : goal.returns-in_err-write-2
+returns-in_err-write-2 g c = record {
+  whole = search (rules, written_both);
+  prefix =
+      (on_err c.from_residual-in_err-write-2.result
+      (begins_first (g.A.Fragment.text c.args.self.now.0 ++ g.B.Fragment.text c.args.self.now.1) (g.C.Fragment.text c.args.self.now.2) _ _ (begins_then (g.A.Fragment.text c.args.self.now.0) (g.B.Fragment.text c.args.self.now.1) _ _ _ c.in_ok-write.ensures.whole c.in_err-write-2.ensures.prefix)));
+  failed = search (rules, written_both);
+  quiet = search (rules, written_both);
+}
 
-pub returns-clause-beginning : goal.returns-clause-beginning
-returns-clause-beginning g c =
-    on_err_weaker c.write-3.result (begins_then (g.A.Fragment.text c.args.self.now.0 ++ g.B.Fragment.text c.args.self.now.1) (g.C.Fragment.text c.args.self.now.2) _ _ _ (written_both (g.A.Fragment.text c.args.self.now.0) (g.B.Fragment.text c.args.self.now.1) _ _ _ c.in_ok-write.ensures.whole c.in_ok-write-2.ensures.whole))
-    c.write-3.ensures.beginning
+pub returns : goal.returns
+returns g c = record {
+  whole = search (rules, written_both);
+  prefix =
+      (on_err_weaker c.write-3.result (begins_then (g.A.Fragment.text c.args.self.now.0 ++ g.B.Fragment.text c.args.self.now.1) (g.C.Fragment.text c.args.self.now.2) _ _ _ (written_both (g.A.Fragment.text c.args.self.now.0) (g.B.Fragment.text c.args.self.now.1) _ _ _ c.in_ok-write.ensures.whole c.in_ok-write-2.ensures.whole))
+      c.write-3.ensures.prefix);
+  failed = search (rules, written_both);
+  quiet = search (rules, written_both);
+}

@@ -1,17 +1,22 @@
-use Rattle.std.proofs.Common.{◌∙◌, ◌+◌, [], ◌∷◌, ◌++◌, drop, ap₂, sym}
+use Rattle.std.proofs.Common.{◌∙◌, ◌+◌, [], ◌∷◌, ◌++◌, drop, ap₂, sym, rules}
 use Rattle.pv_model.specs.Trace.{hex, hex_byte}
-use Rattle.pv_streams.proofs.Telling.{on_err}
+use Rattle.pv_streams.proofs.Reporting.{on_err}
 use Rattle.pv_listing.proofs.Rests.{rest_after, rest_begins}
 use Rattle.pv_answers.proofs.Rows.{part-next}
 use Rattle.pv_answers.proofs.numbers.HexFragment.write.Goals as goal
 
-pub returns-in_err-write_whole-clause-beginning : goal.returns-in_err-write_whole-clause-beginning
-returns-in_err-write_whole-clause-beginning g c =
-    let bytes = c.args.self.now.0.now in
-    let k = c.loop-byte.byte-index in
-    let is = part-next hex_byte bytes k 0 c.loop-byte-test.true
-    ∙ ap₂ (λ a b. (a ∷ b ∷ []) ++ hex (drop (k + 1) bytes)) (sym c.hex_digit.ensures) (sym c.hex_digit-in-loop-byte.ensures) in
-    on_err c.from_residual.result (rest_begins _ _ _ _ _ _ _ c.loop-byte.invariant.left is c.in_err-write_whole.ensures.beginning)
+pub returns-in_err-write_whole : goal.returns-in_err-write_whole
+returns-in_err-write_whole g c = record {
+  whole = search rules;
+  prefix =
+      (let bytes = c.args.self.now.0.now in
+      let k = c.loop-byte.byte-index in
+      let is = part-next hex_byte bytes k 0 c.loop-byte-test.true
+      ∙ ap₂ (λ a b. (a ∷ b ∷ []) ++ hex (drop (k + 1) bytes)) (sym c.hex_digit.ensures) (sym c.hex_digit-in-loop-byte.ensures) in
+      on_err c.from_residual.result (rest_begins _ _ _ _ _ _ _ c.loop-byte.invariant.left is c.in_err-write_whole.ensures.prefix));
+  failed = search rules;
+  quiet = search rules;
+}
 
 pub loop-byte-preserved : goal.loop-byte-preserved
 loop-byte-preserved g c =

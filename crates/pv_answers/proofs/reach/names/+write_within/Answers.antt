@@ -1,4 +1,4 @@
-use Rattle.std.proofs.Common.{ℕ, ◌-◌, ◌++◌, ◌∙◌, length, Option, None, Some, ap, sym, arith}
+use Rattle.std.proofs.Common.{ℕ, ◌-◌, ◌++◌, ◌∙◌, length, Option, None, Some, ap, sym, arith, rules}
 use Rattle.pv_model.specs.declared.place.Place.TheVariants.{At}
 use Rattle.pv_model.specs.Answers.Nodes.{with_name}
 use Rattle.pv_model.specs.Bytes.{Bytes}
@@ -9,23 +9,33 @@ use Rattle.pv_listing.proofs.Children.{past-none}
 use Rattle.pv_listing.proofs.Entries.{no-entries}
 use Rattle.pv_listing.proofs.Rests.{rest_after, rest_begins, written_text}
 use Rattle.pv_streams.specs.Sinks.{and_all}
-use Rattle.pv_streams.proofs.Telling.{begins_first, on_err}
+use Rattle.pv_streams.proofs.Reporting.{begins_first, on_err}
 use Rattle.pv_answers.specs.Reaching.{lines_under, lines_within, path_of, state_of}
 use Rattle.pv_answers.proofs.Listed.{child-is, lines-are, next-is, node_left, upcoming}
-use Rattle.pv_answers.proofs.Told.{begun_as}
+use Rattle.pv_answers.proofs.Reported.{begun_as}
 use Rattle.pv_answers.proofs.reach.names.+write_within.Goals as goal
 
-pub returns-in_err-write_name-clause-beginning : goal.returns-in_err-write_name-clause-beginning
-returns-in_err-write_name-clause-beginning g t c =
-    let x = c.args.reacher.now in
-    rw (lines-are x c.args.depth (path_of c.args.path.now) c.args.place.now c.args.node (omega arith))
-    (on_err c.from_residual.result (begins_first _ _ _ _ c.in_err-write_name.ensures.beginning))
+pub returns-in_err-write_name : goal.returns-in_err-write_name
+returns-in_err-write_name g t c = record {
+  whole = search rules;
+  prefix =
+      (let x = c.args.reacher.now in
+      rw (lines-are x c.args.depth (path_of c.args.path.now) c.args.place.now c.args.node (omega arith))
+      (on_err c.from_residual.result (begins_first _ _ _ _ c.in_err-write_name.ensures.prefix)));
+  failed = search rules;
+  quiet = search rules;
+}
 
-pub returns-then-not-is_directory-clause-whole : goal.returns-then-not-is_directory-clause-whole
-returns-then-not-is_directory-clause-whole g t c =
-    let x = c.args.reacher.now in
-    let none = no-entries (state_of x).tree c.args.node (rw c.tree-tree.ensures at (sym c.is_directory.ensures ∙ c.if-not-is_directory.true)) in
-    written_text _ _ _ (node_left x c.args.depth (path_of c.args.path.now) c.args.place.now c.args.node _ _ _ (omega arith) none c.in_ok-write_name.ensures.whole)
+pub returns-then-not-is_directory : goal.returns-then-not-is_directory
+returns-then-not-is_directory g t c = record {
+  whole =
+      (let x = c.args.reacher.now in
+      let none = no-entries (state_of x).tree c.args.node (rw c.tree-tree.ensures at (sym c.is_directory.ensures ∙ c.if-not-is_directory.true)) in
+      written_text _ _ _ (node_left x c.args.depth (path_of c.args.path.now) c.args.place.now c.args.node _ _ _ (omega arith) none c.in_ok-write_name.ensures.whole));
+  prefix = search rules;
+  failed = search rules;
+  quiet = search rules;
+}
 
 pub loop-next-init : goal.loop-next-init
 loop-next-init g t c =
@@ -39,18 +49,23 @@ loop-next-init g t c =
       quiet = c.in_ok-write_name.ensures.quiet;
     }
 
-pub returns-in_err-write_within-clause-beginning : goal.returns-in_err-write_within-clause-beginning
-returns-in_err-write_within-clause-beginning g t c =
-    let x = c.args.reacher.now in
-    let es = entries_at (state_of x).tree c.args.node in
-    let path = path_of c.args.path.now in
-    let child = child-is x (c.args.depth - 1) path c.in-Some.name c.as_slice.result.now c.as_slice-in-Some.result.now c.at-spot.result c.args.node c.in-Some.child
-    c.as_slice.ensures.value c.at-spot.ensures c.as_slice-in-Some.ensures.value in
-    on_err c.from_residual-in_err-write_within.result
-    (rest_begins _ (lines_within x (c.args.depth - 1) (with_name c.in-Some.name path) (At c.args.node c.in-Some.name (Some c.in-Some.child)) c.in-Some.child)
-    (lines_under x (c.args.depth - 1) path c.args.node (entries_after (Some c.in-Some.name) es)) _ _ _ _ c.loop-next.invariant.left
-    (ap (λ (next : Option (Bytes × ℕ)). lines_under x (c.args.depth - 1) path c.args.node (upcoming es next)) c.in-Some.is)
-    (begun_as _ _ _ _ child c.in_err-write_within.ensures.beginning))
+pub returns-in_err-write_within : goal.returns-in_err-write_within
+returns-in_err-write_within g t c = record {
+  whole = search rules;
+  prefix =
+      (let x = c.args.reacher.now in
+      let es = entries_at (state_of x).tree c.args.node in
+      let path = path_of c.args.path.now in
+      let child = child-is x (c.args.depth - 1) path c.in-Some.name c.as_slice.result.now c.as_slice-in-Some.result.now c.at-spot.result c.args.node c.in-Some.child
+      c.as_slice.ensures.value c.at-spot.ensures c.as_slice-in-Some.ensures.value in
+      on_err c.from_residual-in_err-write_within.result
+      (rest_begins _ (lines_within x (c.args.depth - 1) (with_name c.in-Some.name path) (At c.args.node c.in-Some.name (Some c.in-Some.child)) c.in-Some.child)
+      (lines_under x (c.args.depth - 1) path c.args.node (entries_after (Some c.in-Some.name) es)) _ _ _ _ c.loop-next.invariant.left
+      (ap (λ (next : Option (Bytes × ℕ)). lines_under x (c.args.depth - 1) path c.args.node (upcoming es next)) c.in-Some.is)
+      (begun_as _ _ _ _ child c.in_err-write_within.ensures.prefix)));
+  failed = search rules;
+  quiet = search rules;
+}
 
 pub loop-next-smaller : goal.loop-next-smaller
 loop-next-smaller g t c =

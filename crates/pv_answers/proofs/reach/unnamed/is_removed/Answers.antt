@@ -3,4 +3,4 @@ use Rattle.pv_answers.proofs.Removed.{removed-by}
 use Rattle.pv_answers.proofs.reach.unnamed.is_removed.Goals as goal
 
 pub returns : goal.returns
-returns c = ap not c.has_path.ensures ∙ removed-by c.args.tree.now.tree c.args.tree.now.tree refl c.sizes.ensures.standing.well_formed c.args.directory
+returns c = ap not c.has_path.ensures ∙ removed-by c.args.tree.now.tree c.args.tree.now.tree refl c.sizes.ensures.present.well_formed c.args.directory

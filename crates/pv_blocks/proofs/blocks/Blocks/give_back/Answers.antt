@@ -5,7 +5,7 @@ use Rattle.pv_blocks.proofs.Stores.{length-free_outside, GivesBack, gives_back}
 use Rattle.pv_blocks.proofs.blocks.Blocks.give_back.Goals as goal
 use Rattle.pv_blocks.proofs.blocks.Blocks.give_back.Goals.{After-remove}
 
--- the block was in use, and its flag alone changes
+-- the block was in use, and only its flag changes
 given : (c : After-remove) → GivesBack c.self.inside.taken c.remove.new.self c.self.inside.count c.args.k
 given c = gives_back _ _ _ _ (subst (λ (s : BlockStore). IsTaken s c.args.k) (sym c.self.view_is) c.requires.taken) c.remove.ensures.after
 

@@ -6,7 +6,7 @@ use Rattle.pv_blocks.proofs.Stores.{Takes, takes_free}
 use Rattle.pv_blocks.proofs.blocks.Blocks.reserve.Goals as goal
 use Rattle.pv_blocks.proofs.blocks.Blocks.reserve.Goals.{After-insert}
 
--- the block was free, and its flag alone changes
+-- the block was free, and only its flag changes
 taken : (c : After-insert) → Takes c.self.inside.taken c.insert.new.self c.self.inside.count c.args.k
 taken c = takes_free _ _ _ _ (subst (λ (s : BlockStore). IsFree s c.args.k) (sym c.self.view_is) c.requires) c.insert.ensures.after
 

@@ -4,7 +4,7 @@ use Rattle.pv_blocks.specs.BlockStore.{BlockStore, free_count, IsFree, take}
 use Rattle.pv_blocks.proofs.Stores.{free_flag, some_free, count-all_taken}
 use Rattle.pv_blocks.proofs.blocks.Blocks.take.Goals as goal
 
--- each block below the least that is looked at is in use, so none is free where none is found
+-- each block below `least` is in use, so if the search finds none, none is free
 pub returns-in_err-k-clause-full : goal.returns-in_err-k-clause-full
 returns-in_err-k-clause-full c =
     let found = c.in_err-k.ensures in

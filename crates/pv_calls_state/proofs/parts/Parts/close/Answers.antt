@@ -1,4 +1,4 @@
--- The file of the descriptor loses a user.
+-- The open file of the descriptor loses a user.
 use Rattle.std.proofs.Common.{ap, sym, w32, subst, ◌∙◌, arith}
 use Rattle.std.specs.Prelude.{option_map, ok_or, IsSome}
 use Rattle.std.proofs.lemmas.Int.{to_z-of_z}

@@ -1,4 +1,4 @@
--- The new node is held, and the open file has one user.
+-- The new node has a reference, and the open file has one user.
 use Rattle.std.proofs.Common.{ap, sym, subst, ◌∙◌, arith, rules}
 use Rattle.std.specs.Prelude.{IsSome}
 use Rattle.std.proofs.lemmas.Result.{IfErr-weaker}
@@ -8,7 +8,7 @@ use Rattle.pv_model.specs.Tree.{Tree, node_at, new_number, with_new_node}
 use Rattle.pv_calls_state.proofs.Changing.{before, started}
 use Rattle.pv_model.specs.declared.kind.NewNode.TheVariants.{File}
 use Rattle.pv_model.specs.Calls.Descriptors.{with_open_file}
-use Rattle.pv_model.specs.Held.{trim}
+use Rattle.pv_model.specs.Held.{collect}
 use Rattle.pv_tree.specs.Changes.{new_node}
 use Rattle.pv_tree.specs.Holding.{HeldTree}
 use Rattle.pv_tree.specs.Rooms.{refusal}
@@ -43,7 +43,7 @@ returns-clause-opened c me at =
     c.args.self.now c.self.view_is (new c.args.self.now)
     (c.open_node-number.ensures.tree ∙ ap (λ (x : HeldTree). x.tree) c.in_ok-node.ensures.ok ∙ ap new c.self.view_is)
     c.invariant-3.ensures c.invariant-4.ensures
-    ∙ ap (λ n. trim (with_open_file c.args.self.now c.args.pid me c.args.flags n (new c.args.self.now))) (c.in_ok-node.ensures.number ∙ ap (λ (x : State). new_number x.tree) c.self.view_is)
+    ∙ ap (λ n. collect (with_open_file c.args.self.now c.args.pid me c.args.flags n (new c.args.self.now))) (c.in_ok-node.ensures.number ∙ ap (λ (x : State). new_number x.tree) c.self.view_is)
 
 pub returns-in_err-node-clause-refused : goal.returns-in_err-node-clause-refused
 returns-in_err-node-clause-refused c =

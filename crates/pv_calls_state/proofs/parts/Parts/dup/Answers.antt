@@ -1,4 +1,4 @@
--- The file of the descriptor has another user.
+-- The open file of the descriptor gets another user.
 use Rattle.std.proofs.Common.{◌≡◌, ◌+◌, false, ap, sym, w32, subst, ◌∙◌, arith}
 use Rattle.std.specs.Prelude.{option_map, ok_or, IsSome}
 use Rattle.pv_files.specs.Counted.{Counted}
@@ -73,4 +73,4 @@ returns-clause-performed c me at =
       ap (λ f. one_if f k) found.2,
     ))
     (λ n. ap (λ x. holds_at c.self.inside.tree n + times n (open_nodes x.files)) (sym c.dup.ensures))
-    c.args.self.now c.self.view_is c.invariant-3.ensures (sym c.invariant.ensures.is_trimmed) (λ k more. ap (λ (x : Counted). at_number x.files k) c.dup.ensures))
+    c.args.self.now c.self.view_is c.invariant-3.ensures (sym c.invariant.ensures.is_collected) (λ k more. ap (λ (x : Counted). at_number x.files k) c.dup.ensures))

@@ -1,4 +1,4 @@
--- The file of the descriptor has another user, and the one that was there loses one.
+-- The open file of the descriptor gets another user, and the replaced one loses a user.
 use Rattle.std.proofs.Common.{◌≡◌, false, ap, sym, w32, subst, ◌∙◌, arith}
 use Rattle.std.specs.Prelude.{option_map, ok_or, IsSome}
 use Rattle.pv_files.specs.Counted.{Counted}

@@ -1,4 +1,4 @@
--- The child uses and holds what its parent does.
+-- The child has the users and references of its parent.
 use Rattle.std.proofs.Common.{refl, sym, subst, ◌∙◌}
 use Rattle.std.specs.Prelude.{IsSome}
 use Rattle.pv_tree.specs.Holding.{holds_at}

@@ -1,4 +1,4 @@
--- The node is held, and the open file has one user.
+-- The node has a reference, and the open file has one user.
 use Rattle.std.proofs.Common.{ap, sym, subst, ◌∙◌, arith}
 use Rattle.std.specs.Prelude.{IsSome, IsTrue}
 use Rattle.pv_model.specs.Sealed.{is_file}

@@ -1,4 +1,4 @@
--- A new entry's directory is held once more.
+-- The directory of a new entry gets one more reference.
 use Rattle.std.proofs.Common.{arith}
 use Rattle.pv_calls_state.proofs.Adding.{added-up, added-state}
 use Rattle.pv_calls_state.proofs.Changing.{before, started, few-holds}

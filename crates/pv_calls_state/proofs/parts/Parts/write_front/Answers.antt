@@ -3,7 +3,7 @@ use Rattle.std.proofs.lemmas.List.{length-take-le}
 use Rattle.std.proofs.lemmas.Result.{IfErr-weaker}
 use Rattle.pv_files.specs.Counted.{with_file}
 use Rattle.pv_model.specs.Calls.Descriptors.{with_bytes_written}
-use Rattle.pv_model.specs.Held.{trim}
+use Rattle.pv_model.specs.Held.{collect}
 use Rattle.pv_model.specs.Numbered.{at_number}
 use Rattle.pv_calls_state.specs.Counts.{IsCountedUp}
 use Rattle.pv_tree.specs.Changes.{overwritten}
@@ -38,7 +38,7 @@ returns-clause-written c = λ me f lives there.
     let moved = subst (λ n. option_map (λ f. with_file i.files c.args.file (record f { offset = c.args.at + n })) (at_number i.files.files c.args.file) ≡ Some c.set_offset.new.self) (sym long) c.set_offset.ensures in
     write-changed i.tree i.files i.processes c.args.self.now c.self.view_is c.self.invariant c.invariant-2.ensures c.invariant.ensures c.requires.whole.tree.well_formed c.args.file c.node-node.result c.args.at (take c.args.count buffer)
     (subst (λ n. 0 < n) (sym long) c.requires.some) c.node-node.ensures c.write_at.new.self c.set_offset.new.self c.in_ok-write_at.ensures.ok moved f there
-    ∙ ap (λ b. trim (with_bytes_written c.args.self.now c.args.pid me c.args.file f c.args.at (take c.args.count b)))
+    ∙ ap (λ b. collect (with_bytes_written c.args.self.now c.args.pid me c.args.file f c.args.at (take c.args.count b)))
     (own-buffer i.tree i.files i.processes c.args.self.now c.self.view_is c.args.pid me c.record.result.now buffer lives c.record.ensures c.buffer-buffer.ensures.value)
 
 pub returns-in_err-write_at-clause-refused : goal.returns-in_err-write_at-clause-refused
@@ -50,7 +50,7 @@ returns-in_err-write_at-clause-refused c =
     (λ why. refusal (overwritten i.tree.tree c.node-node.result c.args.at (take c.args.count buffer)) ≡ Some why) _
     (λ why no_room me f lives there.
     let own = own-buffer i.tree i.files i.processes c.args.self.now c.self.view_is c.args.pid me c.record.result.now buffer lives c.record.ensures c.buffer-buffer.ensures.value in
-    ap (λ b. refusal (trim (with_bytes_written c.args.self.now c.args.pid me c.args.file f c.args.at (take c.args.count b))).tree) (sym own)
+    ap (λ b. refusal (collect (with_bytes_written c.args.self.now c.args.pid me c.args.file f c.args.at (take c.args.count b))).tree) (sym own)
     ∙ write-refused i.tree i.files i.processes c.args.self.now c.self.view_is c.self.invariant c.invariant-2.ensures c.invariant.ensures c.requires.whole.tree.well_formed c.args.file c.node-node.result c.args.at (take c.args.count buffer)
     (subst (λ n. 0 < n) (sym long) c.requires.some) c.node-node.ensures why no_room f there)
     (search rules)

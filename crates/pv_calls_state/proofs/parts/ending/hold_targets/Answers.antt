@@ -1,4 +1,4 @@
--- Each target's directory is there and is held once more.
+-- The directory of each target exists and gets one more reference.
 use Rattle.std.proofs.Common.{◌∙◌}
 use Rattle.pv_calls_state.proofs.Targets.{hold-there, hold-few, hold-next}
 use Rattle.pv_calls_state.proofs.parts.ending.hold_targets.Goals as goal

@@ -1,4 +1,4 @@
--- Each descriptor's file has a user, who goes.
+-- The open file of each descriptor has a user, which is removed.
 use Rattle.std.proofs.Common.{◌+◌, drop, sym, ◌∙◌}
 use Rattle.pv_calls_state.specs.Releasing.{files_on}
 use Rattle.pv_calls_state.proofs.Releasing.{still-used, releases-next, releases-nothing, releases-as}

@@ -1,4 +1,4 @@
--- Each marked descriptor's file has a user, who goes.
+-- The open file of each marked descriptor has a user, which is removed.
 use Rattle.std.proofs.Common.{◌+◌, drop, ap, sym, ◌∙◌}
 use Rattle.std.specs.Prelude.{option_map}
 use Rattle.pv_calls_state.specs.Releasing.{files_on, marked_of}

@@ -1,4 +1,4 @@
--- Each descriptor's file has another user.
+-- The open file of each descriptor gets another user.
 use Rattle.std.proofs.Common.{drop, ◌+◌, sym, subst, ◌∙◌}
 use Rattle.pv_calls_state.specs.Releasing.{files_on, Shares}
 use Rattle.pv_files.specs.Counted.{Counted}

@@ -8,7 +8,8 @@ use Rattle.pv_dirs.specs.Slots.{IsRun, slot_entries, in_order}
 use Rattle.pv_dirs.proofs.Passes.{lesser}
 use Rattle.pv_dirs.proofs.dir.Dir.best_of_pass.Given as goal
 
--- the best is the next name of the slots so far, or the name that the pass began with, and the mark is one of the names between it and the last
+-- the best name is the next name of the slots so far, or the name that the scan started with; the mark is one of the
+-- names between it and the last
 abbrev pub invariant-loop-k : goal.invariant-loop-k
 invariant-loop-k l = record {
   best : l.best ≡ lesser l.initial.best (next_name (option_copied l.last) (in_order (take l.k (slot_entries l.self.inodes.now.version (bytes_in l.self)))));

@@ -5,7 +5,7 @@ use Rattle.pv_dirs.specs.Slots.{slot_at, slot_count, slot_name}
 use Rattle.pv_dirs.proofs.Entries.{by_name}
 use Rattle.pv_dirs.proofs.dir.Dir.count_before.Given as goal
 
--- the names in front of `from` come before the name, and those from `to` on do not
+-- the names before `from` precede the name, and those from `to` on do not
 abbrev pub invariant-loop-from : goal.invariant-loop-from
 invariant-loop-from l = record {
   ordered : l.from ≤ l.to;

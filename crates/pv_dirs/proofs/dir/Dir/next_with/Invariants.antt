@@ -4,7 +4,7 @@ use Rattle.pv_dirs.specs.Listing.{IsNextOf}
 use Rattle.pv_dirs.specs.Slots.{IsRun, IsInSlots}
 use Rattle.pv_dirs.proofs.dir.Dir.next_with.Given as goal
 
--- the best is the next of the names in the slots so far that have the number
+-- the best name is the next of the names in the slots so far that have the number
 abbrev pub invariant-loop-k : goal.invariant-loop-k
 invariant-loop-k l = record {
   best : IsNextOf (IsInSlots l.self.inodes.now.version (bytes_in l.self) l.k l.node) (option_copied l.last) l.best;

@@ -70,7 +70,7 @@ grown c =
     ∙ grown_length-tree_of c.self.inside.inodes c.self.inside.block_count c.args.directory c.self.invariant.holding (viewed_directory c.self.inside.inodes c.args.self.now c.args.directory c.self.view_is c.requires.directory)
     ∙ (λ i. sym c.size-end.ensures.value i + sym (whole c) i)
 
--- where the slot was written
+-- the slot was written
 is_written : (c : After-add) → c.write_at-added.new.self ≡ written c.self.inside.inodes c.args.directory c.size-end.result c.as_bytes.result.now
 is_written c = ok_is c.write_at-added.result (sym c.is_ok.ensures.value ∙ c.if-is_ok.true) c.write_at-added.ensures.ok
 

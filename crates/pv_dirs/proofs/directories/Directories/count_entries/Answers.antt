@@ -19,7 +19,7 @@ is_directory c = subst (λ (t : Tree). is_directory_at t c.args.directory ≡ tr
 slotted : (c : After-self) → IsSlotted c.self.inside.inodes.version (bytes_at c.self.inside.inodes c.args.directory)
 slotted c = directory_slotted c.self.inside.inodes c.self.inside.block_count c.args.directory c.self.invariant.holding (is_directory c)
 
--- the node of a slot's entry has a place
+-- the node of a slot's entry is within the arrays
 placed : (c : After-self) (k : ℕ) → k < slot_count c.self.inside.inodes.version (bytes_at c.self.inside.inodes c.args.directory)
     → slot_number (slot_at c.self.inside.inodes.version (bytes_at c.self.inside.inodes c.args.directory) k) < length c.args.counts.now
 placed c k within =
@@ -72,7 +72,7 @@ loop-k-preserved c =
     (omega (arith, less, length-slot_entries v bytes)) (get_or-slot_entries v bytes c.loop-k.k (slot_entry v bytes c.loop-k.k) less) (omega (arith, place, c.loop-k.auto.counts))
     (omega (arith, c.loop-k.auto.counts, c.loop-k.auto.parents, c.requires.places)))
 
--- after the last slot all entries are counted
+-- after the last slot, all entries are counted
 all_counted : (c : After-self) (k n : ℕ) → slot_count c.self.inside.inodes.version (bytes_at c.self.inside.inodes c.args.directory) ≤ k
     → count_in n (take k (slot_entries c.self.inside.inodes.version (bytes_at c.self.inside.inodes c.args.directory))) ≡ count_in n (entries_at c.args.self.now c.args.directory)
 all_counted c k n at_end =

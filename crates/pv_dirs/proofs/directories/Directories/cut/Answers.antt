@@ -3,7 +3,7 @@ use Rattle.pv_model.specs.Effect.{resize}
 use Rattle.pv_model.specs.Room.{greatest_length}
 use Rattle.pv_model.specs.Tree.{Tree}
 use Rattle.pv_inodes.specs.Files.{Files, bytes_at, cut}
-use Rattle.pv_dirs.specs.Index.{IsKept}
+use Rattle.pv_dirs.specs.Index.{IsConsistent}
 use Rattle.pv_dirs.specs.Trees.{tree_of, IsHolding, LacksRoom, cut as tree_cut}
 use Rattle.pv_dirs.proofs.Contents.{cut-tree_of, holding-content, lacks_room, lacks_room_back}
 use Rattle.pv_dirs.proofs.Indexed.{indexed-content}
@@ -28,7 +28,7 @@ after c =
 pub invariant_of-self : goal.invariant_of-self
 invariant_of-self c =
     let k = viewed_content c.self.inside.inodes c.args.self.now c.args.inode c.self.view_is c.requires.used c.requires.other in
-    either_way (λ (f : Files). IsKept f c.self.inside.block_count c.self.inside.index.value) c.cut.result c.self.inside.inodes (cut c.self.inside.inodes c.args.inode c.args.size) c.cut.new.self
+    either_way (λ (f : Files). IsConsistent f c.self.inside.block_count c.self.inside.index.value) c.cut.result c.self.inside.inodes (cut c.self.inside.inodes c.args.inode c.args.size) c.cut.new.self
     c.cut.ensures.ok c.cut.ensures.err record {
       holding = holding c;
       indexed = indexed-content c.self.inside.inodes c.args.inode k.0 k.1 c.self.inside.index.value c.self.invariant.indexed (resize (bytes_at c.self.inside.inodes c.args.inode) c.args.size);

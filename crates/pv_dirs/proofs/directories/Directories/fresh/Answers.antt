@@ -3,7 +3,7 @@ use Rattle.std.specs.Prelude.{option_map}
 use Rattle.std.proofs.lemmas.Option.{IfSome_then}
 use Rattle.pv_model.specs.Tree.{Tree, node_at, with_node, new_number as new_number_in}
 use Rattle.pv_inodes.specs.Files.{Files, with_new, new_number}
-use Rattle.pv_dirs.specs.Index.{IsKept}
+use Rattle.pv_dirs.specs.Index.{IsConsistent}
 use Rattle.pv_dirs.specs.Trees.{node_of, tree_of, new_node}
 use Rattle.pv_dirs.proofs.Contents.{tree_of-with_new, holding-with_new}
 use Rattle.pv_dirs.proofs.Indexed.{indexed-with_new}
@@ -20,7 +20,7 @@ long c = ap (λ (t : Tree). length t.nodes) (sym c.self.view_is) ∙ length-tree
 
 pub invariant_of-self : goal.invariant_of-self
 invariant_of-self c =
-    either_number (λ (f : Files). IsKept f c.self.inside.block_count c.self.inside.index.value) (λ n. n < length c.self.inside.inodes.nodes) c.fresh.result c.self.inside.inodes c.fresh.new.self (λ n. with_new c.self.inside.inodes n c.args.sort)
+    either_number (λ (f : Files). IsConsistent f c.self.inside.block_count c.self.inside.index.value) (λ n. n < length c.self.inside.inodes.nodes) c.fresh.result c.self.inside.inodes c.fresh.new.self (λ n. with_new c.self.inside.inodes n c.args.sort)
     c.fresh.ensures.none c.fresh.ensures.within c.fresh.ensures.after c.self.invariant
     (λ n within. record {
       holding = holding-with_new c.self.inside.inodes c.self.inside.block_count n c.args.sort within c.self.invariant.holding;

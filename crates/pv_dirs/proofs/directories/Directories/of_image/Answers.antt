@@ -7,7 +7,7 @@ use Rattle.pv_dirs.proofs.directories.Directories.of_image.Goals.{After-of_image
 pub of_image-inodes-requires-clause-inodes : goal.of_image-inodes-requires-clause-inodes
 of_image-inodes-requires-clause-inodes c = image-inodes c.args.version c.args.inodes c.args.bytes.items c.requires
 
--- what the image holds
+-- the files of the image satisfy the invariant
 held : (c : After-of_image-inodes) → IsHolding c.of_image-inodes.result c.requires.tree.blocks
 held c = rw c.of_image-inodes.ensures (image-holding c.args.version c.args.inodes c.args.bytes.items c.requires c.requires.tree.blocks refl)
 

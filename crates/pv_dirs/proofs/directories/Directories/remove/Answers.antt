@@ -69,10 +69,10 @@ pub shrink-requires-clause-shorter : goal.shrink-requires-clause-shorter
 shrink-requires-clause-shorter c =
     let start = (goal.at.shrink-requires-clause-shorter c).After-slot-moved in
     let is = viewed_directory c.self.inside.inodes c.args.self.now c.args.directory c.self.view_is c.requires in
-    let kept = ap (λ (f : Files). length (bytes_at f c.args.directory))
+    let preserved = ap (λ (f : Files). length (bytes_at f c.args.directory))
     (c.overwrite.ensures ∙ ap (λ n. with_bytes c.self.inside.inodes c.args.directory (overwrite (bytes_at c.self.inside.inodes c.args.directory) n c.as_bytes.result.now)) c.start-at.ensures)
     ∙ length-filled c.self.inside.inodes c.args.directory c.in_ok-hole.hole c.as_bytes.result.now is (fits (goal.at.shrink-requires-clause-shorter c).After-as_bytes) in
-    omega (arith, kept, c.start-end.ensures, long start)
+    omega (arith, preserved, c.start-end.ensures, long start)
 
 shortened_is : (c : After-shrink) → c.shrink.new.self ≡ shortened c.self.inside.inodes c.args.directory c.in_ok-hole.hole (slot_at c.self.inside.inodes.version (bytes_at c.self.inside.inodes c.args.directory) (c.count-last.result - 1)) (c.count-last.result - 1)
 shortened_is c =

@@ -10,6 +10,6 @@ invariant_of-self c =
     let new = c.sort_all.new.inodes in
     let blocks : new.blocks ≡ c.self.inside.block_count = sym (blocks-tree_of new) ∙ ap (λ (t : Tree). t.blocks) c.sort_all.ensures.tree ∙ blocks-tree_of old ∙ c.self.invariant.holding.sized in
     record {
-      holding = subst (IsHolding new) blocks c.sort_all.ensures.kept;
+      holding = subst (IsHolding new) blocks c.sort_all.ensures.preserved;
       indexed = c.add_all.ensures;
     }

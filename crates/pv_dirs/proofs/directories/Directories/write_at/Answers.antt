@@ -2,7 +2,7 @@ use Rattle.std.proofs.Common.{◌≡◌, sym, ap, subst, ◌∙◌, arith}
 use Rattle.pv_model.specs.Room.{greatest_length}
 use Rattle.pv_model.specs.Tree.{Tree}
 use Rattle.pv_inodes.specs.Files.{Files, written}
-use Rattle.pv_dirs.specs.Index.{IsKept}
+use Rattle.pv_dirs.specs.Index.{IsConsistent}
 use Rattle.pv_dirs.specs.Trees.{tree_of, IsHolding, LacksRoom, written as tree_written}
 use Rattle.pv_dirs.proofs.Contents.{written-tree_of, holding-written, lacks_room, lacks_room_back}
 use Rattle.pv_dirs.proofs.Indexed.{indexed-written}
@@ -27,7 +27,7 @@ after c =
 pub invariant_of-self : goal.invariant_of-self
 invariant_of-self c =
     let k = viewed_content c.self.inside.inodes c.args.self.now c.args.inode c.self.view_is c.requires.used c.requires.other in
-    either_way (λ (f : Files). IsKept f c.self.inside.block_count c.self.inside.index.value) c.write_at.result c.self.inside.inodes (written c.self.inside.inodes c.args.inode c.args.at c.args.bytes.now) c.write_at.new.self
+    either_way (λ (f : Files). IsConsistent f c.self.inside.block_count c.self.inside.index.value) c.write_at.result c.self.inside.inodes (written c.self.inside.inodes c.args.inode c.args.at c.args.bytes.now) c.write_at.new.self
     c.write_at.ensures.ok c.write_at.ensures.err record {
       holding = holding c;
       indexed = indexed-written c.self.inside.inodes c.args.inode k.0 k.1 c.self.inside.index.value c.self.invariant.indexed c.args.at c.args.bytes.now;

@@ -7,9 +7,9 @@ use Rattle.pv_dirs.proofs.Leading.{said-is, said-at, said-here, leads-slot, lead
 use Rattle.pv_dirs.proofs.index.Index.change.Goals as goal
 use Rattle.pv_dirs.proofs.index.Index.change.Goals.{After-is_slot, then-from-to, else-from-to}
 
--- a place says what it said
-kept : (c : After-is_slot) → get_or c.know.new.self.places c.place_of-at.result Empty ≡ get_or c.args.self.now.places c.place_of-at.result Empty
-kept c = ap (λ (ps : List Bucket). get_or ps c.place_of-at.result Empty) c.know.ensures.places
+-- a bucket does not change
+preserved : (c : After-is_slot) → get_or c.know.new.self.places c.place_of-at.result Empty ≡ get_or c.args.self.now.places c.place_of-at.result Empty
+preserved c = ap (λ (ps : List Bucket). get_or ps c.place_of-at.result Empty) c.know.ensures.places
 
 pub returns-then-is_slot-clause-this : goal.returns-then-is_slot-clause-this
 returns-then-is_slot-clause-this c = λ before.
@@ -20,13 +20,13 @@ returns-then-is_slot-clause-others c = λ d k other apart leads.
     leads-others c.args.self.now _ c.place_of-at.result (Slot c.args.directory c.args.to) (omega (arith, c.place_of-at.ensures.within))
     (ap (λ (ps : List Bucket). set ps c.place_of-at.result (Slot c.args.directory c.args.to)) c.know.ensures.places) d other k
     (λ same before.
-    let here = said-at c.args.self.now d other c.place_of-at.result (Slot c.args.directory c.args.from) same (sym (kept (goal.at.returns-then-is_slot-clause-others c).After-is_slot) ∙ c.is_slot.ensures.0 c.if-is_slot.true) in
+    let here = said-at c.args.self.now d other c.place_of-at.result (Slot c.args.directory c.args.from) same (sym (preserved (goal.at.returns-then-is_slot-clause-others c).After-is_slot) ∙ c.is_slot.ensures.0 c.if-is_slot.true) in
     let both = leads-slot c.args.self.now d other k c.args.directory c.args.from here before in absurd (apart both.0 both.1)) leads
 
 pub returns-else-is_slot-clause-this : goal.returns-else-is_slot-clause-this
 returns-else-is_slot-clause-this c = λ leads. elim leads [
   | inl slot ↦
-      let here = kept (goal.at.returns-else-is_slot-clause-this c).After-is_slot ∙ ap (λ i. get_or c.args.self.now.places i Empty) c.place_of-at.ensures.value ∙ sym (said-is c.args.self.now c.args.directory c.args.name.now) ∙ slot in
+      let here = preserved (goal.at.returns-else-is_slot-clause-this c).After-is_slot ∙ ap (λ i. get_or c.args.self.now.places i Empty) c.place_of-at.ensures.value ∙ sym (said-is c.args.self.now c.args.directory c.args.name.now) ∙ slot in
       absurd (false≢true (sym c.if-is_slot.false ∙ c.is_slot.ensures.1 here))
   | inr shared ↦ leads-same c.args.self.now c.know.new.self c.args.directory c.args.name.now c.args.to c.know.ensures.places (inr shared)
 ]
@@ -34,7 +34,7 @@ returns-else-is_slot-clause-this c = λ leads. elim leads [
 pub returns-else-is_slot-clause-others : goal.returns-else-is_slot-clause-others
 returns-else-is_slot-clause-others c = λ d k other apart leads. leads-same c.args.self.now c.know.new.self d other k c.know.ensures.places leads
 
--- where the names are known to ascend afterwards, they were before, and the entry stays in its slot
+-- if the names are known to ascend afterwards, they were before, and the entry stays in its slot
 still : (c : After-is_slot) → known c.know.new.self c.args.directory ≡ true → (c.args.from ≡ c.args.to) × (known c.args.self.now c.args.directory ≡ true)
 still c is = elim c.if-from-to.branch [
   | then-from-to w ↦ (w.if-from-to.true, sym w.ascends-ascends.ensures ∙ sym w.ascends-is ∙ c.know.ensures.this is)

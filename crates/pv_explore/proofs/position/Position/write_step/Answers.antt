@@ -11,9 +11,9 @@ use Rattle.pv_model.specs.Bytes.{Bytes}
 use Rattle.pv_model.specs.Stream.{Rose}
 use Rattle.pv_session.specs.Running.{FailsBy}
 use Rattle.pv_session.specs.declared.session.Stop.{Stop}
-use Rattle.pv_spelling.specs.Groups.{groups_of, state_groups}
-use Rattle.pv_streams.specs.Sinks.{and_all, TellsBeginning}
-use Rattle.pv_streams.proofs.Telling.{begins_first, begins_then, on_err, written_both}
+use Rattle.pv_state_encoding.specs.Groups.{groups_of, state_groups}
+use Rattle.pv_streams.specs.Sinks.{and_all, WritesPrefix}
+use Rattle.pv_streams.proofs.Reporting.{begins_first, begins_then, on_err, written_both}
 use Rattle.pv_explore.proofs.position.Position.write_step.Goals as goal
 
 pub groups_after-requires-clause-gave : goal.groups_after-requires-clause-gave
@@ -24,27 +24,27 @@ groups_after-requires-clause-gave g c =
 pub write_made-requires : goal.write_made-requires
 write_made-requires g c = c.in_ok-made.ensures.fit
 
-pub returns-in_err-write_leads-clause-beginning : goal.returns-in_err-write_leads-clause-beginning
-returns-in_err-write_leads-clause-beginning g c =
+pub returns-in_err-write_leads-clause-prefix : goal.returns-in_err-write_leads-clause-prefix
+returns-in_err-write_leads-clause-prefix g c =
     let s = c.args.self in
     let made = c.in_ok-made.made in
     let after = c.make_step.new.session in
     let groups = ap groups_of c.deref.ensures.value ∙ c.in_ok-groups.ensures ∙ ap state_groups c.parts-2.ensures.value in
     let is = step-bytes c.args.states.now s c.args.pid made after (groups_of c.deref.result.now) c.in_ok-number.number (subst (λ (t : State). IsMade t c.args.pid made after) c.self.view_is c.in_ok-made.ensures.made) groups c.in_ok-number.ensures in
     on_err c.from_residual-in_err-write_leads.result
-    (subst (λ (bs : Bytes). TellsBeginning bs (g.W.Sink.written c.args.out.now) (g.W.Sink.written c.write_leads.new.out)) is
-    (begins_first (answer_line_bytes (answer_line c.args.pid (codes "STEP") (leads_to_text c.in_ok-number.number))) (answer_bytes (made_lines c.args.pid [] made after)) _ _ c.in_err-write_leads.ensures.beginning))
+    (subst (λ (bs : Bytes). WritesPrefix bs (g.W.Sink.written c.args.out.now) (g.W.Sink.written c.write_leads.new.out)) is
+    (begins_first (answer_line_bytes (answer_line c.args.pid (codes "STEP") (leads_to_text c.in_ok-number.number))) (answer_bytes (made_lines c.args.pid [] made after)) _ _ c.in_err-write_leads.ensures.prefix))
 
-pub returns-in_err-write_made-clause-beginning : goal.returns-in_err-write_made-clause-beginning
-returns-in_err-write_made-clause-beginning g c =
+pub returns-in_err-write_made-clause-prefix : goal.returns-in_err-write_made-clause-prefix
+returns-in_err-write_made-clause-prefix g c =
     let s = c.args.self in
     let made = c.in_ok-made.made in
     let after = c.make_step.new.session in
     let groups = ap groups_of c.deref.ensures.value ∙ c.in_ok-groups.ensures ∙ ap state_groups c.parts-2.ensures.value in
     let is = step-bytes c.args.states.now s c.args.pid made after (groups_of c.deref.result.now) c.in_ok-number.number (subst (λ (t : State). IsMade t c.args.pid made after) c.self.view_is c.in_ok-made.ensures.made) groups c.in_ok-number.ensures in
     on_err c.from_residual-in_err-write_made.result
-    (subst (λ (bs : Bytes). TellsBeginning bs (g.W.Sink.written c.args.out.now) (g.W.Sink.written c.write_made.new.out)) is
-    (begins_then (answer_line_bytes (answer_line c.args.pid (codes "STEP") (leads_to_text c.in_ok-number.number))) (answer_bytes (made_lines c.args.pid [] made after)) _ _ _ c.in_ok-write_leads.ensures.whole c.in_err-write_made.ensures.beginning))
+    (subst (λ (bs : Bytes). WritesPrefix bs (g.W.Sink.written c.args.out.now) (g.W.Sink.written c.write_made.new.out)) is
+    (begins_then (answer_line_bytes (answer_line c.args.pid (codes "STEP") (leads_to_text c.in_ok-number.number))) (answer_bytes (made_lines c.args.pid [] made after)) _ _ _ c.in_ok-write_leads.ensures.whole c.in_err-write_made.ensures.prefix))
 
 pub returns-in_err-write_made-clause-failed : goal.returns-in_err-write_made-clause-failed
 returns-in_err-write_made-clause-failed g c =

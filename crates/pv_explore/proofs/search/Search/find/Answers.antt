@@ -1,14 +1,14 @@
 use Rattle.std.proofs.Common.{◌∙◌}
 use Rattle.std.proofs.lemmas.Result.{on_ok_weaker}
-use Rattle.pv_explore.specs.Searches.{kept_of}
-use Rattle.pv_explore.specs.Ways.{longer}
-use Rattle.pv_explore.proofs.Followed.{kept-found}
+use Rattle.pv_explore.specs.Searches.{visited_of}
+use Rattle.pv_explore.specs.Witnesses.{longer}
+use Rattle.pv_explore.proofs.Followed.{visited-found}
 use Rattle.pv_explore.proofs.search.Search.find.Goals as goal
 
 pub returns : goal.returns
 returns c =
     let t = c.args.position.now in
-    let old = kept_of c.args.self.now in
+    let old = visited_of c.args.self.now in
     let it = c.in_ok-found.ensures t c.requires.groups in
-    let is = kept-found c.args.limit old (longer old.ways c.args.number c.args.pid) t c.find_or_add.new.self c.add_found_ending.new.endings c.in_ok-found.found it c.in_ok-add_found_ending.ensures in
-    on_ok_weaker c.keep_way.result (λ kept. kept ∙ is) c.keep_way.ensures
+    let is = visited-found c.args.limit old (longer old.witnesses c.args.number c.args.pid) t c.find_or_add.new.self c.add_found_ending.new.endings c.in_ok-found.found it c.in_ok-add_found_ending.ensures in
+    on_ok_weaker c.keep_witness.result (λ visited. visited ∙ is) c.keep_witness.ensures

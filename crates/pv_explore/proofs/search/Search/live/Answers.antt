@@ -1,15 +1,15 @@
 use Rattle.std.proofs.Common.{IfSome, Option, subst, ℕ}
 use Rattle.std.specs.Global.{Vec}
-use Rattle.pv_explore.specs.KeptStates.{AreLiveAt}
+use Rattle.pv_explore.specs.VisitedStates.{AreLiveAt}
 use Rattle.pv_explore.specs.Plan.{state_at}
-use Rattle.pv_explore.specs.Searches.{kept_of, way_at}
+use Rattle.pv_explore.specs.Searches.{visited_of, witness_at}
 use Rattle.pv_explore.proofs.Followed.{whole-at}
 use Rattle.pv_model.specs.Grammar.Programs.{program_of}
 use Rattle.pv_explore.proofs.search.Search.live.Goals as goal
 
 pub returns-in-Some : goal.returns-in-Some
 returns-in-Some c =
-    let s = c.args.beginning.now in
-    let way = way_at (kept_of c.args.self.now) c.args.number in
+    let s = c.args.first_machine.now in
+    let witness = witness_at (visited_of c.args.self.now) c.args.number in
     let live = subst (λ (o : Option (Vec ℕ)). IfSome o (λ pids. AreLiveAt c.args.self.now.states c.args.number pids.items)) c.in-Some.is c.in_ok-pids.ensures in
-    live (state_at program_of s way) (whole-at s way c.requires.whole) c.requires.there
+    live (state_at program_of s witness) (whole-at s witness c.requires.whole) c.requires.there

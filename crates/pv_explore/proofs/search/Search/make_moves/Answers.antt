@@ -1,66 +1,66 @@
 use Rattle.std.proofs.Common.{◌∙◌, ℕ, List, [], ap, get_or, refl, subst, sym}
 use Rattle.std.proofs.lemmas.Option.{get_or_from_slice_get, slice_get-get_or, slice_get_within}
-use Rattle.pv_explore.specs.KeptStates.{HasNumber}
-use Rattle.pv_explore.specs.Plan.{kept_after, move_at, state_at}
-use Rattle.pv_explore.specs.Searches.{kept_of, way_at}
-use Rattle.pv_explore.proofs.Finding.{kept-next, kept-way, steps-next, steps_left}
+use Rattle.pv_explore.specs.VisitedStates.{HasNumber}
+use Rattle.pv_explore.specs.Plan.{visited_after, move_at, state_at}
+use Rattle.pv_explore.specs.Searches.{visited_of, witness_at}
+use Rattle.pv_explore.proofs.Finding.{visited-next, visited-witness, steps-next, steps_left}
 use Rattle.pv_explore.proofs.Followed.{number-after}
 use Rattle.pv_listing.proofs.Rests.{rest_after, rest_all, rest_begins}
 use Rattle.pv_model.specs.Grammar.Programs.{program_of}
-use Rattle.pv_streams.specs.Sinks.{TellsBeginning}
-use Rattle.pv_streams.proofs.Telling.{on_err}
+use Rattle.pv_streams.specs.Sinks.{WritesPrefix}
+use Rattle.pv_streams.proofs.Reporting.{on_err}
 use Rattle.pv_explore.proofs.search.Search.make_moves.Goals as goal
 
 pub loop-pid-init : goal.loop-pid-init
 loop-pid-init g c = record {
   left = rest_all _ _;
-  kept = refl;
-  at = slice_get-get_or (kept_of c.args.self.now).ways c.args.number [] c.requires.found;
+  visited = refl;
+  at = slice_get-get_or (visited_of c.args.self.now).witnesses c.args.number [] c.requires.found;
   there = c.requires.there;
   quiet = refl;
 }
 
 pub make_move-requires-clause-there : goal.make_move-requires-clause-there
 make_move-requires-clause-there g c =
-    let s = c.args.beginning.now in
-    let way = way_at (kept_of c.args.self.now) c.args.number in
-    let same = get_or_from_slice_get (kept_of c.loop-pid.self).ways c.args.number way [] c.loop-pid.invariant.at in
+    let s = c.args.first_machine.now in
+    let witness = witness_at (visited_of c.args.self.now) c.args.number in
+    let same = get_or_from_slice_get (visited_of c.loop-pid.self).witnesses c.args.number witness [] c.loop-pid.invariant.at in
     subst (λ (w : List ℕ). HasNumber c.loop-pid.self.states c.args.number (state_at program_of s w)) (sym same) c.loop-pid.invariant.there
 
 pub make_move-requires-clause-found : goal.make_move-requires-clause-found
-make_move-requires-clause-found g c = slice_get_within (kept_of c.loop-pid.self).ways c.args.number (way_at (kept_of c.args.self.now) c.args.number) c.loop-pid.invariant.at
+make_move-requires-clause-found g c = slice_get_within (visited_of c.loop-pid.self).witnesses c.args.number (witness_at (visited_of c.args.self.now) c.args.number) c.loop-pid.invariant.at
 
-pub returns-in_err-make_move-clause-beginning : goal.returns-in_err-make_move-clause-beginning
-returns-in_err-make_move-clause-beginning g c =
+pub returns-in_err-make_move-clause-prefix : goal.returns-in_err-make_move-clause-prefix
+returns-in_err-make_move-clause-prefix g c =
     let live = c.as_slice-live.ensures.value ∙ c.in_ok-pids.ensures in
-    let s = c.args.beginning.now in
-    let way = way_at (kept_of c.args.self.now) c.args.number in
+    let s = c.args.first_machine.now in
+    let witness = witness_at (visited_of c.args.self.now) c.args.number in
     let pids = c.as_slice-live.result.now in
     let i = c.loop-pid.pid-index in
-    let kept = kept_of c.loop-pid.self in
-    let same = get_or_from_slice_get kept.ways c.args.number way [] c.loop-pid.invariant.at in
-    let m = move_at program_of s (way_at kept c.args.number) (get_or pids i 0) in
+    let visited = visited_of c.loop-pid.self in
+    let same = get_or_from_slice_get visited.witnesses c.args.number witness [] c.loop-pid.invariant.at in
+    let m = move_at program_of s (witness_at visited c.args.number) (get_or pids i 0) in
     let made = ap (λ (w : List ℕ). move_at program_of s w (get_or pids i 0)) same in
-    let is = steps-next c.args.limit s way pids i kept (kept_after c.args.limit kept m) m c.loop-pid-test.true made refl in
+    let is = steps-next c.args.limit s witness pids i visited (visited_after c.args.limit visited m) m c.loop-pid-test.true made refl in
     on_err c.from_residual-in_err-make_move.result
-    (subst (λ (ps : List ℕ). TellsBeginning (steps_left c.args.limit s (way_at (kept_of c.args.self.now) c.args.number) ps (kept_of c.args.self.now)) (g.W.Sink.written c.args.out.now) (g.W.Sink.written c.make_move.new.out)) live
-    (rest_begins _ _ _ _ _ _ _ c.loop-pid.invariant.left is c.in_err-make_move.ensures.beginning))
+    (subst (λ (ps : List ℕ). WritesPrefix (steps_left c.args.limit s (witness_at (visited_of c.args.self.now) c.args.number) ps (visited_of c.args.self.now)) (g.W.Sink.written c.args.out.now) (g.W.Sink.written c.make_move.new.out)) live
+    (rest_begins _ _ _ _ _ _ _ c.loop-pid.invariant.left is c.in_err-make_move.ensures.prefix))
 
 pub loop-pid-preserved : goal.loop-pid-preserved
 loop-pid-preserved g c =
-    let s = c.args.beginning.now in
-    let way = way_at (kept_of c.args.self.now) c.args.number in
+    let s = c.args.first_machine.now in
+    let witness = witness_at (visited_of c.args.self.now) c.args.number in
     let pids = c.as_slice-live.result.now in
     let i = c.loop-pid.pid-index in
-    let kept = kept_of c.loop-pid.self in
-    let after = kept_of c.make_move.new.self in
-    let same = get_or_from_slice_get kept.ways c.args.number way [] c.loop-pid.invariant.at in
-    let m = move_at program_of s (way_at kept c.args.number) (get_or pids i 0) in
+    let visited = visited_of c.loop-pid.self in
+    let after = visited_of c.make_move.new.self in
+    let same = get_or_from_slice_get visited.witnesses c.args.number witness [] c.loop-pid.invariant.at in
+    let m = move_at program_of s (witness_at visited c.args.number) (get_or pids i 0) in
     let made = ap (λ (w : List ℕ). move_at program_of s w (get_or pids i 0)) same in
     record {
-      left = rest_after _ _ _ _ _ _ _ c.loop-pid.invariant.left (steps-next c.args.limit s way pids i kept after m c.loop-pid-test.true made c.in_ok-make_move.ensures.kept) c.in_ok-make_move.ensures.whole;
-      kept = kept-next c.args.limit s way pids i kept after m c.loop-pid-test.true made c.in_ok-make_move.ensures.kept ∙ c.loop-pid.invariant.kept;
-      at = kept-way c.args.limit kept after m c.args.number way c.in_ok-make_move.ensures.kept c.loop-pid.invariant.at;
-      there = number-after c.args.limit kept after m c.args.number (state_at program_of s way) c.loop-pid.invariant.there c.in_ok-make_move.ensures.kept;
+      left = rest_after _ _ _ _ _ _ _ c.loop-pid.invariant.left (steps-next c.args.limit s witness pids i visited after m c.loop-pid-test.true made c.in_ok-make_move.ensures.visited) c.in_ok-make_move.ensures.whole;
+      visited = visited-next c.args.limit s witness pids i visited after m c.loop-pid-test.true made c.in_ok-make_move.ensures.visited ∙ c.loop-pid.invariant.visited;
+      at = visited-witness c.args.limit visited after m c.args.number witness c.in_ok-make_move.ensures.visited c.loop-pid.invariant.at;
+      there = number-after c.args.limit visited after m c.args.number (state_at program_of s witness) c.loop-pid.invariant.there c.in_ok-make_move.ensures.visited;
       quiet = c.in_ok-make_move.ensures.quiet ∙ c.loop-pid.invariant.quiet;
     }

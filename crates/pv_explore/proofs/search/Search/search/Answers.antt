@@ -1,65 +1,65 @@
 use Rattle.std.proofs.Common.{◌≡◌, ◌-◌, arith, List, ◌∙◌, ap, refl, subst}
-use Rattle.pv_explore.specs.Plan.{Kept, kept_after_steps, kept_from, live_at}
-use Rattle.pv_explore.specs.Searches.{kept_of, way_at}
-use Rattle.pv_explore.proofs.Finding.{left-next, left-none, told-next, told-none, told-start, told_left}
-use Rattle.pv_explore.proofs.Followed.{at-after, found-none, found-way, number-at}
+use Rattle.pv_explore.specs.Plan.{Visited, visited_after_steps, visited_from, live_at}
+use Rattle.pv_explore.specs.Searches.{visited_of, witness_at}
+use Rattle.pv_explore.proofs.Finding.{left-next, left-none, reported-next, reported-none, reported-start, reported_left}
+use Rattle.pv_explore.proofs.Followed.{at-after, found-none, found-witness, number-at}
 use Rattle.pv_listing.proofs.Rests.{LeavesRest, rest_after, rest_begins, written_text}
 use Rattle.pv_model.specs.Bytes.{Bytes}
 use Rattle.pv_model.specs.Grammar.Programs.{program_of}
-use Rattle.pv_streams.specs.Sinks.{and_all, TellsBeginning}
-use Rattle.pv_streams.proofs.Telling.{on_err}
+use Rattle.pv_streams.specs.Sinks.{and_all, WritesPrefix}
+use Rattle.pv_streams.proofs.Reporting.{on_err}
 use Rattle.pv_explore.proofs.search.Search.search.Goals as goal
 
-pub returns-in_err-make_moves-clause-beginning : goal.returns-in_err-make_moves-clause-beginning
-returns-in_err-make_moves-clause-beginning g c =
+pub returns-in_err-make_moves-clause-prefix : goal.returns-in_err-make_moves-clause-prefix
+returns-in_err-make_moves-clause-prefix g c =
     let limit = c.args.limit in
-    let s = c.args.beginning.now in
-    let kept = kept_of c.loop-number.self in
-    let way = way_at kept c.loop-number.number in
-    let at = found-way c.args.beginning.now kept c.loop-number.number c.loop-number.invariant.at (rw c.len-found.ensures at c.if-number-found.false) in
-    let is = told-next limit s c.loop-number.number kept (kept_after_steps limit program_of s way (live_at program_of s way) kept) way c.loop-number-test.true at refl in
+    let s = c.args.first_machine.now in
+    let visited = visited_of c.loop-number.self in
+    let witness = witness_at visited c.loop-number.number in
+    let at = found-witness c.args.first_machine.now visited c.loop-number.number c.loop-number.invariant.at (rw c.len-found.ensures at c.if-number-found.false) in
+    let is = reported-next limit s c.loop-number.number visited (visited_after_steps limit program_of s witness (live_at program_of s witness) visited) witness c.loop-number-test.true at refl in
     on_err c.from_residual-in_err-make_moves.result
-    (subst (λ (bs : Bytes). TellsBeginning bs (g.W.Sink.written c.args.out.now) (g.W.Sink.written c.make_moves.new.out)) (told-start limit s (kept_of c.args.self.now))
-    (rest_begins _ _ _ _ _ _ _ c.loop-number.invariant.left is c.in_err-make_moves.ensures.beginning))
+    (subst (λ (bs : Bytes). WritesPrefix bs (g.W.Sink.written c.args.out.now) (g.W.Sink.written c.make_moves.new.out)) (reported-start limit s (visited_of c.args.self.now))
+    (rest_begins _ _ _ _ _ _ _ c.loop-number.invariant.left is c.in_err-make_moves.ensures.prefix))
 
 pub make_moves-requires-clause-there : goal.make_moves-requires-clause-there
 make_moves-requires-clause-there g c =
-    let kept = kept_of c.loop-number.self in
-    let way = way_at kept c.loop-number.number in
-    let at = found-way c.args.beginning.now kept c.loop-number.number c.loop-number.invariant.at (rw c.len-found.ensures at c.if-number-found.false) in
-    number-at c.args.beginning.now kept c.loop-number.number way c.loop-number.invariant.at at
+    let visited = visited_of c.loop-number.self in
+    let witness = witness_at visited c.loop-number.number in
+    let at = found-witness c.args.first_machine.now visited c.loop-number.number c.loop-number.invariant.at (rw c.len-found.ensures at c.if-number-found.false) in
+    number-at c.args.first_machine.now visited c.loop-number.number witness c.loop-number.invariant.at at
 
 pub loop-number-preserved : goal.loop-number-preserved
 loop-number-preserved g c =
     let limit = c.args.limit in
-    let s = c.args.beginning.now in
-    let kept = kept_of c.loop-number.self in
-    let after : Kept = record (kept_of c.make_moves.new.self) { keys = c.let_go.new.self } in
-    let is = ap (λ (keys : List Bytes). record (kept_of c.make_moves.new.self) { keys = keys }) c.let_go.ensures ∙ c.in_ok-make_moves.ensures.kept in
-    let way = way_at kept c.loop-number.number in
-    let at = found-way c.args.beginning.now kept c.loop-number.number c.loop-number.invariant.at (rw c.len-found.ensures at c.if-number-found.false) in
+    let s = c.args.first_machine.now in
+    let visited = visited_of c.loop-number.self in
+    let after : Visited = record (visited_of c.make_moves.new.self) { keys = c.unreference.new.self } in
+    let is = ap (λ (keys : List Bytes). record (visited_of c.make_moves.new.self) { keys = keys }) c.unreference.ensures ∙ c.in_ok-make_moves.ensures.visited in
+    let witness = witness_at visited c.loop-number.number in
+    let at = found-witness c.args.first_machine.now visited c.loop-number.number c.loop-number.invariant.at (rw c.len-found.ensures at c.if-number-found.false) in
     record {
-      left = rest_after _ _ _ _ _ _ _ c.loop-number.invariant.left (told-next limit s c.loop-number.number kept after way c.loop-number-test.true at is) c.in_ok-make_moves.ensures.whole;
-      kept = left-next limit s c.loop-number.number kept after way c.loop-number-test.true at is ∙ c.loop-number.invariant.kept;
-      at = at-after s limit way (live_at program_of s way) kept after c.loop-number.invariant.at is;
+      left = rest_after _ _ _ _ _ _ _ c.loop-number.invariant.left (reported-next limit s c.loop-number.number visited after witness c.loop-number-test.true at is) c.in_ok-make_moves.ensures.whole;
+      visited = left-next limit s c.loop-number.number visited after witness c.loop-number-test.true at is ∙ c.loop-number.invariant.visited;
+      at = at-after s limit witness (live_at program_of s witness) visited after c.loop-number.invariant.at is;
       quiet = c.in_ok-make_moves.ensures.quiet ∙ c.loop-number.invariant.quiet;
     }
 
-pub returns-then-number-found-clause-kept : goal.returns-then-number-found-clause-kept
-returns-then-number-found-clause-kept g c =
+pub returns-then-number-found-clause-visited : goal.returns-then-number-found-clause-visited
+returns-then-number-found-clause-visited g c =
     let limit = c.args.limit in
-    let s = c.args.beginning.now in
-    let kept = kept_of c.loop-number.self in
-    let none = found-none s kept c.loop-number.number c.loop-number.invariant.at (rw c.len-found.ensures at c.if-number-found.true) in
+    let s = c.args.first_machine.now in
+    let visited = visited_of c.loop-number.self in
+    let none = found-none s visited c.loop-number.number c.loop-number.invariant.at (rw c.len-found.ensures at c.if-number-found.true) in
     let all : limit - 0 ≡ limit = omega arith in
-    left-none limit s c.loop-number.number kept c.loop-number-test.true none ∙ c.loop-number.invariant.kept ∙ ap (λ k. kept_from c.args.limit program_of c.args.beginning.now k 0 (kept_of c.args.self.now)) all
+    left-none limit s c.loop-number.number visited c.loop-number-test.true none ∙ c.loop-number.invariant.visited ∙ ap (λ k. visited_from c.args.limit program_of c.args.first_machine.now k 0 (visited_of c.args.self.now)) all
 
 pub returns-then-number-found-clause-whole : goal.returns-then-number-found-clause-whole
 returns-then-number-found-clause-whole g c =
     let limit = c.args.limit in
-    let s = c.args.beginning.now in
-    let kept = kept_of c.loop-number.self in
-    let none = found-none s kept c.loop-number.number c.loop-number.invariant.at (rw c.len-found.ensures at c.if-number-found.true) in
-    let is = told-none limit s c.loop-number.number kept c.loop-number-test.true none in
-    written_text _ _ _ (subst (λ (rest : Bytes). LeavesRest rest (told_left c.args.limit c.args.beginning.now 0 (kept_of c.args.self.now)) (g.W.Sink.written c.args.out.now) (g.W.Sink.written c.loop-number.out)) is c.loop-number.invariant.left)
-    ∙ ap (and_all (g.W.Sink.written c.args.out.now)) (told-start limit s (kept_of c.args.self.now))
+    let s = c.args.first_machine.now in
+    let visited = visited_of c.loop-number.self in
+    let none = found-none s visited c.loop-number.number c.loop-number.invariant.at (rw c.len-found.ensures at c.if-number-found.true) in
+    let is = reported-none limit s c.loop-number.number visited c.loop-number-test.true none in
+    written_text _ _ _ (subst (λ (rest : Bytes). LeavesRest rest (reported_left c.args.limit c.args.first_machine.now 0 (visited_of c.args.self.now)) (g.W.Sink.written c.args.out.now) (g.W.Sink.written c.loop-number.out)) is c.loop-number.invariant.left)
+    ∙ ap (and_all (g.W.Sink.written c.args.out.now)) (reported-start limit s (visited_of c.args.self.now))

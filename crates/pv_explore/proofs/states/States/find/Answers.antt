@@ -3,7 +3,7 @@ use Rattle.std.specs.Prelude.{position}
 use Rattle.pv_explore.specs.Rows.{state_row}
 use Rattle.pv_explore.proofs.Rows.{position-row}
 use Rattle.pv_model.specs.Bytes.{Bytes}
-use Rattle.pv_spelling.specs.Groups.{joined}
+use Rattle.pv_state_encoding.specs.Groups.{joined}
 use Rattle.pv_explore.proofs.states.States.find.Goals as goal
 
 pub returns : goal.returns

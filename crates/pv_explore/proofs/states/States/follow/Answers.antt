@@ -1,18 +1,18 @@
 use Rattle.std.proofs.Common.{◌∙◌, ap, IfSome, List, map, Option, subst, sym}
 use Rattle.std.specs.Global.{Vec}
-use Rattle.pv_explore.specs.KeptStates.{HasNumber, IsFoundIn, IsRecalled}
+use Rattle.pv_explore.specs.VisitedStates.{HasNumber, IsFoundIn, IsRecalled}
 use Rattle.pv_explore.specs.Plan.{state_key}
 use Rattle.pv_explore.specs.Rows.{state_bytes}
-use Rattle.pv_explore.proofs.KeptStates.{fine-placed, found-bytes, recalled-at, some-live}
-use Rattle.pv_kept_steps.specs.declared.cells.Cell.{Cell}
-use Rattle.pv_kept_steps.specs.declared.steps.Recalled.{Recalled}
-use Rattle.pv_kept_steps.specs.Edits.{number_of_cell}
-use Rattle.pv_laws_runs.proofs.Ranges.{program_of-spells}
+use Rattle.pv_explore.proofs.VisitedStates.{fine-placed, found-bytes, recalled-at, some-live}
+use Rattle.pv_step_cache.specs.declared.cells.Cell.{Cell}
+use Rattle.pv_step_cache.specs.declared.steps.Recalled.{Recalled}
+use Rattle.pv_step_cache.specs.Edits.{number_of_cell}
+use Rattle.pv_laws_runs.proofs.Ranges.{program_of-encodes}
 use Rattle.pv_laws_states.proofs.BySteps.{step-keeps_whole}
 use Rattle.pv_model.specs.Bytes.{Bytes}
 use Rattle.pv_model.specs.Grammar.Programs.{program_of}
 use Rattle.pv_session.specs.Running.{stepped}
-use Rattle.pv_spelling.specs.Packed.{packed_all}
+use Rattle.pv_state_encoding.specs.Packed.{packed_all}
 use Rattle.pv_explore.proofs.states.States.follow.Goals as goal
 
 pub invariant_of-self : goal.invariant_of-self
@@ -71,6 +71,6 @@ returns c = λ t whole number.
     let found = found-bytes parts groups rows cells steps c.self.invariant u cs again.cells_are c.in_ok-row.row.items row_is c.args.limit c.place.new.rows c.in_ok-found.found c.in_ok-found.ensures.found in
     record {
       text_is = again.text_is;
-      live = some-live parts groups u cs.items again.cells_are (step-keeps_whole program_of program_of-spells t pid whole) recalled.live;
+      live = some-live parts groups u cs.items again.cells_are (step-keeps_whole program_of program_of-encodes t pid whole) recalled.live;
       found_is = subst (λ (keys : List Bytes). IsFoundIn c.args.limit keys (map (state_bytes parts groups) c.place.new.rows) (state_key u) c.in_ok-found.found) c.self.view_is found;
     }

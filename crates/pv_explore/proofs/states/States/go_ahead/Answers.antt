@@ -1,14 +1,14 @@
 use Rattle.std.proofs.Common.{◌∙◌}
-use Rattle.pv_explore.proofs.KeptStates.{cells-of_groups, fine-grew, fine-steps}
+use Rattle.pv_explore.proofs.VisitedStates.{cells-of_groups, fine-grew, fine-steps}
 use Rattle.pv_explore.proofs.Rows.{rows-grew, states-grew}
-use Rattle.pv_spelling.specs.Spelled.{spelled_all}
+use Rattle.pv_state_encoding.specs.Encoded.{encoded_all}
 use Rattle.pv_explore.proofs.states.States.go_ahead.Goals as goal
 
 pub invariant_of-self : goal.invariant_of-self
 invariant_of-self c = fine-grew c.self.inside.parts c.self.inside.groups c.learn_cells.new.parts c.learn_cells.new.groups c.learn_cells.ensures.parts_grew c.learn_cells.ensures.groups_grew c.self.inside.rows c.self.inside.cells.items c.self.inside.steps.steps.items c.self.invariant
 
 pub make_ahead-requires-clause-cells : goal.make_ahead-requires-clause-cells
-make_ahead-requires-clause-cells c = cells-of_groups c.learn_cells.new.parts c.learn_cells.new.groups c.args.position (spelled_all c.args.groups.now) c.in_ok-cells.cells.items c.in_ok-cells.ensures.cells c.requires
+make_ahead-requires-clause-cells c = cells-of_groups c.learn_cells.new.parts c.learn_cells.new.groups c.args.position (encoded_all c.args.groups.now) c.in_ok-cells.cells.items c.in_ok-cells.ensures.cells c.requires
 
 pub make_ahead-requires-clause-steps : goal.make_ahead-requires-clause-steps
 make_ahead-requires-clause-steps c = (fine-grew c.self.inside.parts c.self.inside.groups c.learn_cells.new.parts c.learn_cells.new.groups c.learn_cells.ensures.parts_grew c.learn_cells.ensures.groups_grew c.self.inside.rows c.self.inside.cells.items c.self.inside.steps.steps.items c.self.invariant).steps_are

@@ -1,12 +1,12 @@
 use Rattle.std.proofs.Common.{◌∙◌, List, subst, sym}
 use Rattle.std.specs.Global.{Vec}
-use Rattle.pv_explore.specs.KeptStates.{AreCellsOf, HasNumber, MayKeep}
-use Rattle.pv_explore.proofs.KeptStates.{cells-of_groups, fine-grew, fine-kept}
+use Rattle.pv_explore.specs.VisitedStates.{AreCellsOf, HasNumber, MayKeep}
+use Rattle.pv_explore.proofs.VisitedStates.{cells-of_groups, fine-grew, fine-visited}
 use Rattle.pv_explore.proofs.Rows.{states-grew}
-use Rattle.pv_kept_steps.specs.declared.cells.Cell.{Cell}
+use Rattle.pv_step_cache.specs.declared.cells.Cell.{Cell}
 use Rattle.pv_model.specs.Bytes.{Bytes}
 use Rattle.pv_session.specs.Running.{stepped}
-use Rattle.pv_spelling.specs.Spelled.{spelled_all}
+use Rattle.pv_state_encoding.specs.Encoded.{encoded_all}
 use Rattle.pv_explore.proofs.states.States.keep_step.Goals as goal
 
 pub invariant_of-self : goal.invariant_of-self
@@ -25,9 +25,9 @@ invariant_of-self-in_err-keep_made c =
     let there = subst (λ (keys : List Bytes). HasNumber keys c.args.number t) (sym same) c.requires.number_is in
     let left =
     subst (AreCellsOf parts groups (stepped t c.args.pid).after) (sym c.deref-2.ensures.value)
-    (cells-of_groups parts groups (stepped t c.args.pid).after (spelled_all c.args.after.now) c.in_ok-cells.cells.items c.in_ok-cells.ensures.cells c.requires.after_is) in
+    (cells-of_groups parts groups (stepped t c.args.pid).after (encoded_all c.args.after.now) c.in_ok-cells.cells.items c.in_ok-cells.ensures.cells c.requires.after_is) in
     let made = subst (λ (all : List (Vec Cell)). MayKeep all c.args.number c.args.pid c.deref-2.result.now c.args.text.now steps c.keep_made.new.steps.steps.items) c.deref.ensures.value c.keep_made.ensures in
-    fine-kept parts groups rows cells steps fine c.args.number c.args.pid t c.deref-2.result.now c.args.text.now c.keep_made.new.steps.steps.items c.requires.whole there left c.requires.text_is made
+    fine-visited parts groups rows cells steps fine c.args.number c.args.pid t c.deref-2.result.now c.args.text.now c.keep_made.new.steps.steps.items c.requires.whole there left c.requires.text_is made
 
 pub invariant_of-self-2 : goal.invariant_of-self-2
 invariant_of-self-2 c =
@@ -42,9 +42,9 @@ invariant_of-self-2 c =
     let there = subst (λ (keys : List Bytes). HasNumber keys c.args.number t) (sym same) c.requires.number_is in
     let left =
     subst (AreCellsOf parts groups (stepped t c.args.pid).after) (sym c.deref-2.ensures.value)
-    (cells-of_groups parts groups (stepped t c.args.pid).after (spelled_all c.args.after.now) c.in_ok-cells.cells.items c.in_ok-cells.ensures.cells c.requires.after_is) in
+    (cells-of_groups parts groups (stepped t c.args.pid).after (encoded_all c.args.after.now) c.in_ok-cells.cells.items c.in_ok-cells.ensures.cells c.requires.after_is) in
     let made = subst (λ (all : List (Vec Cell)). MayKeep all c.args.number c.args.pid c.deref-2.result.now c.args.text.now steps c.keep_made.new.steps.steps.items) c.deref.ensures.value c.keep_made.ensures in
-    fine-kept parts groups rows cells steps fine c.args.number c.args.pid t c.deref-2.result.now c.args.text.now c.keep_made.new.steps.steps.items c.requires.whole there left c.requires.text_is made
+    fine-visited parts groups rows cells steps fine c.args.number c.args.pid t c.deref-2.result.now c.args.text.now c.keep_made.new.steps.steps.items c.requires.whole there left c.requires.text_is made
 
 pub returns : goal.returns
 returns c = states-grew c.self.inside.parts c.self.inside.groups c.learn_cells.new.parts c.learn_cells.new.groups c.learn_cells.ensures.parts_grew c.learn_cells.ensures.groups_grew c.self.inside.rows c.self.invariant.rows_are ∙ c.self.view_is

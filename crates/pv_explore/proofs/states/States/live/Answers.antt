@@ -2,11 +2,11 @@ use Rattle.std.proofs.Common.{◌≡◌, ◌≢◌, ◌∙◌, ◌<◌, ap, subs
 use Rattle.std.proofs.lemmas.Bool.Decides.{nat_tests}
 use Rattle.std.proofs.lemmas.Option.{slice_get-get_or}
 use Rattle.std.specs.Global.{Vec}
-use Rattle.pv_explore.specs.KeptStates.{HasNumber, number_of}
-use Rattle.pv_explore.proofs.KeptStates.{cells-at}
-use Rattle.pv_kept_steps.specs.declared.cells.Cell.{Cell}
-use Rattle.pv_kept_steps.specs.Edits.{owners}
-use Rattle.pv_kept_steps.proofs.LiveOwners.{owners-are}
+use Rattle.pv_explore.specs.VisitedStates.{HasNumber, number_of}
+use Rattle.pv_explore.proofs.VisitedStates.{cells-at}
+use Rattle.pv_step_cache.specs.declared.cells.Cell.{Cell}
+use Rattle.pv_step_cache.specs.Edits.{owners}
+use Rattle.pv_step_cache.proofs.LiveOwners.{owners-are}
 use Rattle.pv_model.specs.Bytes.{Bytes}
 use Rattle.pv_explore.proofs.states.States.live.Goals as goal
 

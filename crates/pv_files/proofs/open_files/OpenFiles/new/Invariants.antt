@@ -3,7 +3,7 @@ use Rattle.slab.specs.Slab.{slab_len}
 use Rattle.pv_files.proofs.Keys.{AreFree}
 use Rattle.pv_files.proofs.open_files.OpenFiles.new.Given as goal
 
--- so many free records, and room for the others
+-- the free records so far, and capacity for the others
 abbrev pub invariant-loop-number : goal.invariant-loop-number
 invariant-loop-number l =
     AreFree l.records l.keys l.number × (length l.keys ≡ 128) × (slab_len l.records ≡ l.number) × (128 ≤ l.records.capacity)

@@ -2,7 +2,7 @@ use Rattle.std.proofs.Common.{◌≡◌, ◌≢◌, ◌<◌, Some, refl, ap, sym
 use Rattle.pv_model.specs.State.{OpenFile}
 use Rattle.pv_files.specs.declared.opened.Opened.{Opened}
 use Rattle.pv_files.specs.Slots.{file_of}
-use Rattle.pv_files.proofs.Keys.{open_below, open_recorded, users_open, used_open, file_open, users_fewer, used_still, used_before, files_closed, files_kept}
+use Rattle.pv_files.proofs.Keys.{open_below, open_recorded, users_open, used_open, file_open, users_fewer, used_still, used_before, files_closed, files_preserved}
 use Rattle.pv_files.proofs.open_files.OpenFiles.release.Goals as goal
 
 pub offset_bounds-self-inside-file : goal.offset_bounds-self-inside-file
@@ -33,7 +33,7 @@ pub returns-in_err-node-clause-stays : goal.returns-in_err-node-clause-stays
 returns-in_err-node-clause-stays c =
     let several : c.index_mut.result.now.users ≢ 1 = λ one. let some = c.in_err-node.ensures.last.1 one in cc in
     let more : 0 < c.take_user.new.self.users = omega (arith, ap (λ (o : Opened). o.users) c.take_user.ensures.taken, used_open c.self.inside.records c.self.inside.keys c.self.invariant.are_keys c.args.self.now c.self.view_is c.args.file c.requires c.index_mut.result.now c.index_mut.ensures.value, several) in
-    rw c.from_residual.ensures (files_kept c.self.inside.records c.self.inside.keys c.self.invariant.are_keys c.args.self.now c.self.view_is c.args.file c.requires c.index_mut.result.now c.index_mut.ensures.value c.take_user.new.self more (ap file_of c.take_user.ensures.taken))
+    rw c.from_residual.ensures (files_preserved c.self.inside.records c.self.inside.keys c.self.invariant.are_keys c.args.self.now c.self.view_is c.args.file c.requires c.index_mut.result.now c.index_mut.ensures.value c.take_user.new.self more (ap file_of c.take_user.ensures.taken))
 
 pub invariant_of-self-2 : goal.invariant_of-self-2
 invariant_of-self-2 c = rw c.min-self-inside.ensures (used_before c.self.inside.records c.self.inside.keys c.self.invariant.are_keys c.args.self.now c.self.view_is c.args.file c.requires c.index_mut.result.now c.index_mut.ensures.value c.self.inside.first c.self.invariant.used c.take_user.new.self)

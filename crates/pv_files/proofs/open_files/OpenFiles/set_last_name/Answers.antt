@@ -16,8 +16,8 @@ index_mut-requires c = open_recorded c.self.inside.records c.self.inside.keys c.
 
 pub returns : goal.returns
 returns c =
-    let told = λ (f : OpenFile). record f { listed = Some c.args.name } in
-    changed c.self.inside.records c.self.inside.keys c.self.invariant.are_keys c.args.self.now c.self.view_is c.args.file c.requires c.index_mut.result.now c.index_mut.ensures.value c.put_last_name.new.self told (ap file_of c.put_last_name.ensures) (ap (λ (o : Opened). o.users) c.put_last_name.ensures)
+    let reported = λ (f : OpenFile). record f { listed = Some c.args.name } in
+    changed c.self.inside.records c.self.inside.keys c.self.invariant.are_keys c.args.self.now c.self.view_is c.args.file c.requires c.index_mut.result.now c.index_mut.ensures.value c.put_last_name.new.self reported (ap file_of c.put_last_name.ensures) (ap (λ (o : Opened). o.users) c.put_last_name.ensures)
 
 pub invariant_of-self : goal.invariant_of-self
 invariant_of-self c =

@@ -1,6 +1,6 @@
 use Rattle.std.proofs.Common.{◌/◌, ℕ, List, Bor, length, map, ap, sym, ◌∙◌}
 use Rattle.std.specs.Prelude.{◌==◌, bytes_eq}
-use Rattle.pv_model.specs.Mount.{slots_of, stands_twice}
+use Rattle.pv_model.specs.Mount.{slots_of, appears_twice}
 use Rattle.pv_model.specs.Room.{entry_length}
 use Rattle.pv_image_mount.proofs.BadContents.{bad_slots_any, bad_slots_twice}
 use Rattle.pv_image_mount.proofs.SlotRows.{ascending_once, once_by_key}
@@ -32,7 +32,7 @@ returns-then-not-are_keys_shared c =
     let slots = slots_of v (length c.args.content.now / entry_length v) c.args.content.now in
     sym (bad_slots_twice v c.args.self.now.bytes.now slots (sym c.has_bad_slot.ensures ∙ c.if-has_bad_slot.false)
     ∙ once_by_key slots
-    (sym (ap (stands_twice ◌==◌) (c.as_mut_slice.ensures.value ∙ c.in_ok-keys.ensures)) ∙ sym c.are_keys_shared.ensures ∙ c.if-not-are_keys_shared.true))
+    (sym (ap (appears_twice ◌==◌) (c.as_mut_slice.ensures.value ∙ c.in_ok-keys.ensures)) ∙ sym c.are_keys_shared.ensures ∙ c.if-not-are_keys_shared.true))
 
 pub names-requires : goal.names-requires
 names-requires c = sym c.has_bad_slot.ensures ∙ c.if-has_bad_slot.false
@@ -41,7 +41,7 @@ pub returns : goal.returns
 returns c =
     let v = c.args.self.now.version in
     let slots = slots_of v (length c.args.content.now / entry_length v) c.args.content.now in
-    c.stands_twice.ensures
-    ∙ ap (λ (names : List (Bor (List ℕ))). stands_twice bytes_eq (map (λ (name : Bor (List ℕ)). name.now) names)) c.as_mut_slice-2.ensures.value
-    ∙ ap (stands_twice bytes_eq) c.in_ok-names.ensures
+    c.appears_twice.ensures
+    ∙ ap (λ (names : List (Bor (List ℕ))). appears_twice bytes_eq (map (λ (name : Bor (List ℕ)). name.now) names)) c.as_mut_slice-2.ensures.value
+    ∙ ap (appears_twice bytes_eq) c.in_ok-names.ensures
     ∙ sym (bad_slots_twice v c.args.self.now.bytes.now slots (sym c.has_bad_slot.ensures ∙ c.if-has_bad_slot.false))

@@ -6,7 +6,7 @@ use Rattle.pv_image_mount.specs.Rows.{pointed_row, pointer_row}
 use Rattle.pv_image_mount.proofs.Refusals.{IsLeft}
 use Rattle.pv_image_mount.proofs.image.Image.claim_pointed.Given as goal
 
--- the pointers in the index blocks from here on are left
+-- the pointers in the index blocks from here on remain
 abbrev pub invariant-loop-i : goal.invariant-loop-i
 invariant-loop-i l =
     let bytes = l.self.bytes.now in

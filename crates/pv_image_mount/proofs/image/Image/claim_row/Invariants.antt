@@ -5,7 +5,7 @@ use Rattle.pv_image_mount.specs.Rows.{pointer_row}
 use Rattle.pv_image_mount.proofs.Refusals.{IsLeft}
 use Rattle.pv_image_mount.proofs.image.Image.claim_row.Given as goal
 
--- the pointers from here on are left
+-- the pointers from here on remain
 abbrev pub invariant-loop-i : goal.invariant-loop-i
 invariant-loop-i l =
     let row = pointer_row l.count l.bytes in

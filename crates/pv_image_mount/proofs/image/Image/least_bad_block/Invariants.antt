@@ -3,7 +3,7 @@ use Rattle.pv_model.specs.Mount.{has_bad_block}
 use Rattle.pv_image_mount.specs.Claims.{HasUsedBefore}
 use Rattle.pv_image_mount.proofs.image.Image.least_bad_block.Given as goal
 
--- those passed are not at fault, and the set has their blocks
+-- the inodes so far are valid, and the set has their blocks
 abbrev pub invariant-loop-n : goal.invariant-loop-n
 invariant-loop-n l = record {
   passed : (m : ℕ) → 1 ≤ m → m < l.n → has_bad_block l.self.version l.self.bytes.now m ≡ false;

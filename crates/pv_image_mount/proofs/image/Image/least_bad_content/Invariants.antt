@@ -2,6 +2,6 @@ use Rattle.std.proofs.Common.{◌≡◌, ℕ, ◌<◌, ◌≤◌, false}
 use Rattle.pv_model.specs.Mount.{has_bad_content}
 use Rattle.pv_image_mount.proofs.image.Image.least_bad_content.Given as goal
 
--- those passed are not at fault
+-- the inodes so far are valid
 abbrev pub invariant-loop-n : goal.invariant-loop-n
 invariant-loop-n l = (m : ℕ) → 1 ≤ m → m < l.n → has_bad_content l.self.version l.self.bytes.now m ≡ false

@@ -2,6 +2,6 @@ use Rattle.std.proofs.Common.{◌≡◌, ℕ, ◌<◌, ◌≤◌, false}
 use Rattle.pv_model.specs.Mount.{has_bad_place}
 use Rattle.pv_image_mount.proofs.image.Image.least_bad_place.Given as goal
 
--- those passed are not at fault
+-- the inodes so far are valid
 abbrev pub invariant-loop-n : goal.invariant-loop-n
 invariant-loop-n l = (m : ℕ) → 1 ≤ m → m < l.n → has_bad_place l.self.version l.self.bytes.now m ≡ false

@@ -49,13 +49,13 @@ loop-n-preserved c =
     let listed : c.as_slice.result.now ≡ targets_of v bytes n = c.as_slice.ensures.value ∙ c.in_ok-targets.ensures in
     let long : length new ≡ length old = c.add_counts.auto.counts ∙ ap length c.as_mut_slice.ensures.value in
     let whole = c.loop-n.counts.ok.0 in
-    let kept : take c.loop-n.counts.len (new ++ drop (length new) old) ≡ new =
+    let preserved : take c.loop-n.counts.len (new ++ drop (length new) old) ≡ new =
     ap (λ l. take c.loop-n.counts.len (new ++ l)) (drop_all (length new) old (omega (arith, long)))
     ∙ ap (take c.loop-n.counts.len) (append-nil new)
     ∙ take_all c.loop-n.counts.len new (omega (arith, long, whole)) in
     let counted : AreCounted old (targets_of v bytes n) new =
     subst (λ l. AreCounted l (targets_of v bytes n) new) c.as_mut_slice.ensures.value (subst (λ l. AreCounted c.as_mut_slice.result.now l new) listed c.add_counts.ensures) in
-    subst (λ l. HasNameCounts v bytes l (n + 1)) (sym kept)
+    subst (λ l. HasNameCounts v bytes l (n + 1)) (sym preserved)
     (counts_more v bytes old new n c.loop-n.auto.n c.loop-n.invariant (few_targets v bytes n (c.requires.inodes n c.loop-n.auto.n high)) long counted)
 
 pub returns-clause-counts : goal.returns-clause-counts

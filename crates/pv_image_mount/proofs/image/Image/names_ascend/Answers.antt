@@ -37,9 +37,9 @@ returns-then-not-is_before c =
       λ never. absurd cc,
       λ all.
           let here : is_lt (slice_cmp nat_cmp (slot_name (slot_at v content (i - 1))) (slot_name (slot_at v content i))) ≡ true = all i less c.loop-i.auto.i in
-          let told = answer v content (i - 1) i c.slot.result.now c.slot-in-loop-i.result.now c.slot_name-before.result.now c.slot_name.result.now
+          let reported = answer v content (i - 1) i c.slot.result.now c.slot-in-loop-i.result.now c.slot_name-before.result.now c.slot_name.result.now
           c.slot.ensures.bytes c.slot-in-loop-i.ensures.bytes c.slot_name-before.ensures c.slot_name.ensures in
-          sym c.if-not-is_before.true ∙ c.is_before.ensures ∙ told ∙ here,
+          sym c.if-not-is_before.true ∙ c.is_before.ensures ∙ reported ∙ here,
     )
 
 pub loop-i-preserved : goal.loop-i-preserved
@@ -49,6 +49,6 @@ loop-i-preserved c =
     let i = c.loop-i.i in
     below_more (λ k. 1 ≤ k → is_lt (slice_cmp nat_cmp (slot_name (slot_at v content (k - 1))) (slot_name (slot_at v content k))) ≡ true) i c.loop-i.invariant
     (λ low.
-    let told = answer v content (i - 1) i c.slot.result.now c.slot-in-loop-i.result.now c.slot_name-before.result.now c.slot_name.result.now
+    let reported = answer v content (i - 1) i c.slot.result.now c.slot-in-loop-i.result.now c.slot_name-before.result.now c.slot_name.result.now
     c.slot.ensures.bytes c.slot-in-loop-i.ensures.bytes c.slot_name-before.ensures c.slot_name.ensures in
-    sym told ∙ sym c.is_before.ensures ∙ c.if-not-is_before.false)
+    sym reported ∙ sym c.is_before.ensures ∙ c.if-not-is_before.false)

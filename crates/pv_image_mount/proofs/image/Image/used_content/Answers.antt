@@ -21,8 +21,8 @@ loop-k-preserved c =
     let bytes = c.args.self.now.bytes.now in
     let count = block_count v bytes c.args.n in
     let list = c.loop-k.list.items in
-    let told : c.block_count-count.result ≡ count = c.block_count-count.ensures in
-    let left : c.saturating_sub-left.result ≡ count - length list = omega (arith, c.saturating_sub-left.ensures, c.len.ensures, c.loop-k.list.ok.0, told) in
+    let reported : c.block_count-count.result ≡ count = c.block_count-count.ensures in
+    let left : c.saturating_sub-left.result ≡ count - length list = omega (arith, c.saturating_sub-left.ensures, c.len.ensures, c.loop-k.list.ok.0, reported) in
     c.in_ok-add_pointers-2.ensures
     ∙ ap (λ m. list ++ pointer_row m c.block.result.now) (c.min-in-loop-k.ensures ∙ ap (λ m. min m 256) left)
     ∙ ap (λ b. list ++ pointer_row (min (count - length list) 256) b) c.block.ensures.bytes

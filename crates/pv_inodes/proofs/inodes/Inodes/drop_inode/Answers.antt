@@ -20,11 +20,11 @@ known c = in_use c.self.inside.version _ _ _ _ _ c.self.invariant.0 c.self.view_
 pub set_kind-requires : goal.set_kind-requires
 set_kind-requires c = (known (goal.at.set_kind-requires c).After-slot-slot).home_within
 
--- no byte is left
+-- no bytes remain
 empty : (c : After-slot-slot) → size_at c.self.inside.version c.self.inside.blocks.blocks c.slot-slot.result ≡ 0
 empty c = (known c).size ∙ ap length (bytes_at-left _ _ _ _ c.requires c.shrink.ensures) ∙ length-resize _ _
 
--- the store has the inode's kind cleared
+-- the kind field of the inode is cleared
 dropped : (c : After-set_kind) → c.set_kind.new.blocks ≡ rekinded c.self.inside.version c.self.inside.blocks c.slot-slot.result 0
 unfolding rekinded
 dropped c = c.set_kind.ensures

@@ -7,7 +7,7 @@ use Rattle.pv_inodes.proofs.Layouts.{first_data-is}
 use Rattle.pv_inodes.proofs.inodes.Inodes.empty.Goals as goal
 use Rattle.pv_inodes.proofs.inodes.Inodes.empty.Goals.{After-of_bytes}
 
--- the store is one over zeros
+-- the store consists of zeros
 over_zeros : (c : After-of_bytes) → IsEmptyStore c.args.version c.of_bytes.result c.args.zeros.items c.new.result c.args.inodes c.args.blocks
 over_zeros c =
     let count : c.args.zeros.len / 512 ≡ c.args.blocks = omega (arith, c.requires.whole) in

@@ -14,7 +14,7 @@ use Rattle.pv_inodes.proofs.inodes.Inodes.free_slot.Goals.{Then-kind_of-eq-FREE}
 pub kind_of-requires : goal.kind_of-requires
 kind_of-requires c = home_within c.self.inside.version _ _ _ c.self.invariant.0 c.loop-slot-test.true
 
--- the inode is the least that is free
+-- the inode is the least free one
 found : (c : Then-kind_of-eq-FREE) → new_number c.args.self.now ≡ suc c.loop-slot.slot
 found c =
     let unused : kind_at c.self.inside.version c.self.inside.blocks.blocks c.loop-slot.slot ≡ 0 = sym c.kind_of.ensures ∙ c.if-kind_of-eq-FREE.true in

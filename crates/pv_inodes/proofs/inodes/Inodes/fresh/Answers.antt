@@ -10,7 +10,7 @@ use Rattle.pv_inodes.proofs.Reading.{node_none, length-files_of}
 use Rattle.pv_inodes.proofs.inodes.Inodes.fresh.Goals as goal
 use Rattle.pv_inodes.proofs.inodes.Inodes.fresh.Goals.{In_ok-slot, After-set_kind}
 
--- the inode is one of those that there are, and is free
+-- the inode is within the table, and free
 below : (c : In_ok-slot) → c.in_ok-slot.slot < c.self.inside.inodes
 below c = omega (arith, ap (λ (f : Files). length f.nodes) c.self.view_is, length-files_of c.self.inside.version c.self.inside.blocks c.self.inside.inodes, c.in_ok-slot.ensures.within)
 
@@ -31,7 +31,7 @@ set_kind-requires c =
 pub overflow_add-result : goal.overflow_add-result
 overflow_add-result c = omega (arith, below (goal.at.overflow_add-result c).In_ok-slot)
 
--- the store has the inode's length and kind written
+-- the length and the kind field of the inode are written
 made : (c : After-set_kind) → c.set_kind.new.blocks ≡ rekinded c.self.inside.version (resized c.self.inside.version c.self.inside.blocks c.in_ok-slot.slot 0) c.in_ok-slot.slot c.number_of.result
 unfolding rekinded resized
 made c = c.set_kind.ensures ∙ ap (λ (st : BlockStore). record st { blocks = with_kind c.self.inside.version st.blocks c.in_ok-slot.slot c.number_of.result }) c.set_size.ensures

@@ -3,7 +3,7 @@ use Rattle.pv_model.specs.Effect.{resize}
 use Rattle.pv_inodes.specs.Files.{bytes_at, with_bytes}
 use Rattle.pv_inodes.proofs.inodes.Inodes.grow.Given as goal
 
--- the content has the length so far
+-- the contents have the length so far
 abbrev pub invariant-loop-length : goal.invariant-loop-length
 invariant-loop-length l = record {
   longer : length (bytes_at l.initial.self l.inode) ≤ l.length;

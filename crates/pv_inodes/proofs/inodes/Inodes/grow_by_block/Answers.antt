@@ -18,7 +18,7 @@ size_of-requires c = (known (goal.at.size_of-requires c).After-slot-slot).home_w
 pub room-owned-requires : goal.room-owned-requires
 room-owned-requires c = let k = known (goal.at.room-owned-requires c).After-slot-slot in omega (arith, c.size_of.ensures, k.allowed, greatest_length-most c.self.inside.version)
 
--- one block more is needed
+-- one more block is needed
 owned_is : (c : After-room-owned) → c.room-owned.result ≡ wanted (length (bytes_at c.args.self.now c.args.inode))
 owned_is c = c.room-owned.ensures ∙ ap wanted (c.size_of.ensures ∙ (known (goal.at.After-room-owned c).After-slot-slot).size)
 
@@ -41,7 +41,7 @@ push_block-block-requires-clause-owned c =
     let k = known (goal.at.push_block-block-requires-clause-owned c).After-slot-slot in
     omega (arith, owned_is (goal.at.push_block-block-requires-clause-owned c).After-room-owned, more (goal.at.push_block-block-requires-clause-owned c).After-slot-slot, wanted-most c.self.inside.version c.args.size (rw k.same_version at c.requires.allowed))
 
--- an index block before the block is owned already
+-- an index block before the block is already owned
 pub push_block-block-requires-clause-index : goal.push_block-block-requires-clause-index
 push_block-block-requires-clause-index c following =
     let k = known (goal.at.push_block-block-requires-clause-index c).After-slot-slot in

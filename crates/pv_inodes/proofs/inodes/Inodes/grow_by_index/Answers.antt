@@ -22,7 +22,7 @@ room-owned-requires c = let k = known (goal.at.room-owned-requires c).After-slot
 owned_is : (c : After-room-owned) → c.room-owned.result ≡ wanted (length (bytes_at c.args.self.now c.args.inode))
 owned_is c = c.room-owned.ensures ∙ ap wanted (c.size_of.ensures ∙ (known (goal.at.After-room-owned c).After-slot-slot).size)
 
--- two blocks more are needed
+-- two more blocks are needed
 more : (c : After-room-owned) → wanted c.args.size ≡ c.room-owned.result + 2
 more c = omega (arith, owned_is c, wanted_next (length (bytes_at c.args.self.now c.args.inode)) c.args.size c.requires.full c.requires.longer c.requires.within, c.requires.next)
 
@@ -54,7 +54,7 @@ push_block-index-requires-clause-home c = (known (goal.at.push_block-index-requi
 pub push_block-index-requires-clause-owned : goal.push_block-index-requires-clause-owned
 push_block-index-requires-clause-owned c = omega (arith, within_row (goal.at.push_block-index-requires-clause-owned c).After-room-owned)
 
--- an index block before that is owned already
+-- an index block before the new one is already owned
 pub push_block-index-requires-clause-index : goal.push_block-index-requires-clause-index
 push_block-index-requires-clause-index c following =
     let k = known (goal.at.push_block-index-requires-clause-index c).After-slot-slot in

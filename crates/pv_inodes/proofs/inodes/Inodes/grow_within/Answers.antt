@@ -23,7 +23,7 @@ overflow_cast-old c = let k = known (goal.at.overflow_cast-old c).After-slot-slo
 pub content_block-last-requires-clause-block : goal.content_block-last-requires-clause-block
 content_block-last-requires-clause-block c = (known (goal.at.content_block-last-requires-clause-block c).After-slot-slot).home_within
 
--- the block in which the content ends is one that the inode owns
+-- the block in which the contents end is one that the inode owns
 place_is : (c : After-size_of-old) → place_of (c.size_of-old.result / 512) ≡ place_of (size_at c.self.inside.version c.self.inside.blocks.blocks c.slot-slot.result / 512)
 place_is c = ap (λ n. place_of (n / 512)) c.size_of-old.ensures
 

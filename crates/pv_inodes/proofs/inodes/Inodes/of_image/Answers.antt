@@ -8,7 +8,7 @@ use Rattle.pv_inodes.proofs.Mounting.{over_none, home_over, size_over, most_over
 use Rattle.pv_inodes.proofs.inodes.Inodes.of_image.Goals as goal
 use Rattle.pv_inodes.proofs.inodes.Inodes.of_image.Goals.{In-loop-i}
 
--- none of the blocks of the bytes is in use at first
+-- at first, none of the blocks is in use
 pub loop-slot-init : goal.loop-slot-init
 loop-slot-init c =
     let first : c.div_ceil.result + 1 ≡ first_data c.args.version c.args.inodes = omega (arith, rw c.layout.ensures.inode_length at c.div_ceil.ensures, first_data-is c.args.version c.args.inodes) in
@@ -25,7 +25,7 @@ owned_count-i-end-requires-clause-allowed c = size_over _ _ _ _ _ _ _ c.loop-slo
 pub owned_by-block-requires-clause-block : goal.owned_by-block-requires-clause-block
 owned_by-block-requires-clause-block c = home_over _ _ _ _ _ _ _ c.loop-i.invariant c.loop-slot-test.true
 
--- the next block of the row is one that the inode owns
+-- the next block of the sequence is one that the inode owns
 more : (c : In-loop-i) → c.loop-i.i < c.owned_count-i-end.result → c.loop-i.i < owned_count c.args.version c.loop-i.blocks.blocks c.loop-slot.slot
 more c less =
     let same = ap (λ (bs : List Bytes). owned_count c.args.version bs c.loop-slot.slot) (c.loop-slot.invariant.blocks ∙ sym c.loop-i.invariant.blocks) in

@@ -6,6 +6,6 @@ use Rattle.pv_inodes.proofs.inodes.Inodes.of_image.Given as goal
 abbrev pub invariant-loop-slot : goal.invariant-loop-slot
 invariant-loop-slot l = IsOver l.version l.fn.bytes.items (vec_len l.fn.bytes / 512) l.inodes l.blocks l.slot 0
 
--- and so many of those of this one
+-- and the first i of this one
 abbrev pub invariant-loop-i : goal.invariant-loop-i
 invariant-loop-i l = IsOver l.version l.fn.bytes.items (vec_len l.fn.bytes / 512) l.inodes l.blocks l.slot l.i

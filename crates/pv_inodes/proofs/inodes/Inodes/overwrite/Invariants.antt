@@ -3,7 +3,7 @@ use Rattle.pv_model.specs.Effect.{overwrite}
 use Rattle.pv_inodes.specs.Files.{bytes_at, with_bytes}
 use Rattle.pv_inodes.proofs.inodes.Inodes.overwrite.Given as goal
 
--- the front of the bytes is written
+-- a prefix of the bytes is written
 abbrev pub invariant-loop-done : goal.invariant-loop-done
 invariant-loop-done l = record {
   within : l.done ≤ length l.bytes;

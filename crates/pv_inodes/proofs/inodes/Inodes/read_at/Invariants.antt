@@ -2,7 +2,7 @@ use Rattle.std.proofs.Common.{◌≡◌, ◌-◌, ◌≤◌, ◌++◌, take, dro
 use Rattle.pv_inodes.specs.Files.{bytes_at}
 use Rattle.pv_inodes.proofs.inodes.Inodes.read_at.Given as goal
 
--- the front of the buffer is read
+-- a prefix of the buffer is read
 abbrev pub invariant-loop-done : goal.invariant-loop-done
 invariant-loop-done l = record {
   within : l.done ≤ l.count;

@@ -20,10 +20,10 @@ size_of-requires c = (known (goal.at.size_of-requires c).After-slot-slot).home_w
 pub room-owned-requires : goal.room-owned-requires
 room-owned-requires c = let k = known (goal.at.room-owned-requires c).After-slot-slot in omega (arith, c.size_of.ensures, k.allowed, greatest_length-most c.self.inside.version)
 
-pub room-kept-requires : goal.room-kept-requires
-room-kept-requires c = let k = known (goal.at.room-kept-requires c).After-slot-slot in omega (arith, c.requires.shorter, k.size, k.allowed, greatest_length-most c.self.inside.version)
+pub room-preserved-requires : goal.room-preserved-requires
+room-preserved-requires c = let k = known (goal.at.room-preserved-requires c).After-slot-slot in omega (arith, c.requires.shorter, k.size, k.allowed, greatest_length-most c.self.inside.version)
 
--- at first all blocks are left
+-- at first, all blocks remain
 owned_is : (c : After-room-owned) → owned_count c.self.inside.version c.self.inside.blocks.blocks c.slot-slot.result ≡ c.room-owned.result
 owned_is c =
     let k = known (goal.at.After-room-owned c).After-slot-slot in
@@ -36,7 +36,7 @@ loop-owned-init c =
     let fewer = wanted-mono c.args.size (length (bytes_at c.args.self.now c.args.inode)) c.requires.shorter in
     let all = ap wanted k.size in
     record {
-      least = omega (arith, c.room-kept.ensures, owned, k.count, fewer, all);
+      least = omega (arith, c.room-preserved.ensures, owned, k.count, fewer, all);
       most = omega (arith, owned, k.few);
       inodes = refl;
       version = refl;
@@ -44,7 +44,7 @@ loop-owned-init c =
       reduced = rw owned at (reduced_none c.self.inside.version c.self.inside.blocks c.self.inside.inodes c.slot-slot.result c.self.invariant.0);
     }
 
--- one block more is left than will be
+-- one more block remains than at the end of the iteration
 left_so_far : (c : In-loop-owned) → Reduced c.self.inside.version c.self.inside.blocks c.loop-owned.self-inside.blocks c.self.inside.inodes c.slot-slot.result (suc (c.loop-owned.owned - 1))
 left_so_far c =
     let more : c.loop-owned.owned ≡ suc (c.loop-owned.owned - 1) = omega arith in
@@ -92,7 +92,7 @@ set_size-requires c = rw (c.loop-owned.invariant.version, c.loop-owned.invariant
 left : (c : After-set_size) → Leaves c.self.inside.version c.set_size.new.blocks c.self.inside.inodes c.args.self.now c.args.inode (resize (bytes_at c.args.self.now c.args.inode) c.args.size)
 left c =
     let k = known (goal.at.After-set_size c).After-slot-slot in
-    let all : c.loop-owned.owned ≡ wanted c.args.size = omega (arith, c.room-kept.ensures, c.loop-owned.invariant.least) in
+    let all : c.loop-owned.owned ≡ wanted c.args.size = omega (arith, c.room-preserved.ensures, c.loop-owned.invariant.least) in
     leaves_reduced c.self.inside.version _ _ _ _ _ _ c.slot-slot.result _ c.self.invariant.0 k c.requires.shorter (rw all at c.loop-owned.invariant.reduced) (rw c.loop-owned.invariant.version at c.set_size.ensures)
 
 pub invariant_of-self : goal.invariant_of-self

@@ -3,10 +3,10 @@ use Rattle.pv_inodes.specs.Layout.{most_owned}
 use Rattle.pv_inodes.proofs.Growth.{Reduced}
 use Rattle.pv_inodes.proofs.inodes.Inodes.shrink.Given as goal
 
--- all blocks but those so far are given back
+-- all blocks except the remaining ones are freed
 abbrev pub invariant-loop-owned : goal.invariant-loop-owned
 invariant-loop-owned l = record {
-  least : l.kept ≤ l.owned;
+  least : l.preserved ≤ l.owned;
   most : l.owned ≤ most_owned l.initial.self-inside.version;
   inodes : l.self-inside.inodes ≡ l.initial.self-inside.inodes;
   version : l.self-inside.version ≡ l.initial.self-inside.version;
@@ -15,4 +15,4 @@ invariant-loop-owned l = record {
 }
 
 abbrev pub decreases-loop-owned : goal.decreases-loop-owned
-decreases-loop-owned l = l.owned - l.kept
+decreases-loop-owned l = l.owned - l.preserved

@@ -8,7 +8,7 @@ use Rattle.pv_inodes.proofs.Edits.{used-with_bytes, bytes_at-with_bytes, lacks_r
 use Rattle.pv_inodes.proofs.inodes.Inodes.write_at.Goals as goal
 use Rattle.pv_inodes.proofs.inodes.Inodes.write_at.Goals.{After-max-length}
 
--- a byte is written
+-- at least one byte is written
 some : (c : After-max-length) → 0 < length c.args.bytes.now
 some c =
     let differs = eqb-false (length c.args.bytes.now) 0 (sym c.if-is_empty.ensures) in

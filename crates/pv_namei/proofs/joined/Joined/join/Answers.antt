@@ -2,20 +2,20 @@ use Rattle.std.proofs.Common.{◌≡◌, ◌++◌, length, ap, ◌∙◌, arith}
 use Rattle.std.proofs.lemmas.Result.{on_ok_weaker, on_err_weaker}
 use Rattle.pv_model.specs.Walk.{components, weight}
 use Rattle.pv_namei.specs.Components.{with_slashes}
-use Rattle.pv_namei.proofs.Spelling.{length-with_slashes, components-slash, weight-append, weight-components, components-joined}
+use Rattle.pv_namei.proofs.Encoding.{length-with_slashes, components-slash, weight-append, weight-components, components-joined}
 use Rattle.pv_namei.proofs.joined.Joined.join.Goals as goal
 use Rattle.pv_namei.proofs.joined.Joined.join.Goals.{After-push_components-2}
 
--- the text alone
-text_spelled : (c : After-push_components-2) → c.push_components.new.bytes.items ≡ with_slashes (components c.args.text.now)
-text_spelled c = c.in_ok-push_components.ensures.ok ∙ ap (λ bytes. bytes ++ with_slashes (components c.args.text.now)) c.clear.ensures
+-- the target alone
+text_encoded : (c : After-push_components-2) → c.push_components.new.bytes.items ≡ with_slashes (components c.args.text.now)
+text_encoded c = c.in_ok-push_components.ensures.ok ∙ ap (λ bytes. bytes ++ with_slashes (components c.args.text.now)) c.clear.ensures
 
 pub returns-clause-ok : goal.returns-clause-ok
 returns-clause-ok c =
     on_ok_weaker c.push_components-2.result
     (λ is.
     components-joined c.args.text.now c.as_slice-rest.result.now c.push_components-2.new.bytes.items
-    (is ∙ ap (λ bytes. bytes ++ with_slashes (components c.as_slice-rest.result.now)) (text_spelled c))
+    (is ∙ ap (λ bytes. bytes ++ with_slashes (components c.as_slice-rest.result.now)) (text_encoded c))
     ∙ ap (λ ps. components c.args.text.now ++ ps) c.as_slice-rest.ensures)
     c.push_components-2.ensures.ok
 
@@ -23,14 +23,14 @@ pub returns-clause-fits : goal.returns-clause-fits
 returns-clause-fits c =
     on_ok_weaker c.push_components-2.result
     (λ fits.
-    omega (arith, fits, c.in_ok-push_components.ensures.fits, ap length c.clear.ensures, weight-append (components c.args.text.now) c.args.rest.now, ap weight c.as_slice-rest.ensures, ap length (text_spelled c), length-with_slashes (components c.args.text.now)))
+    omega (arith, fits, c.in_ok-push_components.ensures.fits, ap length c.clear.ensures, weight-append (components c.args.text.now) c.args.rest.now, ap weight c.as_slice-rest.ensures, ap length (text_encoded c), length-with_slashes (components c.args.text.now)))
     c.push_components-2.ensures.fits
 
 pub returns-clause-too_long : goal.returns-clause-too_long
 returns-clause-too_long c =
     on_err_weaker c.push_components-2.result
     (λ long.
-    omega (arith, long, weight-append (components c.args.text.now) c.args.rest.now, ap weight c.as_slice-rest.ensures, ap length (text_spelled c), length-with_slashes (components c.args.text.now)))
+    omega (arith, long, weight-append (components c.args.text.now) c.args.rest.now, ap weight c.as_slice-rest.ensures, ap length (text_encoded c), length-with_slashes (components c.args.text.now)))
     c.push_components-2.ensures.too_long
 
 pub returns-then-rest-lt-HALF-clause-ok : goal.returns-then-rest-lt-HALF-clause-ok

@@ -3,7 +3,7 @@ use Rattle.pv_model.specs.Tree.{is_directory_at, find_entry}
 use Rattle.pv_namei.specs.Onward.{remaining}
 use Rattle.pv_namei.proofs.walk.WalkState.go.Given as goal
 
--- the walk so far led to a directory, from which the rest goes on
+-- the walk so far led to a directory, from which the rest continues
 abbrev pub invariant-loop-stop : goal.invariant-loop-stop
 invariant-loop-stop g l = record {
   onward : remaining l.tree.tree l.fn.self l.fn.rest ≡ remaining l.tree.tree l.self l.rest;

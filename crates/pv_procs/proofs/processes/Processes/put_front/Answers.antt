@@ -2,7 +2,7 @@ use Rattle.std.proofs.Common.{refl}
 use Rattle.pv_model.specs.Answer.{with_front}
 use Rattle.pv_procs.specs.Slots.{process_of, program_at}
 use Rattle.pv_procs.proofs.Finding.{found-at, live-slot, status-at}
-use Rattle.pv_procs.proofs.Keeping.{kept-set, roomy-set}
+use Rattle.pv_procs.proofs.Keeping.{preserved-set, roomy-set}
 use Rattle.pv_procs.proofs.Turning.{context-changed}
 use Rattle.pv_procs.proofs.processes.Processes.put_front.Goals as goal
 
@@ -22,7 +22,7 @@ invariant_of-self c =
     let found = rw c.deref.ensures.value at c.live_index-k.ensures in
     let at = found-at i.slots.items c.args.pid k slot found c.index_mut-slot.ensures.value in
     let lives = status-at i.slots.items i.programs.items i.last c.args.self.now c.self.view_is c.args.pid c.self.invariant.0.ascending k slot at c.requires.live in
-    (kept-set i.slots.items i.programs.items i.last c.self.invariant.0 c.args.pid k slot at _ at.number refl refl, roomy-set i.slots.items i.spare.items k _ _ _ c.self.invariant.1)
+    (preserved-set i.slots.items i.programs.items i.last c.self.invariant.0 c.args.pid k slot at _ at.number refl refl, roomy-set i.slots.items i.spare.items k _ _ _ c.self.invariant.1)
 
 pub returns : goal.returns
 returns c =

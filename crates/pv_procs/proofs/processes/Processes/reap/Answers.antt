@@ -2,10 +2,10 @@ use Rattle.std.proofs.Common.{◌∙◌, List, sym, ap, subst, arith}
 use Rattle.pv_model.specs.Calls.Processes.{wait}
 use Rattle.pv_procs.specs.declared.slot.ProcessSlot.{ProcessSlot}
 use Rattle.pv_procs.specs.declared.processes.Reap.TheVariants.{Child, Blocked}
-use Rattle.pv_procs.specs.Slots.{IsKept, table_of}
+use Rattle.pv_procs.specs.Slots.{IsConsistent, table_of}
 use Rattle.pv_procs.specs.ProcessTable.{ProcessTable, state_with}
 use Rattle.pv_procs.specs.Reaping.{waited}
-use Rattle.pv_procs.proofs.Reaps.{childless, blocked, reaped, kept-remove, ended-within, ended-status, status-is}
+use Rattle.pv_procs.proofs.Reaps.{childless, blocked, reaped, preserved-remove, ended-within, ended-status, status-is}
 use Rattle.pv_procs.proofs.processes.Processes.reap.Goals as goal
 
 pub returns-then-has_child-clause-waited : goal.returns-then-has_child-clause-waited
@@ -29,8 +29,8 @@ invariant_of-self c =
     let slot = c.remove-slot.result in
     let found = rw c.deref.ensures.value at (sym c.ended_child_of.ensures ∙ c.in-Some.is) in
     let ended = status-is slot.status c.unwrap_or.result (ended-status c.args.pid i.slots.items c.in-Some.k slot found c.remove-slot.ensures.value) (sym c.unwrap_or.ensures) in
-    let kept = kept-remove i.slots.items i.programs.items i.last c.self.invariant.0 c.in-Some.k slot c.unwrap_or.result (ended-within c.args.pid i.slots.items c.in-Some.k slot found) c.remove-slot.ensures.value ended in (
-      subst (λ (ps : List ProcessSlot). IsKept ps i.programs.items i.last) (sym c.remove-slot.ensures.items) kept,
+    let preserved = preserved-remove i.slots.items i.programs.items i.last c.self.invariant.0 c.in-Some.k slot c.unwrap_or.result (ended-within c.args.pid i.slots.items c.in-Some.k slot found) c.remove-slot.ensures.value ended in (
+      subst (λ (ps : List ProcessSlot). IsConsistent ps i.programs.items i.last) (sym c.remove-slot.ensures.items) preserved,
       record {
         full = omega (arith, c.self.invariant.1.full, c.push_reserved.ensures.len, c.remove-slot.ensures.len, c.push_reserved.new.self.ok.0, c.remove-slot.new.self.ok.0, i.slots.ok.0, i.spare.ok.0);
         room = omega (arith, c.self.invariant.1.room, c.remove-slot.ensures.capacity);

@@ -1,7 +1,7 @@
 use Rattle.std.proofs.Common.{ap, refl, option_map}
 use Rattle.pv_procs.specs.Parts.{record_of, with_record}
 use Rattle.pv_procs.proofs.Finding.{found-at, live-slot, status-at, process-at, changed-at}
-use Rattle.pv_procs.proofs.Keeping.{kept-set, roomy-set}
+use Rattle.pv_procs.proofs.Keeping.{preserved-set, roomy-set}
 use Rattle.pv_procs.proofs.processes.Processes.record_mut.Goals as goal
 
 pub live_index-k-requires-clause-ascends : goal.live_index-k-requires-clause-ascends
@@ -18,7 +18,7 @@ invariant_of-self-lent c = λ w.
     let found = rw c.deref.ensures.value at c.live_index-k.ensures in
     let slot = c.index_mut.result.now in
     let at = found-at i.slots.items c.args.pid c.live_index-k.result slot found c.index_mut.ensures.value in (
-      kept-set i.slots.items i.programs.items i.last c.self.invariant.0 c.args.pid c.live_index-k.result slot at _ at.number refl refl,
+      preserved-set i.slots.items i.programs.items i.last c.self.invariant.0 c.args.pid c.live_index-k.result slot at _ at.number refl refl,
       roomy-set i.slots.items i.spare.items c.live_index-k.result _ _ _ c.self.invariant.1,
     )
 

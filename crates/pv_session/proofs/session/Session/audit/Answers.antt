@@ -1,5 +1,5 @@
 use Rattle.std.proofs.Common.{Result, sym, ap, subst, ◌∙◌}
-use Rattle.pv_laws_states.specs.States.{IsWhole}
+use Rattle.pv_laws_states.specs.States.{IsValid}
 use Rattle.pv_model.specs.declared.verdict.AuditFault.{AuditFault}
 use Rattle.pv_model.specs.declared.verdict.Verdict.{Verdict}
 use Rattle.pv_model.specs.Sealed.{audit}
@@ -15,4 +15,4 @@ returns-clause-secret c =
     let same = c.parts.ensures.value ∙ (ap (λ (k : Running). k.state) c.deref.ensures ∙ c.self.view_is) in
     let found = c.audit.ensures ∙ ap (λ (x : State). audit x path) same in
     subst (λ (r : Result Verdict AuditFault). KeepsSecret c.args.self.now path r) (sym found)
-    (audit-keeps_secret c.args.self.now (subst IsWhole (ap (λ (k : Running). k.state) c.deref.ensures ∙ c.self.view_is) c.parts.ensures.whole) path)
+    (audit-keeps_secret c.args.self.now (subst IsValid (ap (λ (k : Running). k.state) c.deref.ensures ∙ c.self.view_is) c.parts.ensures.whole) path)

@@ -1,5 +1,5 @@
 use Rattle.std.proofs.Common.{Result, Some, sym, ap, subst, ◌∙◌}
-use Rattle.pv_laws_states.specs.States.{IsWhole}
+use Rattle.pv_laws_states.specs.States.{IsValid}
 use Rattle.pv_model.specs.declared.verdict.AuditFault.{AuditFault}
 use Rattle.pv_model.specs.declared.verdict.Verdict.{Verdict}
 use Rattle.pv_model.specs.Sealed.{audit_node}
@@ -15,4 +15,4 @@ returns-clause-secret c =
     let same = c.parts.ensures.value ∙ (ap (λ (k : Running). k.state) c.deref.ensures ∙ c.self.view_is) in
     let found = c.audit_node.ensures ∙ ap (λ (x : State). audit_node x (Some node)) same in
     subst (λ (r : Result Verdict AuditFault). KeepsSecretAt c.args.self.now node r) (sym found)
-    (audit_node-keeps_secret c.args.self.now (subst IsWhole (ap (λ (k : Running). k.state) c.deref.ensures ∙ c.self.view_is) c.parts.ensures.whole) node)
+    (audit_node-keeps_secret c.args.self.now (subst IsValid (ap (λ (k : Running). k.state) c.deref.ensures ∙ c.self.view_is) c.parts.ensures.whole) node)

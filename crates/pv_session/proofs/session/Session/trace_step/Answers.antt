@@ -1,17 +1,17 @@
 use Rattle.std.proofs.Common.{ap, sym, ◌∙◌, subst, length, List}
 use Rattle.pv_model.specs.Step.{Stepped}
 use Rattle.pv_model.specs.Trace.{Line}
-use Rattle.pv_streams.proofs.Telling.{on_err}
+use Rattle.pv_streams.proofs.Reporting.{on_err}
 use Rattle.pv_session.specs.Running.{BeginsLines, WrittenLines, stepped}
 use Rattle.pv_session.proofs.Stepping.{step-gone, gone-lines, inside-is, inside-after, written-none}
 use Rattle.pv_calls.specs.Kernel.{Running}
 use Rattle.pv_session.proofs.session.Session.trace_step.Goals as goal
 
-pub returns-in_err-write_gone_line-in-Gone-clause-beginning : goal.returns-in_err-write_gone_line-in-Gone-clause-beginning
-returns-in_err-write_gone_line-in-Gone-clause-beginning g c =
+pub returns-in_err-write_gone_line-in-Gone-clause-prefix : goal.returns-in_err-write_gone_line-in-Gone-clause-prefix
+returns-in_err-write_gone_line-in-Gone-clause-prefix g c =
     let is = gone-lines c.deref_mut-kernel.result.now.state c.args.self.now c.args.pid (ap (λ (k : Running). k.state) c.deref_mut-kernel.ensures.value ∙ c.self.view_is) c.in-Gone.ensures.state.0 in
     on_err c.from_residual.result
-    (subst (λ (ls : List Line). BeginsLines ls (g.W.Sink.written c.args.trace.now) (g.W.Sink.written c.write_gone_line.new.out)) (sym is) c.in_err-write_gone_line-in-Gone.ensures.beginning)
+    (subst (λ (ls : List Line). BeginsLines ls (g.W.Sink.written c.args.trace.now) (g.W.Sink.written c.write_gone_line.new.out)) (sym is) c.in_err-write_gone_line-in-Gone.ensures.prefix)
 
 pub returns-in_ok-write_gone_line-in-Gone-clause-after : goal.returns-in_ok-write_gone_line-in-Gone-clause-after
 returns-in_ok-write_gone_line-in-Gone-clause-after g c =

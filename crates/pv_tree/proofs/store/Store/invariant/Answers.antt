@@ -1,6 +1,6 @@
 use Rattle.std.proofs.Common.{ap, sym, subst, ◌∙◌}
 use Rattle.pv_tree.specs.Holding.{HeldTree, IsUnheld}
-use Rattle.pv_tree.specs.Standing.{IsAtRest}
+use Rattle.pv_tree.specs.Present.{IsAtRest}
 use Rattle.pv_tree.proofs.Keeping.{unheld-named}
 use Rattle.pv_tree.proofs.store.Store.invariant.Goals as goal
 
@@ -17,7 +17,7 @@ returns c =
       fits = s.fits;
       short = s.short;
       bytes = s.bytes;
-      named = unheld-named h.tree h.holds s.is_trimmed unheld;
+      named = unheld-named h.tree h.holds s.is_collected unheld;
     }
     in
     subst IsAtRest (ap (λ (t : HeldTree). t.tree) c.deref.ensures ∙ c.self.view_is) rest

@@ -3,7 +3,7 @@ use Rattle.pv_model.specs.Tree.{IsWellFormed}
 use Rattle.pv_tree.proofs.Parents.{is_among, above-directory, among-all, among-itself, among-above, among-top, among-removed}
 use Rattle.pv_tree.proofs.tree.Tree.contains.Goals as goal
 
--- so many steps are left, and one of them is this one
+-- the number of steps that remain includes this one
 left : (inodes top step : ℕ) → top ≡ inodes → step < top + 1 → inodes + 1 - step ≡ suc (inodes - step)
 left inodes top step same within = omega arith
 

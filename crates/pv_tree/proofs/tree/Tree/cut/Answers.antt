@@ -9,7 +9,7 @@ use Rattle.pv_tree.proofs.Elsewhere.{alike-along, alike-answered, alike-resized}
 use Rattle.pv_tree.proofs.tree.Tree.cut.Goals as goal
 use Rattle.pv_tree.proofs.tree.Tree.cut.Goals.{After-cut}
 
--- what the call below answers, in the words of the tree
+-- the result of the call below, stated for the tree
 answer : (c : After-cut) → IsAnswer c.self.inside.directories c.cut.new.self (resized c.self.inside.directories c.args.node c.args.size) c.self.inside.parents c.self.inside.names c.self.inside.holds c.cut.result
 answer c =
     let file = file-of (node_at c.self.inside.directories c.args.node) (ap (λ h. is_file (node_at h.tree c.args.node)) c.self.view_is ∙ c.requires) in

@@ -7,7 +7,7 @@ use Rattle.pv_tree.proofs.Lending.{run-is, run-some, run-within}
 use Rattle.pv_tree.proofs.tree.Tree.lend.Goals as goal
 use Rattle.pv_tree.proofs.tree.Tree.lend.Goals.{After-lend}
 
--- what is lent, of the tree
+-- the borrowed bytes, as those of the tree
 lent : (c : After-lend) → c.lend.result.now ≡ take (512 - c.args.at % 512) (drop c.args.at (bytes_at c.args.self.now.tree c.args.node))
 lent c =
     c.lend.ensures

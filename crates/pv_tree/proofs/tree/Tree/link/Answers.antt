@@ -1,9 +1,9 @@
 use Rattle.std.proofs.Common.{◌≡◌, ◌+◌, is_some, ap, subst, sym, ◌∙◌, arith}
 use Rattle.std.specs.Prelude.{slice_index, slice_set}
-use Rattle.pv_laws_trees.specs.Tree.{Stands}
+use Rattle.pv_laws_trees.specs.Tree.{Appears}
 use Rattle.pv_model.specs.Tree.{Tree, node_at, find_entry, is_directory_at, is_name, with_entry}
-use Rattle.pv_tree.specs.Standing.{IsTied}
-use Rattle.pv_laws_trees.proofs.Spelled.{bytes-all}
+use Rattle.pv_tree.specs.Present.{IsTied}
+use Rattle.pv_laws_trees.proofs.Encoded.{bytes-all}
 use Rattle.pv_laws_trees.proofs.Found.{alike-with}
 use Rattle.pv_tree.proofs.Counting.{below-seen}
 use Rattle.pv_tree.proofs.Elsewhere.{but-along}
@@ -28,7 +28,7 @@ invariant_of-self-2 c =
     subst (λ (t : Tree). IsTied t c.self.inside.parents (slice_set c.self.inside.names c.args.node (slice_index c.self.inside.names c.args.node + 1)) c.self.inside.holds)
     (sym c.in_ok-enter.ensures.ok)
     (linked-tied c.self.inside.directories c.self.inside.parents c.self.inside.names c.self.inside.holds c.self.invariant c.args.directory c.args.name.now c.args.node
-    (subst (λ (t : Tree). Stands t c.args.directory) (sym view) c.requires.directory)
+    (subst (λ (t : Tree). Appears t c.args.directory) (sym view) c.requires.directory)
     (ap (λ (t : Tree). find_entry t c.args.directory c.args.name.now) view ∙ c.requires.absent)
     (ap (λ (t : Tree). is_name t.version c.args.name.now) view ∙ c.requires.name)
     (bytes-all c.args.name.now (λ i. (c.type_inv.name i).fits))

@@ -1,10 +1,10 @@
 use Rattle.std.proofs.Common.{◌≡◌, ◌<◌, length, ap, subst, sym, ◌∙◌}
 use Rattle.std.specs.Prelude.{slice_set}
 use Rattle.pv_model.specs.Tree.{Tree, find_entry, is_directory_at, is_name, is_node, new_number, with_new_node}
-use Rattle.pv_laws_trees.specs.Tree.{Stands}
+use Rattle.pv_laws_trees.specs.Tree.{Appears}
 use Rattle.pv_tree.specs.Changes.{new_node}
-use Rattle.pv_tree.specs.Standing.{IsTied}
-use Rattle.pv_laws_trees.proofs.Spelled.{bytes-all}
+use Rattle.pv_tree.specs.Present.{IsTied}
+use Rattle.pv_laws_trees.proofs.Encoded.{bytes-all}
 use Rattle.pv_tree.proofs.Elsewhere.{but-along, alike-made}
 use Rattle.pv_tree.proofs.Made.{made-tied}
 use Rattle.pv_tree.proofs.tree.Tree.make.Goals as goal
@@ -16,7 +16,7 @@ invariant_of-self-2 c =
     (subst (λ (t : Tree). IsTied t (slice_set c.self.inside.parents (new_number c.self.inside.directories) c.args.directory) (slice_set c.self.inside.names (new_number c.self.inside.directories) 1) c.self.inside.holds)
     (sym c.in_ok-node.ensures.ok)
     (made-tied c.self.inside.directories c.self.inside.parents c.self.inside.names c.self.inside.holds c.self.invariant c.args.directory c.args.name.now c.args.kind
-    (subst (λ (t : Tree). Stands t c.args.directory) (sym view) c.requires.directory)
+    (subst (λ (t : Tree). Appears t c.args.directory) (sym view) c.requires.directory)
     (ap (λ (t : Tree). find_entry t c.args.directory c.args.name.now) view ∙ c.requires.absent)
     (ap (λ (t : Tree). is_name t.version c.args.name.now) view ∙ c.requires.name)
     (ap (λ (t : Tree). is_node t.version (new_node c.args.kind)) view ∙ c.requires.text) (bytes-all c.args.name.now (λ i. (c.type_inv.name i).fits)) c.in_ok-node.ensures.bytes

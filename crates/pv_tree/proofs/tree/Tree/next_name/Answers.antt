@@ -24,7 +24,7 @@ returns-in-Some-next_name_of-clause-least c =
 
 pub returns-in-Some-next_name_of-clause-value : goal.returns-in-Some-next_name_of-clause-value
 returns-in-Some-next_name_of-clause-value c =
-    next-found c.args.self.now.tree (ordered c.args.self.now.tree c.sizes-directory-end.ensures.standing.well_formed.each_node) c.args.node (last_of c.args.last)
+    next-found c.args.self.now.tree (ordered c.args.self.now.tree c.sizes-directory-end.ensures.present.well_formed.each_node) c.args.node (last_of c.args.last)
     (Some (c.loop-directory.directory, c.in-Some-next_name_of.name)) (returns-in-Some-next_name_of-clause-least c)
 
 pub loop-directory-preserved : goal.loop-directory-preserved
@@ -46,10 +46,10 @@ loop-directory-preserved c =
 
 pub returns-clause-least : goal.returns-clause-least
 returns-clause-least c =
-    let numbers = c.sizes-directory-end.ensures.standing.well_formed.numbers in
+    let numbers = c.sizes-directory-end.ensures.present.well_formed.numbers in
     down-all c.args.self.now.tree c.args.node (last_of c.args.last) c.loop-directory.directory c.loop-directory.invariant.down
     (omega (arith, numbers, c.sizes-directory-end.ensures.inodes, c.loop-directory-test.false, c.loop-directory.auto.directory-end))
 
 pub returns-clause-value : goal.returns-clause-value
 returns-clause-value c =
-    next-found c.args.self.now.tree (ordered c.args.self.now.tree c.sizes-directory-end.ensures.standing.well_formed.each_node) c.args.node (last_of c.args.last) None (returns-clause-least c)
+    next-found c.args.self.now.tree (ordered c.args.self.now.tree c.sizes-directory-end.ensures.present.well_formed.each_node) c.args.node (last_of c.args.last) None (returns-clause-least c)

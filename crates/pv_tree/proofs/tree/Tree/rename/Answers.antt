@@ -3,30 +3,30 @@ use Rattle.std.specs.Prelude.{slice_index, slice_set, IfSome}
 use Rattle.std.proofs.lemmas.Result.{err_from_is_err_and}
 use Rattle.pv_model.specs.Tree.{Tree, node_at, find_entry, is_directory_at, with_entry, without_entry}
 use Rattle.pv_tree.specs.Changes.{moved, settled}
-use Rattle.pv_tree.specs.Holding.{trimmed}
+use Rattle.pv_tree.specs.Holding.{collected}
 use Rattle.pv_tree.specs.Rooms.{refusal}
-use Rattle.pv_tree.specs.Standing.{IsTied}
+use Rattle.pv_tree.specs.Present.{IsTied}
 use Rattle.pv_laws_trees.proofs.Found.{alike-moved}
-use Rattle.pv_laws_trees.proofs.Spelled.{bytes-all}
-use Rattle.pv_tree.proofs.Counting.{trimmed-tied}
+use Rattle.pv_laws_trees.proofs.Encoded.{bytes-all}
+use Rattle.pv_tree.proofs.Counting.{collected-tied}
 use Rattle.pv_tree.proofs.Elsewhere.{two-along, alike-refused, alike-renamed}
 use Rattle.pv_tree.proofs.Linking.{found-place}
-use Rattle.pv_tree.proofs.Moving.{value-of, IsMove, is-move, moved-is, moved-tied, moved-trimmed, moved-allowed, gone-there, gone-named, replaced-counted, settled-replaced}
-use Rattle.pv_tree.proofs.Rooms.{shaped, trimmed-allowed}
+use Rattle.pv_tree.proofs.Moving.{value-of, IsMove, is-move, moved-is, moved-tied, moved-collected, moved-allowed, gone-there, gone-named, replaced-counted, settled-replaced}
+use Rattle.pv_tree.proofs.Rooms.{shaped, collected-allowed}
 use Rattle.pv_tree.proofs.tree.Tree.rename.Goals as goal
 use Rattle.pv_tree.proofs.tree.Tree.rename.Goals.{After-from_residual, In_ok-moved, In-Some, After-settle}
 
--- what is known of the move
+-- the facts about the move
 move : (c : In_ok-moved) → IsMove c.self.inside.directories c.args.from c.args.name.now c.args.to c.args.other.now c.in_ok-moved.moved.node
 move c =
     is-move c.self.inside.directories c.args.self.now.tree (ap (λ h. h.tree) c.self.view_is) c.args.from c.args.name.now c.args.to c.args.other.now c.in_ok-moved.moved.node c.in_ok-moved.ensures.node
     c.requires.to c.requires.name (bytes-all c.args.other.now (λ i. (c.type_inv.other i).fits)) c.requires.clear c.requires.apart c.requires.empty
 
--- the same, on the tree that a caller sees
-seen : (c : In_ok-moved) → trimmed (with_entry (without_entry c.self.inside.directories c.args.from c.args.name.now) c.args.to c.args.other.now c.in_ok-moved.moved.node) c.self.inside.holds ≡ trimmed (moved c.args.self.now.tree c.args.from c.args.name.now c.args.to c.args.other.now) c.args.self.now.holds
+-- the same for the tree that a caller sees
+seen : (c : In_ok-moved) → collected (with_entry (without_entry c.self.inside.directories c.args.from c.args.name.now) c.args.to c.args.other.now c.in_ok-moved.moved.node) c.self.inside.holds ≡ collected (moved c.args.self.now.tree c.args.from c.args.name.now c.args.to c.args.other.now) c.args.self.now.holds
 seen c =
-    ap (λ (t : Tree). trimmed t c.self.inside.holds) (moved-is c.self.inside.directories c.args.self.now.tree (ap (λ h. h.tree) c.self.view_is) c.args.from c.args.name.now c.args.to c.args.other.now c.in_ok-moved.moved.node c.in_ok-moved.ensures.node)
-    ∙ ap (λ holds. trimmed (moved c.args.self.now.tree c.args.from c.args.name.now c.args.to c.args.other.now) holds) (ap (λ h. h.holds) c.self.view_is)
+    ap (λ (t : Tree). collected t c.self.inside.holds) (moved-is c.self.inside.directories c.args.self.now.tree (ap (λ h. h.tree) c.self.view_is) c.args.from c.args.name.now c.args.to c.args.other.now c.in_ok-moved.moved.node c.in_ok-moved.ensures.node)
+    ∙ ap (λ holds. collected (moved c.args.self.now.tree c.args.from c.args.name.now c.args.to c.args.other.now) holds) (ap (λ h. h.holds) c.self.view_is)
 
 was : (c : In-Some) → find_entry c.self.inside.directories c.args.to c.args.other.now ≡ Some c.in-Some.gone
 was c = sym c.in_ok-moved.ensures.gone ∙ c.in-Some.is
@@ -35,16 +35,16 @@ pub move_entry-requires-clause-shaped : goal.move_entry-requires-clause-shaped
 move_entry-requires-clause-shaped c =
     shaped c.self.inside.directories c.self.inside.parents c.self.inside.names c.self.inside.holds c.self.invariant.counted
 
--- a node has the name
+-- some node has the name
 named : (c : After-from_residual) → (m : ℕ) × (find_entry c.self.inside.directories c.args.from c.args.name.now ≡ Some m)
 named c = value-of (find_entry c.self.inside.directories c.args.from c.args.name.now) (ap (λ h. is_some (find_entry h.tree c.args.from c.args.name.now)) c.self.view_is ∙ c.requires.present)
 
-refused : (c : After-from_residual) (m : ℕ) → find_entry c.self.inside.directories c.args.from c.args.name.now ≡ Some m → refusal (trimmed (moved c.args.self.now.tree c.args.from c.args.name.now c.args.to c.args.other.now) c.args.self.now.holds) ≡ Some c.in_err-moved.field-0.0
+refused : (c : After-from_residual) (m : ℕ) → find_entry c.self.inside.directories c.args.from c.args.name.now ≡ Some m → refusal (collected (moved c.args.self.now.tree c.args.from c.args.name.now c.args.to c.args.other.now) c.args.self.now.holds) ≡ Some c.in_err-moved.field-0.0
 refused c m found =
     let view = ap (λ h. h.tree) c.self.view_is in
     let move = is-move c.self.inside.directories c.args.self.now.tree view c.args.from c.args.name.now c.args.to c.args.other.now m found c.requires.to c.requires.name (bytes-all c.args.other.now (λ i. (c.type_inv.other i).fits)) c.requires.clear c.requires.apart c.requires.empty in
-    let seen = ap (λ (t : Tree). trimmed t c.self.inside.holds) (moved-is c.self.inside.directories c.args.self.now.tree view c.args.from c.args.name.now c.args.to c.args.other.now m found) ∙ ap (λ holds. trimmed (moved c.args.self.now.tree c.args.from c.args.name.now c.args.to c.args.other.now) holds) (ap (λ h. h.holds) c.self.view_is) in
-    ap refusal (sym seen ∙ moved-trimmed c.self.inside.directories c.self.inside.parents c.self.inside.names c.self.inside.holds c.self.invariant c.args.from c.args.name.now c.args.to c.args.other.now m move c.in_err-moved.ensures.free)
+    let seen = ap (λ (t : Tree). collected t c.self.inside.holds) (moved-is c.self.inside.directories c.args.self.now.tree view c.args.from c.args.name.now c.args.to c.args.other.now m found) ∙ ap (λ holds. collected (moved c.args.self.now.tree c.args.from c.args.name.now c.args.to c.args.other.now) holds) (ap (λ h. h.holds) c.self.view_is) in
+    ap refusal (sym seen ∙ moved-collected c.self.inside.directories c.self.inside.parents c.self.inside.names c.self.inside.holds c.self.invariant c.args.from c.args.name.now c.args.to c.args.other.now m move c.in_err-moved.ensures.free)
     ∙ subst (λ o. IfSome o (λ k. refusal (with_entry (without_entry c.self.inside.directories c.args.from c.args.name.now) c.args.to c.args.other.now k) ≡ Some c.in_err-moved.field-0.0)) found c.in_err-moved.ensures.refused
 
 pub returns-in_err-moved-clause-refused : goal.returns-in_err-moved-clause-refused
@@ -67,12 +67,12 @@ invariant_of-self-in_default c =
 
 pub returns-in_default-clause-ok : goal.returns-in_default-clause-ok
 returns-in_default-clause-ok c =
-    ap (λ (t : Tree). record { tree = t; holds = c.self.inside.holds }) (c.in_ok-moved.ensures.ok ∙ sym (moved-trimmed c.self.inside.directories c.self.inside.parents c.self.inside.names c.self.inside.holds c.self.invariant c.args.from c.args.name.now c.args.to c.args.other.now c.in_ok-moved.moved.node (move (goal.at.returns-in_default-clause-ok c).In_ok-moved) (sym c.in_ok-moved.ensures.gone ∙ c.in_default.is)) ∙ seen (goal.at.returns-in_default-clause-ok c).In_ok-moved)
-    ∙ ap (λ holds. record { tree = trimmed (moved c.args.self.now.tree c.args.from c.args.name.now c.args.to c.args.other.now) c.args.self.now.holds; holds = holds }) (ap (λ h. h.holds) c.self.view_is)
+    ap (λ (t : Tree). record { tree = t; holds = c.self.inside.holds }) (c.in_ok-moved.ensures.ok ∙ sym (moved-collected c.self.inside.directories c.self.inside.parents c.self.inside.names c.self.inside.holds c.self.invariant c.args.from c.args.name.now c.args.to c.args.other.now c.in_ok-moved.moved.node (move (goal.at.returns-in_default-clause-ok c).In_ok-moved) (sym c.in_ok-moved.ensures.gone ∙ c.in_default.is)) ∙ seen (goal.at.returns-in_default-clause-ok c).In_ok-moved)
+    ∙ ap (λ holds. record { tree = collected (moved c.args.self.now.tree c.args.from c.args.name.now c.args.to c.args.other.now) c.args.self.now.holds; holds = holds }) (ap (λ h. h.holds) c.self.view_is)
 
 pub returns-in_default-clause-allowed : goal.returns-in_default-clause-allowed
 returns-in_default-clause-allowed c =
-    ap refusal (sym (seen (goal.at.returns-in_default-clause-allowed c).In_ok-moved) ∙ moved-trimmed c.self.inside.directories c.self.inside.parents c.self.inside.names c.self.inside.holds c.self.invariant c.args.from c.args.name.now c.args.to c.args.other.now c.in_ok-moved.moved.node (move (goal.at.returns-in_default-clause-allowed c).In_ok-moved) (sym c.in_ok-moved.ensures.gone ∙ c.in_default.is)) ∙ c.in_ok-moved.ensures.allowed
+    ap refusal (sym (seen (goal.at.returns-in_default-clause-allowed c).In_ok-moved) ∙ moved-collected c.self.inside.directories c.self.inside.parents c.self.inside.names c.self.inside.holds c.self.invariant c.args.from c.args.name.now c.args.to c.args.other.now c.in_ok-moved.moved.node (move (goal.at.returns-in_default-clause-allowed c).In_ok-moved) (sym c.in_ok-moved.ensures.gone ∙ c.in_default.is)) ∙ c.in_ok-moved.ensures.allowed
 
 pub returns-in_default-clause-elsewhere : goal.returns-in_default-clause-elsewhere
 returns-in_default-clause-elsewhere c =
@@ -111,8 +111,8 @@ pub settle-requires : goal.settle-requires
 settle-requires c =
     ap (λ (t : Tree). is_some (node_at t c.in-Some.gone)) c.in_ok-moved.ensures.ok ∙ gone-there c.self.inside.directories c.self.inside.parents c.self.inside.names c.self.inside.holds c.self.invariant c.args.from c.args.name.now c.args.to c.args.other.now c.in_ok-moved.moved.node (move (goal.at.settle-requires c).In_ok-moved) c.in-Some.gone (was (goal.at.settle-requires c).In-Some)
 
--- what is left where the node that had the name is settled
-left : (c : After-settle) → c.settle.new.directories ≡ trimmed (with_entry (without_entry c.self.inside.directories c.args.from c.args.name.now) c.args.to c.args.other.now c.in_ok-moved.moved.node) c.self.inside.holds
+-- the tree after the node that had the name is settled
+left : (c : After-settle) → c.settle.new.directories ≡ collected (with_entry (without_entry c.self.inside.directories c.args.from c.args.name.now) c.args.to c.args.other.now c.in_ok-moved.moved.node) c.self.inside.holds
 left c =
     c.settle.ensures
     ∙ ap (λ (t : Tree). settled t c.in-Some.gone (slice_index (slice_set c.self.inside.names c.in-Some.gone (slice_index c.self.inside.names c.in-Some.gone - 1)) c.in-Some.gone) (slice_index c.self.inside.holds c.in-Some.gone)) c.in_ok-moved.ensures.ok
@@ -123,23 +123,23 @@ invariant_of-self-2 c =
     let parents = slice_set (slice_set c.self.inside.parents c.in_ok-moved.moved.node c.args.to) c.in-Some.gone 0 in
     let names = slice_set c.self.inside.names c.in-Some.gone (slice_index c.self.inside.names c.in-Some.gone - 1) in
     subst (λ (t : Tree). IsTied t parents names c.self.inside.holds) (sym (left c))
-    (trimmed-tied (with_entry (without_entry c.self.inside.directories c.args.from c.args.name.now) c.args.to c.args.other.now c.in_ok-moved.moved.node) parents names c.self.inside.holds (replaced-counted c.self.inside.directories c.self.inside.parents c.self.inside.names c.self.inside.holds c.self.invariant c.args.from c.args.name.now c.args.to c.args.other.now c.in_ok-moved.moved.node (move (goal.at.invariant_of-self-2 c).In_ok-moved) c.in-Some.gone (was (goal.at.invariant_of-self-2 c).In-Some)))
+    (collected-tied (with_entry (without_entry c.self.inside.directories c.args.from c.args.name.now) c.args.to c.args.other.now c.in_ok-moved.moved.node) parents names c.self.inside.holds (replaced-counted c.self.inside.directories c.self.inside.parents c.self.inside.names c.self.inside.holds c.self.invariant c.args.from c.args.name.now c.args.to c.args.other.now c.in_ok-moved.moved.node (move (goal.at.invariant_of-self-2 c).In_ok-moved) c.in-Some.gone (was (goal.at.invariant_of-self-2 c).In-Some)))
 
 pub returns-clause-ok : goal.returns-clause-ok
 returns-clause-ok c =
     ap (λ (t : Tree). record { tree = t; holds = c.self.inside.holds }) (left c ∙ seen (goal.at.returns-clause-ok c).In_ok-moved)
-    ∙ ap (λ holds. record { tree = trimmed (moved c.args.self.now.tree c.args.from c.args.name.now c.args.to c.args.other.now) c.args.self.now.holds; holds = holds }) (ap (λ h. h.holds) c.self.view_is)
+    ∙ ap (λ holds. record { tree = collected (moved c.args.self.now.tree c.args.from c.args.name.now c.args.to c.args.other.now) c.args.self.now.holds; holds = holds }) (ap (λ h. h.holds) c.self.view_is)
 
 pub returns-clause-allowed : goal.returns-clause-allowed
 returns-clause-allowed c =
     ap refusal (sym (seen (goal.at.returns-clause-allowed c).In_ok-moved))
-    ∙ trimmed-allowed (with_entry (without_entry c.self.inside.directories c.args.from c.args.name.now) c.args.to c.args.other.now c.in_ok-moved.moved.node) c.self.inside.holds (moved-allowed c.self.inside.directories c.self.inside.parents c.self.inside.names c.self.inside.holds c.self.invariant c.args.from c.args.name.now c.args.to c.args.other.now c.in_ok-moved.moved.node (move (goal.at.returns-clause-allowed c).In_ok-moved) c.in-Some.gone (was (goal.at.returns-clause-allowed c).In-Some))
+    ∙ collected-allowed (with_entry (without_entry c.self.inside.directories c.args.from c.args.name.now) c.args.to c.args.other.now c.in_ok-moved.moved.node) c.self.inside.holds (moved-allowed c.self.inside.directories c.self.inside.parents c.self.inside.names c.self.inside.holds c.self.invariant c.args.from c.args.name.now c.args.to c.args.other.now c.in_ok-moved.moved.node (move (goal.at.returns-clause-allowed c).In_ok-moved) c.in-Some.gone (was (goal.at.returns-clause-allowed c).In-Some))
 
 pub returns-clause-elsewhere : goal.returns-clause-elsewhere
 returns-clause-elsewhere c =
     let t = c.self.inside.directories in
     let view : t ≡ c.args.self.now.tree = ap (λ h. h.tree) c.self.view_is in
-    two-along c.args.from c.args.name.now c.args.to c.args.other.now t c.args.self.now.tree (trimmed (with_entry (without_entry t c.args.from c.args.name.now) c.args.to c.args.other.now c.in_ok-moved.moved.node) c.self.inside.holds) c.settle.new.directories view (left c)
+    two-along c.args.from c.args.name.now c.args.to c.args.other.now t c.args.self.now.tree (collected (with_entry (without_entry t c.args.from c.args.name.now) c.args.to c.args.other.now c.in_ok-moved.moved.node) c.self.inside.holds) c.settle.new.directories view (left c)
     (alike-renamed t c.self.invariant.counted.well_formed c.args.from c.args.name.now c.args.to c.args.other.now c.in_ok-moved.moved.node c.self.inside.holds
     (ap (λ (u : Tree). is_directory_at u c.args.from) view ∙ c.requires.from) (ap (λ (u : Tree). is_directory_at u c.args.to) view ∙ c.requires.to.0)
     (replaced-counted c.self.inside.directories c.self.inside.parents c.self.inside.names c.self.inside.holds c.self.invariant c.args.from c.args.name.now c.args.to c.args.other.now c.in_ok-moved.moved.node (move (goal.at.returns-clause-elsewhere c).In_ok-moved) c.in-Some.gone (was (goal.at.returns-clause-elsewhere c).In-Some)).well_formed)

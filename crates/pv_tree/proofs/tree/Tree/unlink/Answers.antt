@@ -2,9 +2,9 @@ use Rattle.std.proofs.Common.{◌≡◌, ◌-◌, [], Some, ap, subst, sym, ◌�
 use Rattle.std.specs.Prelude.{slice_index, slice_set, is_some}
 use Rattle.pv_model.specs.Tree.{Tree, node_at, entries_at, find_entry, is_directory_at, without_entry}
 use Rattle.pv_tree.specs.Changes.{settled}
-use Rattle.pv_tree.specs.Holding.{after, trimmed}
-use Rattle.pv_tree.specs.Standing.{IsTied}
-use Rattle.pv_tree.proofs.Counting.{trimmed-tied}
+use Rattle.pv_tree.specs.Holding.{after, collected}
+use Rattle.pv_tree.specs.Present.{IsTied}
+use Rattle.pv_tree.proofs.Counting.{collected-tied}
 use Rattle.pv_tree.proofs.Elsewhere.{but-along, alike-unlinked}
 use Rattle.pv_tree.proofs.Linking.{found-place, emptied, has-name, still-there, unlinked-counted, settled-unlinked}
 use Rattle.pv_tree.proofs.tree.Tree.unlink.Goals as goal
@@ -49,11 +49,11 @@ settle-requires c =
 
 settled-there : (c : In-Some) → settled (without_entry c.self.inside.directories c.args.directory c.args.name.now) c.in-Some.node
     (slice_index (slice_set c.self.inside.names c.in-Some.node (slice_index c.self.inside.names c.in-Some.node - 1)) c.in-Some.node) (slice_index c.self.inside.holds c.in-Some.node)
-    ≡ trimmed (without_entry c.self.inside.directories c.args.directory c.args.name.now) c.self.inside.holds
+    ≡ collected (without_entry c.self.inside.directories c.args.directory c.args.name.now) c.self.inside.holds
 settled-there c =
     settled-unlinked c.self.inside.directories c.self.inside.parents c.self.inside.names c.self.inside.holds c.self.invariant c.args.directory c.args.name.now c.in-Some.node (found c) (empty c)
 
-gone : (c : After-settle) → c.settle.new.directories ≡ trimmed (without_entry c.self.inside.directories c.args.directory c.args.name.now) c.self.inside.holds
+gone : (c : After-settle) → c.settle.new.directories ≡ collected (without_entry c.self.inside.directories c.args.directory c.args.name.now) c.self.inside.holds
 gone c =
     let w = (goal.at.returns-clause-tree c).In-Some in
     c.settle.ensures
@@ -66,7 +66,7 @@ invariant_of-self c =
     let w = (goal.at.invariant_of-self c).In-Some in
     subst (λ (t : Tree). IsTied t (slice_set c.self.inside.parents c.in-Some.node 0) (slice_set c.self.inside.names c.in-Some.node (slice_index c.self.inside.names c.in-Some.node - 1)) c.self.inside.holds)
     (sym (gone c))
-    (trimmed-tied (without_entry c.self.inside.directories c.args.directory c.args.name.now) _ _ c.self.inside.holds
+    (collected-tied (without_entry c.self.inside.directories c.args.directory c.args.name.now) _ _ c.self.inside.holds
     (unlinked-counted c.self.inside.directories c.self.inside.parents c.self.inside.names c.self.inside.holds c.self.invariant c.args.directory c.args.name.now c.in-Some.node (found w) (empty w)))
 
 pub returns-clause-tree : goal.returns-clause-tree
@@ -75,7 +75,7 @@ returns-clause-tree c = ap (λ (t : Tree). record { tree = t; holds = c.self.ins
 pub returns-clause-elsewhere : goal.returns-clause-elsewhere
 returns-clause-elsewhere c =
     let w = (goal.at.returns-clause-elsewhere c).In-Some in
-    but-along c.args.directory c.args.name.now c.self.inside.directories c.args.self.now.tree (trimmed (without_entry c.self.inside.directories c.args.directory c.args.name.now) c.self.inside.holds)
+    but-along c.args.directory c.args.name.now c.self.inside.directories c.args.self.now.tree (collected (without_entry c.self.inside.directories c.args.directory c.args.name.now) c.self.inside.holds)
     c.settle.new.directories (ap (λ h. h.tree) c.self.view_is) (gone ((goal.at.returns-clause-elsewhere c).After-settle))
     (alike-unlinked c.self.inside.directories c.args.directory c.args.name.now c.self.inside.holds
     (ap (λ h. is_directory_at h.tree c.args.directory) c.self.view_is ∙ c.requires.directory)

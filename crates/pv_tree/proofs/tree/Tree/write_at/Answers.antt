@@ -4,13 +4,13 @@ use Rattle.pv_model.specs.Sealed.{is_file}
 use Rattle.pv_model.specs.Tree.{Tree, node_at}
 use Rattle.pv_tree.specs.Changes.{overwritten}
 use Rattle.pv_tree.specs.Rooms.{refusal}
-use Rattle.pv_laws_trees.proofs.Spelled.{bytes-all}
+use Rattle.pv_laws_trees.proofs.Encoded.{bytes-all}
 use Rattle.pv_tree.proofs.Contents.{IsAnswer, file-of, write-answer}
 use Rattle.pv_tree.proofs.Elsewhere.{alike-along, alike-answered, alike-overwritten}
 use Rattle.pv_tree.proofs.tree.Tree.write_at.Goals as goal
 use Rattle.pv_tree.proofs.tree.Tree.write_at.Goals.{After-write_at}
 
--- what the call below answers, in the words of the tree
+-- the result of the call below, stated for the tree
 answer : (c : After-write_at) → IsAnswer c.self.inside.directories c.write_at.new.self (overwritten c.self.inside.directories c.args.node c.args.at c.args.bytes.now) c.self.inside.parents c.self.inside.names c.self.inside.holds c.write_at.result
 answer c =
     let file = file-of (node_at c.self.inside.directories c.args.node) (ap (λ h. is_file (node_at h.tree c.args.node)) c.self.view_is ∙ c.requires) in

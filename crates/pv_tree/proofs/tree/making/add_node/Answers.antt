@@ -5,7 +5,7 @@ use Rattle.pv_dirs.specs.Trees.{new_node as empty_node, without_node}
 use Rattle.pv_laws_trees.proofs.Changes.{node_at-same}
 use Rattle.pv_tree.specs.Changes.{sort_of}
 use Rattle.pv_tree.specs.Rooms.{refusal}
-use Rattle.pv_tree.specs.Standing.{IsShaped}
+use Rattle.pv_tree.specs.Present.{IsShaped}
 use Rattle.pv_tree.proofs.Making.{fresh-is, furnished-is, entered-is, taken_away, size-entries, directory-one, absent-one, few-one, refused-long, refused-crowded, shaped-one}
 use Rattle.pv_tree.proofs.tree.making.add_node.Goals as goal
 

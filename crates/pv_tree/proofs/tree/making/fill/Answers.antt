@@ -2,7 +2,7 @@ use Rattle.std.proofs.Common.{Some, ap, sym, subst, ◌∙◌}
 use Rattle.std.specs.Prelude.{OnErr}
 use Rattle.pv_model.specs.Tree.{link_node, with_node, is_node, is_link_text}
 use Rattle.pv_dirs.specs.Trees.{new_node as empty_node, LacksRoom}
-use Rattle.pv_laws_trees.specs.Spelled.{are_bytes, has_bytes}
+use Rattle.pv_laws_trees.specs.Encoded.{are_bytes, has_bytes}
 use Rattle.pv_tree.specs.Changes.{new_node, sort_of}
 use Rattle.pv_tree.proofs.Making.{always, lacks-link, same-empty, bytes-other, filled}
 use Rattle.pv_tree.proofs.tree.making.fill.Goals as goal

@@ -2,23 +2,23 @@ use Rattle.std.proofs.Common.{◌≡◌, ◌≢◌, Some, ap, subst, sym, ◌∙
 use Rattle.std.specs.Prelude.{IfSome, IfNone}
 use Rattle.pv_model.specs.Tree.{Tree, find_entry, is_directory_at, is_name, with_entry, without_entry}
 use Rattle.pv_tree.specs.Rooms.{refusal}
-use Rattle.pv_tree.specs.Standing.{IsShaped}
+use Rattle.pv_tree.specs.Present.{IsShaped}
 use Rattle.pv_tree.proofs.Moving.{between-directory, found-between, bared-by, bared-shaped, bared-directory, bared-from, bared-absent, bared-first, bared-back, bared-allowed, name-good, replaced-is, refused-free, done}
 use Rattle.pv_tree.proofs.tree.names.move_entry.Goals as goal
 use Rattle.pv_tree.proofs.tree.names.move_entry.Goals.{After-remove-gone}
 
--- the node whose entry it is
+-- the node of the entry
 has : (c : After-remove-gone) → find_entry c.args.directories.now c.args.from c.args.name.now ≡ Some c.in-Some.node
 has c = sym c.in-Some.ensures.gone
 
 apart : (c : After-remove-gone) → find_entry c.args.directories.now c.args.to c.args.other.now ≢ Some c.in-Some.node
 apart c = λ is. c.requires.apart (is ∙ sym (has c))
 
--- what had the other name in between
+-- the node that had the other name in between
 seen : (c : After-remove-gone) → c.remove-gone.result ≡ find_entry (without_entry c.args.directories.now c.args.from c.args.name.now) c.args.to c.args.other.now
 seen c = c.remove-gone.ensures.gone ∙ ap (λ (t : Tree). find_entry t c.args.to c.args.other.now) c.in-Some.ensures.left
 
--- both entries are taken away
+-- both entries are removed
 bared : (c : After-remove-gone) → c.remove-gone.new.self ≡ without_entry (without_entry c.args.directories.now c.args.from c.args.name.now) c.args.to c.args.other.now
 bared c =
     bared-by c.args.directories.now c.requires.well_formed c.requires.shaped c.requires.fits c.args.from c.args.name.now c.args.to c.args.other.now c.in-Some.node (has c) c.requires.to c.remove-gone.result c.remove-gone.new.self (seen c)

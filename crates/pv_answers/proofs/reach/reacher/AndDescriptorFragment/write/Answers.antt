@@ -1,7 +1,10 @@
+use Rattle.std.proofs.Common.{rules}
 use Rattle.pv_answers.proofs.reach.reacher.AndDescriptorFragment.write.Goals as goal
 
-pub returns-clause-whole : goal.returns-clause-whole
-returns-clause-whole g c = rw c.from.ensures at c.write.ensures.whole
-
-pub returns-clause-beginning : goal.returns-clause-beginning
-returns-clause-beginning g c = rw c.from.ensures at c.write.ensures.beginning
+pub returns : goal.returns
+returns g c = record {
+  whole = (rw c.from.ensures at c.write.ensures.whole);
+  prefix = (rw c.from.ensures at c.write.ensures.prefix);
+  failed = search rules;
+  quiet = search rules;
+}

@@ -1,7 +1,0 @@
-use Rattle.std.proofs.Common.{◌≡◌, drop}
-use Rattle.std.specs.List.{list_all}
-use Rattle.pv_audit.specs.Reasons.{kept_at}
-use Rattle.pv_audit.proofs.verdicts.are_all_kept.Given as goal
-
-abbrev pub invariant-loop-suspect : goal.invariant-loop-suspect
-invariant-loop-suspect l = list_all (kept_at l.parts l.node) l.suspects ≡ list_all (kept_at l.parts l.node) (drop l.suspect-index l.suspects)

@@ -1,9 +1,0 @@
-use Rattle.std.proofs.Common.{w32, arith}
-use Rattle.std.proofs.lemmas.Int.{to_z_pos}
-use Rattle.pv_calls_plain.proofs.Telling.{told_front}
-use Rattle.pv_calls_plain.proofs.answer.tell_front.Goals as goal
-
-pub returns : goal.returns
-returns c = λ before s after me bytes long left.
-    told_front before s c.args.parts.now c.args.pid me c.invariant.ensures.processes.ascending c.args.told bytes after _ c.tell.new.self c.args.len left
-    (to_z_pos w32 c.args.told.value (omega (arith, c.requires.small))) long c.tell.ensures

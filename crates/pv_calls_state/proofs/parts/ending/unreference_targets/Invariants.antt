@@ -1,0 +1,14 @@
+use Rattle.std.proofs.Common.{◌≡◌, ℕ, ◌+◌, drop, map}
+use Rattle.pv_calls_state.specs.Counts.{times}
+use Rattle.pv_model.specs.Calls.Restraints.{entries_of_table}
+use Rattle.pv_model.specs.Held.{held_by_table}
+use Rattle.pv_model.specs.Unveil.{target_directory}
+use Rattle.pv_tree.specs.Holding.{holds_at, collected}
+use Rattle.pv_calls_state.proofs.parts.ending.unreference_targets.Given as goal
+
+abbrev pub invariant-loop-k : goal.invariant-loop-k
+invariant-loop-k l = record {
+  nodes : l.tree.tree ≡ collected l.initial.tree.tree l.tree.holds;
+  holds : (n : ℕ) → holds_at l.tree n + times n (held_by_table l.table.table)
+      ≡ holds_at l.initial.tree n + times n (map (λ e. target_directory e.0) (drop l.k (entries_of_table l.table.table)));
+}

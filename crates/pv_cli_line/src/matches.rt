@@ -1,0 +1,349 @@
+//! The command in the matches of the parser.
+ghost use Rattle.std.specs.Prelude.{◌≡◌, ◌⊎◌, ℕ, List, codes, Option, None, Some, IfSome};
+ghost use Rattle.clap.specs.Words.{subcommand_rows_of};
+ghost use Rattle.pv_cli_line.specs.Line.{HasTexts, IsCommandIn, IsFoundIn, IsMigrationOf, IsPlain, IsPlainQuestion, IsQuestionIn, IsRunIn, IsTreeIn, IsValidTreeIn, IsWithoutNumbers, entered_text, size_in};
+
+use crate::texts::{
+    RunTexts, TreeTexts, count_of, is_flag_given, run_in, run_texts_in, size_of, states_of,
+    text_of, tree_in, tree_texts_in, version_of,
+};
+use clap::ArgMatches;
+use pv_cli_commands::{Command, RunInput, TreeInput};
+use pv_questions::{Question, TreeQuestion};
+
+// Returns the `mkimg` command, if the matches are of it.
+fn make_image_in<'a>(matches: &ArgMatches<'a>) -> Option<Command<'a>>
+    ensures found { IfSome result (IsCommandIn (subcommand_rows_of matches.now)) }
+    ensures none { result ≡ None → (manifest image : List ℕ)
+        → entered_text (subcommand_rows_of matches.now) (codes "mkimg") (codes "MANIFEST") ≡ Some manifest
+        → entered_text (subcommand_rows_of matches.now) (codes "mkimg") (codes "IMAGE") ≡ Some image → ⊥ }
+{
+    let manifest = text_of(matches, "mkimg", "MANIFEST")?;
+    let image = text_of(matches, "mkimg", "IMAGE")?;
+    Some(Command::MakeImage { manifest, image })
+}
+
+// Returns the `run` command, if the matches are of it.
+fn run_image_in<'a>(matches: &ArgMatches<'a>) -> Option<Command<'a>>
+    ensures found { IfSome result (IsCommandIn (subcommand_rows_of matches.now)) }
+    ensures none { result ≡ None → (image schedule out : List ℕ)
+        → entered_text (subcommand_rows_of matches.now) (codes "run") (codes "IMAGE") ≡ Some image
+        → entered_text (subcommand_rows_of matches.now) (codes "run") (codes "SCHEDULE") ≡ Some schedule
+        → entered_text (subcommand_rows_of matches.now) (codes "run") (codes "OUT") ≡ Some out → ⊥ }
+{
+    let image = text_of(matches, "run", "IMAGE")?;
+    let schedule = text_of(matches, "run", "SCHEDULE")?;
+    let out = text_of(matches, "run", "OUT")?;
+    Some(Command::RunImage {
+        image,
+        schedule,
+        out,
+    })
+}
+
+// Returns the `export` command, if the matches are of it.
+fn export_in<'a>(matches: &ArgMatches<'a>) -> Option<Command<'a>>
+    ensures found { IfSome result (IsCommandIn (subcommand_rows_of matches.now)) }
+    ensures none { result ≡ None → (image directory : List ℕ)
+        → entered_text (subcommand_rows_of matches.now) (codes "export") (codes "IMAGE") ≡ Some image
+        → entered_text (subcommand_rows_of matches.now) (codes "export") (codes "DIR") ≡ Some directory → ⊥ }
+{
+    let image = text_of(matches, "export", "IMAGE")?;
+    let directory = text_of(matches, "export", "DIR")?;
+    Some(Command::ExportImage { image, directory })
+}
+
+// The texts of `migrate`.
+#[derive(Clone, Copy)]
+struct Migration<'a> {
+    image: &'a str,
+    out: &'a str,
+    blocks: &'a str,
+    inodes: &'a str,
+}
+
+impl<'a> Migration<'a> {
+    // Returns the command, if both texts are numbers.
+    fn command(self) -> Option<Command<'a>>
+        ensures found { IfSome result (IsMigrationOf self.entry) }
+        ensures none { result ≡ None → (size_in self.entry.blocks.now ≡ None) ⊎ (size_in self.entry.inodes.now ≡ None) }
+    {
+        let blocks = size_of(self.blocks)?;
+        let inodes = size_of(self.inodes)?;
+        Some(Command::MigrateImage {
+            image: self.image,
+            out: self.out,
+            blocks,
+            inodes,
+        })
+    }
+}
+
+// Returns the texts of `migrate`, if the matches are of it.
+fn migration_in<'a>(matches: &ArgMatches<'a>) -> Option<Migration<'a>>
+    ensures found { IfSome result (λ texts. HasTexts (subcommand_rows_of matches.now) texts.image.now texts.out.now texts.blocks.now texts.inodes.now) }
+    ensures none { result ≡ None → (image out blocks inodes : List ℕ) → HasTexts (subcommand_rows_of matches.now) image out blocks inodes → ⊥ }
+{
+    let image = text_of(matches, "migrate", "IMAGE")?;
+    let out = text_of(matches, "migrate", "OUT")?;
+    let blocks = text_of(matches, "migrate", "BLOCKS")?;
+    let inodes = text_of(matches, "migrate", "INODES")?;
+    Some(Migration {
+        image,
+        out,
+        blocks,
+        inodes,
+    })
+}
+
+// The result of reading the matches.
+#[derive(Clone, Copy)]
+pub(crate) enum Parsed<'a> {
+    // A command.
+    Command(Command<'a>),
+    // A command with a numeric argument that is not a number.
+    Number,
+}
+
+// Returns the `reach` command, if the matches are of it.
+fn reach_in<'a>(matches: &ArgMatches<'a>) -> Option<Parsed<'a>>
+    ensures found { IfSome result (IsFoundIn (subcommand_rows_of matches.now)) }
+    ensures none { result ≡ None → (pid : Option ℕ) (run : RunInput) → IsQuestionIn (subcommand_rows_of matches.now) (Question.Reach pid) run → ⊥ }
+{
+    let RunTexts { run, further } = run_texts_in(matches, "reach", "PID")?;
+    let Some(word) = further else {
+        return Some(Parsed::Command(Command::Ask {
+            question: Question::Reach(None),
+            run,
+        }));
+    };
+    let Some(pid) = size_of(word) else {
+        return Some(Parsed::Number);
+    };
+    Some(Parsed::Command(Command::Ask {
+        question: Question::Reach(Some(pid)),
+        run,
+    }))
+}
+
+// Returns the `audit` command, if the matches are of it.
+fn audit_in<'a>(matches: &ArgMatches<'a>) -> Option<Command<'a>>
+    ensures found { IfSome result (IsCommandIn (subcommand_rows_of matches.now)) }
+    ensures none { result ≡ None → (run : RunInput) (further : Option (List ℕ)) → IsRunIn (subcommand_rows_of matches.now) (codes "audit") (codes "PATH") run further → ⊥ }
+{
+    let RunTexts { run, further } = run_texts_in(matches, "audit", "PATH")?;
+    match run {
+        RunInput::Files { image, schedule } => Some(Command::AuditImage {
+            image,
+            schedule,
+            path: further,
+        }),
+        RunInput::Bundle(_) => Some(Command::Ask {
+            question: Question::Audit(further.map(|path| path.as_bytes())),
+            run,
+        }),
+    }
+}
+
+// Returns the command of a question without a further argument, if the matches are of one.
+#[tactic(auto, using(crate::proofs::LineLemmas::no_plain_question))]
+fn plain_question_in<'a>(matches: &ArgMatches<'a>) -> Option<Command<'a>>
+    ensures found { IfSome result (IsCommandIn (subcommand_rows_of matches.now)) }
+    ensures none { result ≡ None → (question : Question) (run : RunInput) → IsPlainQuestion question → IsQuestionIn (subcommand_rows_of matches.now) question run → ⊥ }
+{
+    if let Some(run) = run_in(matches, "state") {
+        return Some(Command::Ask {
+            question: Question::State,
+            run,
+        });
+    }
+    if let Some(run) = run_in(matches, "explain") {
+        return Some(Command::Ask {
+            question: Question::Explain,
+            run,
+        });
+    }
+    let run = run_in(matches, "needs")?;
+    Some(Command::Ask {
+        question: Question::Needs,
+        run,
+    })
+}
+
+// Returns the `ls` command, if the matches are of it.
+fn list_in<'a>(matches: &ArgMatches<'a>) -> Option<Command<'a>>
+    ensures found { IfSome result (IsCommandIn (subcommand_rows_of matches.now)) }
+    ensures none { result ≡ None → (tree : TreeInput) → IsValidTreeIn (subcommand_rows_of matches.now) (codes "ls") tree → ⊥ }
+{
+    let tree = tree_in(matches, "ls")?;
+    match tree {
+        TreeInput::Image(image) => Some(Command::ListImage(image)),
+        TreeInput::Manifest(_) => Some(Command::AskTree {
+            question: TreeQuestion::Listing,
+            tree,
+        }),
+    }
+}
+
+// Returns the `cat` command, if the matches are of it.
+fn cat_in<'a>(matches: &ArgMatches<'a>) -> Option<Command<'a>>
+    ensures found { IfSome result (IsCommandIn (subcommand_rows_of matches.now)) }
+    ensures none { result ≡ None → (path : List ℕ) (tree : TreeInput) → IsTreeIn (subcommand_rows_of matches.now) (codes "cat") (codes "PATH") tree (Some path) → ⊥ }
+{
+    let TreeTexts { tree, further } = tree_texts_in(matches, "cat", "PATH")?;
+    Some(Command::AskTree {
+        question: TreeQuestion::File(further?.as_bytes()),
+        tree,
+    })
+}
+
+// Returns the `turns` command, if the matches are of it.
+fn turns_in<'a>(matches: &ArgMatches<'a>) -> Option<Parsed<'a>>
+    ensures found { IfSome result (IsFoundIn (subcommand_rows_of matches.now)) }
+    ensures none { result ≡ None → (tree : TreeInput) → IsValidTreeIn (subcommand_rows_of matches.now) (codes "turns") tree → ⊥ }
+{
+    let tree = tree_in(matches, "turns")?;
+    let Some(slice) = count_of(text_of(matches, "turns", "slice"), 1) else {
+        return Some(Parsed::Number);
+    };
+    let Some(steps) = count_of(text_of(matches, "turns", "steps"), 1_000) else {
+        return Some(Parsed::Number);
+    };
+    Some(Parsed::Command(Command::AskTree {
+        question: TreeQuestion::Turns { slice, steps },
+        tree,
+    }))
+}
+
+// Returns the `explore` command, if the matches are of it.
+fn explore_in<'a>(matches: &ArgMatches<'a>) -> Option<Parsed<'a>>
+    ensures found { IfSome result (IsFoundIn (subcommand_rows_of matches.now)) }
+    ensures none { result ≡ None → (tree : TreeInput) → IsValidTreeIn (subcommand_rows_of matches.now) (codes "explore") tree → ⊥ }
+{
+    let tree = tree_in(matches, "explore")?;
+    let Some(states) = states_of(text_of(matches, "explore", "states")) else {
+        return Some(Parsed::Number);
+    };
+    Some(Parsed::Command(Command::AskTree {
+        question: TreeQuestion::Explore { states },
+        tree,
+    }))
+}
+
+// Returns the `graph` command, if the matches are of it.
+fn graph_in<'a>(matches: &ArgMatches<'a>) -> Option<Parsed<'a>>
+    ensures found { IfSome result (IsFoundIn (subcommand_rows_of matches.now)) }
+    ensures none { result ≡ None → (tree : TreeInput) → IsValidTreeIn (subcommand_rows_of matches.now) (codes "graph") tree → ⊥ }
+{
+    let input = tree_in(matches, "graph")?;
+    let Some(states) = states_of(text_of(matches, "graph", "states")) else {
+        return Some(Parsed::Number);
+    };
+    let tree = is_flag_given(matches, "graph", "tree");
+    Some(Parsed::Command(Command::AskTree {
+        question: TreeQuestion::Graph { states, tree },
+        tree: input,
+    }))
+}
+
+// Returns the plain command in the matches, if there is one.
+#[tactic(auto, using(crate::proofs::LineLemmas::no_plain_command))]
+fn plain_command_in<'a>(matches: &ArgMatches<'a>) -> Option<Command<'a>>
+    ensures found { IfSome result (IsCommandIn (subcommand_rows_of matches.now)) }
+    ensures none { result ≡ None → (command : Command) → IsPlain command → IsCommandIn (subcommand_rows_of matches.now) command → ⊥ }
+{
+    if let Some(file) = text_of(matches, "run-tree", "FILE") {
+        return Some(Command::RunTree(file));
+    }
+    if let Some(file) = text_of(matches, "source", "FILE") {
+        return Some(Command::WriteSource(file));
+    }
+    if let Some(command) = make_image_in(matches) {
+        return Some(command);
+    }
+    if let Some(command) = run_image_in(matches) {
+        return Some(command);
+    }
+    export_in(matches)
+}
+
+// Returns the `migrate` command, if the matches are of it.
+fn migrate_in<'a>(matches: &ArgMatches<'a>) -> Option<Parsed<'a>>
+    ensures found { IfSome result (IsFoundIn (subcommand_rows_of matches.now)) }
+    ensures none { result ≡ None → (image out blocks inodes : List ℕ) → HasTexts (subcommand_rows_of matches.now) image out blocks inodes → ⊥ }
+{
+    let migration = migration_in(matches)?;
+    match migration.command() {
+        Some(command) => Some(Parsed::Command(command)),
+        None => Some(Parsed::Number),
+    }
+}
+
+// Returns the `import` command, if the matches are of it.
+fn import_in<'a>(matches: &ArgMatches<'a>) -> Option<Parsed<'a>>
+    ensures found { IfSome result (IsFoundIn (subcommand_rows_of matches.now)) }
+    ensures none { result ≡ None → (directory image : List ℕ)
+        → entered_text (subcommand_rows_of matches.now) (codes "import") (codes "DIR") ≡ Some directory
+        → entered_text (subcommand_rows_of matches.now) (codes "import") (codes "IMAGE") ≡ Some image → ⊥ }
+{
+    let directory = text_of(matches, "import", "DIR")?;
+    let image = text_of(matches, "import", "IMAGE")?;
+    let Some(version) = version_of(text_of(matches, "import", "version")) else {
+        return Some(Parsed::Number);
+    };
+    let skips = is_flag_given(matches, "import", "skip");
+    Some(Parsed::Command(Command::ImportDirectory {
+        directory,
+        image,
+        version,
+        skips,
+    }))
+}
+
+// Returns the command without numeric arguments in the matches, if there is one.
+#[tactic(auto, using(crate::proofs::LineLemmas::no_command))]
+fn command_in<'a>(matches: &ArgMatches<'a>) -> Option<Command<'a>>
+    ensures found { IfSome result (IsCommandIn (subcommand_rows_of matches.now)) }
+    ensures none { result ≡ None → (command : Command) → IsWithoutNumbers command → IsCommandIn (subcommand_rows_of matches.now) command → ⊥ }
+{
+    if let Some(command) = plain_command_in(matches) {
+        return Some(command);
+    }
+    if let Some(command) = list_in(matches) {
+        return Some(command);
+    }
+    if let Some(command) = cat_in(matches) {
+        return Some(command);
+    }
+    if let Some(command) = audit_in(matches) {
+        return Some(command);
+    }
+    plain_question_in(matches)
+}
+
+// Returns the command in the matches, if there is one.
+#[tactic(auto, using(crate::proofs::LineLemmas::no_command_at_all))]
+pub(crate) fn found_in<'a>(matches: &ArgMatches<'a>) -> Option<Parsed<'a>>
+    ensures found { IfSome result (IsFoundIn (subcommand_rows_of matches.now)) }
+    ensures none { result ≡ None → (command : Command) → IsCommandIn (subcommand_rows_of matches.now) command → ⊥ }
+{
+    if let Some(command) = command_in(matches) {
+        return Some(Parsed::Command(command));
+    }
+    if let Some(found) = migrate_in(matches) {
+        return Some(found);
+    }
+    if let Some(found) = import_in(matches) {
+        return Some(found);
+    }
+    if let Some(found) = turns_in(matches) {
+        return Some(found);
+    }
+    if let Some(found) = explore_in(matches) {
+        return Some(found);
+    }
+    if let Some(found) = graph_in(matches) {
+        return Some(found);
+    }
+    reach_in(matches)
+}

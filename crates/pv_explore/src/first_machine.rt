@@ -1,0 +1,105 @@
+//! A machine before its first step.
+ghost use Rattle.std.specs.Prelude.{◌≡◌, ◌⊎◌, Ok, Err, IfOk, IfErr};
+ghost use Rattle.pv_laws_trees.specs.Mounts.{Boots};
+ghost use Rattle.pv_laws_states.specs.States.{IsFirstTree};
+ghost use Rattle.pv_model.specs.Mount.{mounted};
+ghost use Rattle.pv_model.specs.Start.{booted};
+
+use pv_image::to_bytes;
+use pv_image_mount::mount;
+use pv_laws_trees::image_bytes::images_mount;
+use pv_model::{BootFault, ImageFault, StepFault};
+use pv_session::Session;
+use pv_tree::Store;
+use std::alloc::Global;
+use std::marker::Model;
+
+/// A machine before its first step, which can be rebuilt any number of times. A contract sees its state.
+#[derive(Drop)]
+pub struct FirstMachine {
+    // An image of its tree.
+    image: Vec<u8>,
+}
+
+impl Model for FirstMachine {
+    ghost use Rattle.pv_laws_trees.specs.Mounts.{Boots};
+    ghost use Rattle.pv_model.specs.State.{State};
+    ghost use Rattle.pv_explore.specs.FirstMachines.{first_of};
+
+    ghost Value = { State };
+
+    ghost view = { λ b. first_of b.image.items };
+
+    ghost invariant = { λ b. Boots b.image.items };
+}
+
+// Returns a copy of bytes.
+fn copy_of(alloc: Global, bytes: &[u8]) -> Result<Vec<u8>, StepFault>
+    ensures { IfOk result (λ copy. copy.items ≡ bytes.now) }
+{
+    let mut copy = Vec::new(alloc);
+    copy.extend_from_slice(bytes)?;
+    Ok(copy)
+}
+
+// Returns the store of the tree in an image.
+fn store_of(alloc: Global, image: Vec<u8>) -> Result<Store, StepFault>
+    requires { Boots image.items }
+    ensures { IfOk result (λ store. mounted image.items ≡ Ok store) }
+{
+    match mount(alloc, image) {
+        Ok(store) => Ok(store),
+        Err(ImageFault::Memory) => Err(StepFault::NoMemory),
+        Err(_) => unreachable!(),
+    }
+}
+
+// Boots a machine on a tree.
+fn boot(alloc: Global, store: Store) -> Result<Session, StepFault>
+    requires first { IsFirstTree store }
+    requires boots { (fault : BootFault) → booted store ≡ Err fault → ⊥ }
+    ensures { IfOk result (λ session. booted store ≡ Ok session) }
+{
+    match Session::new(alloc, store) {
+        Ok(session) => Ok(session),
+        Err(BootFault::Memory) => Err(StepFault::NoMemory),
+        Err(_) => unreachable!(),
+    }
+}
+
+impl FirstMachine {
+    /// Returns the machine before its first step on a tree.
+    ///
+    /// # Errors
+    ///
+    /// - `Init(0)`, if the file `init` in the root is not an executable file.
+    /// - `Init(n)`, if line n is the first line of its program that is not an instruction.
+    /// - `Memory`, if there is no memory.
+    pub fn new(alloc: Global, store: Store) -> Result<FirstMachine, BootFault>
+        requires { IsFirstTree store }
+        ensures booted { IfOk result (λ first_machine. booted store ≡ Ok first_machine) }
+        ensures refused { IfErr result (λ fault. (fault ≡ BootFault.Memory) ⊎ (booted store ≡ Err fault)) }
+    {
+        images_mount();
+        let Ok(image) = to_bytes(alloc, store.tree()) else {
+            return Err(BootFault::Memory);
+        };
+        let _ = Session::new(alloc, store)?;
+        Ok(FirstMachine { image })
+    }
+
+    /// Rebuilds the machine.
+    ///
+    /// # Errors
+    ///
+    /// `NoMemory`, if there is no memory.
+    pub(crate) fn session(&self, alloc: Global) -> Result<Session, StepFault>
+        ensures state { IfOk result (λ session. session ≡ self.now) }
+        ensures first { IfOk result (λ session. session.last_process ≡ 1) }
+    {
+        let image = copy_of(alloc, self.image.as_slice())?;
+        let store = store_of(alloc, image)?;
+        store.invariant();
+        boot(alloc, store)
+    }
+}

@@ -1,0 +1,75 @@
+//! The text of a witness.
+ghost use Rattle.std.specs.Prelude.{◌≡◌, ◌∷◌, ◌++◌, ℕ, codes, OnOk, OnErr};
+ghost use Rattle.pv_model.specs.Answers.Explore.{turn_text, witness_text};
+ghost use Rattle.pv_model.specs.Stream.{Rose};
+ghost use Rattle.pv_streams.specs.Sinks.{and_all, WritesPrefix};
+
+use itoa::Buffer;
+use pv_answers::{Decimal, Fragment, Plain};
+use pv_streams::{Failed, Sink, write_whole};
+
+/// A count in decimal digits.
+#[derive(Clone, Copy)]
+pub(crate) struct Count(pub(crate) usize);
+
+impl Fragment for Count {
+    ghost use Rattle.std.specs.Fmt.{decimal};
+
+    ghost text = { λ p. decimal p.0 };
+
+    fn write<W: Sink>(&self, out: &mut W) -> Result<(), Failed> {
+        let mut buffer = Buffer::new();
+        write_whole(out, buffer.format(self.0).as_bytes())
+    }
+}
+
+// Consecutive steps of one process.
+#[derive(Clone, Copy)]
+struct Steps {
+    pid: u32,
+    count: usize,
+}
+
+impl Fragment for Steps {
+    ghost text = { λ p. turn_text (p.pid, p.count) };
+
+    fn write<W: Sink>(&self, out: &mut W) -> Result<(), Failed> {
+        (Decimal(self.pid), Plain(b" "), Count(self.count)).write(out)
+    }
+}
+
+// Writes a witness, given its first process and the rest.
+fn write_from<W: Sink>(out: &mut W, first: u32, following: &[u32]) -> Result<(), Failed>
+    ensures whole { OnOk result (W.written out.new ≡ and_all (W.written out.old) (witness_text (first ∷ following.now))) }
+    ensures prefix { OnErr result (WritesPrefix (witness_text (first ∷ following.now)) (W.written out.old) (W.written out.new)) }
+    ensures failed { OnErr result (Rose (W.failures out.old) (W.failures out.new)) }
+    ensures quiet { OnOk result (W.failures out.new ≡ W.failures out.old) }
+{
+    let mut pid = first;
+    let mut count: usize = 1;
+    for next in following {
+        if *next == pid {
+            count += 1;
+            continue;
+        }
+        (Steps { pid, count }, Plain(b", ")).write(out)?;
+        pid = *next;
+        count = 1;
+    }
+    Steps { pid, count }.write(out)
+}
+
+/// A witness: the process numbers of its steps. Consecutive steps of one process are written once, with their count.
+#[derive(Clone, Copy)]
+pub(crate) struct Witness<'a>(pub(crate) &'a [u32]);
+
+impl<'a> Fragment for Witness<'a> {
+    ghost text = { λ p. witness_text p.0.now };
+
+    fn write<W: Sink>(&self, out: &mut W) -> Result<(), Failed> {
+        match self.0.split_first() {
+            Some((first, following)) => write_from(out, *first, following),
+            None => Ok(()),
+        }
+    }
+}

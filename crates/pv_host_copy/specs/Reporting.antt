@@ -1,0 +1,48 @@
+-- The next entry of a host directory.
+use Rattle.std.specs.Prelude.{◌≡◌, ⊤, ℕ, ◌<◌, Bool, Option, None, Some}
+use Rattle.pv_model.specs.Bytes.{Bytes}
+use Rattle.pv_host_copy.specs.declared.entry.Identity.{Identity}
+use Rattle.pv_host_copy.specs.declared.entry.HostEntry.{HostEntry}
+use Rattle.pv_host_copy.specs.declared.entry.HostNode.{HostNode}
+use Rattle.pv_host_copy.specs.declared.entry.HostNode.TheVariants.{Directory, File, Link, Other}
+use Rattle.pv_host_copy.specs.Hosts.{HostEntries, no_more, a_directory, a_file, a_link, an_other}
+
+-- a directory is its remaining entries, and a reader is its remaining bytes
+module _ {D R : Type 0} (entries_of : D → Option HostEntries) (bytes_of : R → Option Bytes) where
+  -- the node is a directory with these entries
+  abbrev pub IsDirectory : HostEntries → HostNode D R → Type 0
+  IsDirectory inside (Directory d) = entries_of d ≡ Some inside
+  IsDirectory inside _ = ⊥
+
+  -- the node is this file
+  abbrev pub IsFile : Identity → Bool → Bytes → HostNode D R → Type 0
+  IsFile identity executable bytes (File i x r) = (i ≡ identity) × (x ≡ executable) × (bytes_of r ≡ Some bytes)
+  IsFile identity executable bytes _ = ⊥
+
+  -- the node is this symbolic link
+  abbrev pub IsLink : Identity → Bytes → HostNode D R → Type 0
+  IsLink identity text (Link i t) = (i ≡ identity) × (t.items ≡ text)
+  IsLink identity text _ = ⊥
+
+  -- the node is something else
+  abbrev pub IsOther : HostNode D R → Type 0
+  IsOther Other = Unit {0}
+  IsOther _ = ⊥
+
+  -- the reported entry is the first, and the others remain
+  abbrev pub Reports : HostEntries → Option (HostEntry D R) → Option HostEntries → Type 0
+  Reports no_more None after = Unit {0}
+  Reports (a_directory name inside rest) (Some e) after = (e.name.items ≡ name) × IsDirectory inside e.node × (after ≡ Some rest)
+  Reports (a_file name identity executable bytes rest) (Some e) after = (e.name.items ≡ name) × IsFile identity executable bytes e.node × (after ≡ Some rest)
+  Reports (a_link name identity text rest) (Some e) after = (e.name.items ≡ name) × IsLink identity text e.node × (after ≡ Some rest)
+  Reports (an_other name rest) (Some e) after = (e.name.items ≡ name) × IsOther e.node × (after ≡ Some rest)
+  Reports _ _ after = ⊥
+
+-- a reported directory has fewer levels below it than this
+abbrev pub IsNodeBelow : {D R : Type 0} → (D → ℕ) → ℕ → HostNode D R → Type 0
+IsNodeBelow height levels (Directory d) = height d < levels
+IsNodeBelow height levels _ = ⊤
+
+abbrev pub IsBelow : {D R : Type 0} → (D → ℕ) → ℕ → Option (HostEntry D R) → Type 0
+IsBelow height levels None = ⊤
+IsBelow height levels (Some e) = IsNodeBelow height levels e.node

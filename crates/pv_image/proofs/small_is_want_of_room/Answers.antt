@@ -1,5 +1,0 @@
-use Rattle.pv_image.proofs.Migrations.{to-lacks, from-lacks}
-use Rattle.pv_image.proofs.small_is_want_of_room.Goals as goal
-
-pub returns : goal.returns
-returns c = λ bytes blocks inodes. (to-lacks bytes blocks inodes, from-lacks bytes blocks inodes)

@@ -1,0 +1,5 @@
+use Rattle.pv_laws_access.proofs.Inherited.{descendants-held}
+use Rattle.pv_laws_access.proofs.descent.descendants_are_held.Goals as goal
+
+pub returns : goal.returns
+returns c = descendants-held

@@ -1,0 +1,5 @@
+use Rattle.pv_laws_access.proofs.ForEver.{frozen-for_ever}
+use Rattle.pv_laws_access.proofs.sealing.frozen_for_ever.Goals as goal
+
+pub returns : goal.returns
+returns c = frozen-for_ever

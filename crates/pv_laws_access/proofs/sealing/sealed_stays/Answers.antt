@@ -1,0 +1,5 @@
+use Rattle.pv_laws_access.proofs.Invariant.{sealed-stays}
+use Rattle.pv_laws_access.proofs.sealing.sealed_stays.Goals as goal
+
+pub returns : goal.returns
+returns c = sealed-stays

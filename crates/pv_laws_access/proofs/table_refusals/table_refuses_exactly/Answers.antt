@@ -1,0 +1,5 @@
+use Rattle.pv_laws_access.proofs.Decided.{table-refuses}
+use Rattle.pv_laws_access.proofs.table_refusals.table_refuses_exactly.Goals as goal
+
+pub returns : goal.returns
+returns c = table-refuses

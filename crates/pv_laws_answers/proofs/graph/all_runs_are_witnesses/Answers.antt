@@ -1,0 +1,5 @@
+use Rattle.pv_laws_answers.proofs.Along.{all-runs-are_witnesses}
+use Rattle.pv_laws_answers.proofs.graph.all_runs_are_witnesses.Goals as goal
+
+pub returns : goal.returns
+returns c = all-runs-are_witnesses

@@ -1,0 +1,5 @@
+use Rattle.pv_laws_answers.proofs.Otherwise.{needed-letters}
+use Rattle.pv_laws_answers.proofs.process_images.listed_letters_are_needed.Goals as goal
+
+pub returns : goal.returns
+returns c = needed-letters

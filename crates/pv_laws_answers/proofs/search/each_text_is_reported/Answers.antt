@@ -1,0 +1,5 @@
+use Rattle.pv_laws_answers.proofs.Complete.{all-reported}
+use Rattle.pv_laws_answers.proofs.search.each_text_is_reported.Goals as goal
+
+pub returns : goal.returns
+returns c = λ program_of limit s pids pid it complete. all-reported program_of limit s it complete pids pid

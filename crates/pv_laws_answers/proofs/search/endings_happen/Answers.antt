@@ -1,0 +1,5 @@
+use Rattle.pv_laws_answers.proofs.Least.{ends}
+use Rattle.pv_laws_answers.proofs.search.endings_happen.Goals as goal
+
+pub returns : goal.returns
+returns c = ends

@@ -1,0 +1,5 @@
+use Rattle.pv_laws_answers.proofs.Least.{found-states}
+use Rattle.pv_laws_answers.proofs.search.states_are_reached.Goals as goal
+
+pub returns : goal.returns
+returns c = found-states

@@ -1,5 +1,0 @@
-use Rattle.pv_laws_answers.proofs.Otherwise.{enough-letters}
-use Rattle.pv_laws_answers.proofs.stints.listed_letters_are_enough.Goals as goal
-
-pub returns : goal.returns
-returns c = enough-letters

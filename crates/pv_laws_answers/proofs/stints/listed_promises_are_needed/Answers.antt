@@ -1,5 +1,0 @@
-use Rattle.pv_laws_answers.proofs.Otherwise.{needed-promises}
-use Rattle.pv_laws_answers.proofs.stints.listed_promises_are_needed.Goals as goal
-
-pub returns : goal.returns
-returns c = needed-promises

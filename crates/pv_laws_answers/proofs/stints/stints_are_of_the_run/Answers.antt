@@ -1,5 +1,0 @@
-use Rattle.pv_laws_answers.proofs.Listed.{made-in}
-use Rattle.pv_laws_answers.proofs.stints.stints_are_of_the_run.Goals as goal
-
-pub returns : goal.returns
-returns c = λ program_of pids s pid stint m is. made-in program_of pid pids s stint m is

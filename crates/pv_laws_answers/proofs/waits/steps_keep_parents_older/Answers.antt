@@ -1,0 +1,5 @@
+use Rattle.pv_laws_answers.proofs.Older.{older-step}
+use Rattle.pv_laws_answers.proofs.waits.steps_keep_parents_older.Goals as goal
+
+pub returns : goal.returns
+returns c = older-step

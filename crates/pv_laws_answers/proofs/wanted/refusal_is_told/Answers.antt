@@ -1,5 +1,0 @@
-use Rattle.pv_laws_answers.proofs.Wants.{refusal-told}
-use Rattle.pv_laws_answers.proofs.wanted.refusal_is_told.Goals as goal
-
-pub returns : goal.returns
-returns c = λ program_of s pid p call number walk place at is plain within found end. refusal-told program_of s pid p call at plain number walk place found end is within

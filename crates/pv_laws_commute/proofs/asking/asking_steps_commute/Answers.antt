@@ -1,5 +1,0 @@
-use Rattle.pv_laws_commute.proofs.AskSteps.{asks-commute}
-use Rattle.pv_laws_commute.proofs.asking.asking_steps_commute.Goals as goal
-
-pub returns : goal.returns
-returns c = asks-commute

@@ -1,5 +1,0 @@
-use Rattle.pv_laws_commute.proofs.BesideSteps.{others-alter-nothing}
-use Rattle.pv_laws_commute.proofs.beside.others_alter_nothing.Goals as goal
-
-pub returns : goal.returns
-returns c = others-alter-nothing

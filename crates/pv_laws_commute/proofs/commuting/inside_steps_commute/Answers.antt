@@ -1,5 +1,0 @@
-use Rattle.pv_laws_commute.proofs.Commuted.{inside-commute}
-use Rattle.pv_laws_commute.proofs.commuting.inside_steps_commute.Goals as goal
-
-pub returns : goal.returns
-returns c = λ program_of s j k whole apart one two. inside-commute program_of s whole j k apart one two

@@ -1,5 +1,0 @@
-use Rattle.pv_laws_commute.proofs.Inward.{where-inside}
-use Rattle.pv_laws_commute.proofs.commuting.steps_stay_inside.Goals as goal
-
-pub returns : goal.returns
-returns c = where-inside

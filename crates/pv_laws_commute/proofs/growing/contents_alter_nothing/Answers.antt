@@ -1,5 +1,0 @@
-use Rattle.pv_laws_commute.proofs.OtherBytes.{contents-alter-nothing}
-use Rattle.pv_laws_commute.proofs.growing.contents_alter_nothing.Goals as goal
-
-pub returns : goal.returns
-returns c = contents-alter-nothing

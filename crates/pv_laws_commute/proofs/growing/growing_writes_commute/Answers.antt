@@ -1,5 +1,0 @@
-use Rattle.pv_laws_commute.proofs.WriteSteps.{growing-writes-commute}
-use Rattle.pv_laws_commute.proofs.growing.growing_writes_commute.Goals as goal
-
-pub returns : goal.returns
-returns c = growing-writes-commute

@@ -1,5 +1,0 @@
-use Rattle.pv_laws_commute.proofs.DirectorySteps.{directories-commute}
-use Rattle.pv_laws_commute.proofs.holding.directory_steps_commute.Goals as goal
-
-pub returns : goal.returns
-returns c = directories-commute

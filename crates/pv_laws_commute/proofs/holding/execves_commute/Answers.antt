@@ -1,5 +1,0 @@
-use Rattle.pv_laws_commute.proofs.ExecveSteps.{execves-commute}
-use Rattle.pv_laws_commute.proofs.holding.execves_commute.Goals as goal
-
-pub returns : goal.returns
-returns c = λ program_of spells s j k p path whole apart at comes alive leaves files way. execves-commute program_of spells s j k p path whole apart at comes leaves files way alive

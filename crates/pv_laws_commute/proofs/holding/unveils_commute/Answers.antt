@@ -1,5 +1,0 @@
-use Rattle.pv_laws_commute.proofs.UnveilSteps.{unveils-commute}
-use Rattle.pv_laws_commute.proofs.holding.unveils_commute.Goals as goal
-
-pub returns : goal.returns
-returns c = λ program_of spells s j k p path permissions whole apart at comes alive way. unveils-commute program_of spells s j k p path permissions whole apart at comes way alive

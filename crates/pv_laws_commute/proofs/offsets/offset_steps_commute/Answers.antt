@@ -1,5 +1,0 @@
-use Rattle.pv_laws_commute.proofs.OffsetSteps.{offsets-commute}
-use Rattle.pv_laws_commute.proofs.offsets.offset_steps_commute.Goals as goal
-
-pub returns : goal.returns
-returns c = offsets-commute

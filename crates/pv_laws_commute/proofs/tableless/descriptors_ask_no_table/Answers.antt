@@ -1,5 +1,0 @@
-use Rattle.pv_laws_commute.proofs.Relabelled.{descriptors-ask-no_table}
-use Rattle.pv_laws_commute.proofs.tableless.descriptors_ask_no_table.Goals as goal
-
-pub returns : goal.returns
-returns c = λ program_of s pid p call table locked whole at comes is same. descriptors-ask-no_table pid table locked program_of s p call whole at comes is same

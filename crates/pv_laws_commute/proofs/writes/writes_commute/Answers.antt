@@ -1,5 +1,0 @@
-use Rattle.pv_laws_commute.proofs.WriteSteps.{writes-commute}
-use Rattle.pv_laws_commute.proofs.writes.writes_commute.Goals as goal
-
-pub returns : goal.returns
-returns c = writes-commute

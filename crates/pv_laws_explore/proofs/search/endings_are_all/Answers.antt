@@ -1,5 +1,0 @@
-use Rattle.pv_laws_explore.proofs.Complete.{all-endings}
-use Rattle.pv_laws_explore.proofs.search.endings_are_all.Goals as goal
-
-pub returns : goal.returns
-returns c = λ program_of limit s pids it complete. all-endings program_of limit s it complete pids

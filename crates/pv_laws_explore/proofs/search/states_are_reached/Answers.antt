@@ -1,5 +1,0 @@
-use Rattle.pv_laws_explore.proofs.Least.{found-states}
-use Rattle.pv_laws_explore.proofs.search.states_are_reached.Goals as goal
-
-pub returns : goal.returns
-returns c = found-states

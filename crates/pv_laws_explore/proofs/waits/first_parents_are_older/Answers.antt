@@ -1,5 +1,0 @@
-use Rattle.pv_laws_explore.proofs.Older.{first-older}
-use Rattle.pv_laws_explore.proofs.waits.first_parents_are_older.Goals as goal
-
-pub returns : goal.returns
-returns c = first-older

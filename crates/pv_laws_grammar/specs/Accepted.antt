@@ -1,0 +1,42 @@
+-- The texts that the machine accepts: manifests and bundles.
+use Rattle.std.specs.Prelude.{◌≡◌, ◌⊎◌, true, codes, Ok}
+use Rattle.std.specs.List.{AllByRecursion}
+use Rattle.pv_model.specs.Bytes.{Bytes}
+use Rattle.pv_model.specs.Grammar.Lines.{lines_of}
+use Rattle.pv_model.specs.Grammar.Manifests.{Manifest, read_manifest, read_bundle, path_of, tree_of}
+use Rattle.pv_model.specs.Grammar.Programs.{read_program}
+use Rattle.pv_model.specs.Grammar.Schedules.{schedule_of_lines}
+use Rattle.pv_model.specs.Grammar.Texts.{ended}
+use Rattle.pv_model.specs.Manifest.{Entry, make}
+use Rattle.pv_model.specs.State.{Program}
+use Rattle.pv_model.specs.Step.{Schedule}
+use Rattle.pv_model.specs.Tree.{Tree, file_node}
+
+-- an entry with the path `/init` is an executable file whose bytes are a program
+abbrev pub IsRightInit : Entry → Type 0
+IsRightInit e = path_of e ≡ codes "/init" → (bytes : Bytes) × (program : Program) × (e ≡ make (codes "/init") (file_node true bytes)) × (read_program bytes ≡ Ok program)
+
+-- the entries of a manifest make a tree, and `/init` is a program
+pub record IsRight (m : Manifest) : Type 0 where
+  pub tree : Tree
+  pub made : tree_of m ≡ Ok tree
+  pub init : AllByRecursion (λ e. IsRightInit e.1) m.listed.entries
+
+pub record IsBundle (text : Bytes) : Type 0 where
+  pub manifest : Manifest
+  pub schedule : Schedule
+  pub read : read_bundle text ≡ Ok manifest
+  pub right : IsRight manifest
+  pub turns : schedule_of_lines manifest.listed.following ≡ Ok schedule
+
+pub record IsManifest (text : Bytes) : Type 0 where
+  pub manifest : Manifest
+  pub read : read_manifest text ≡ Ok manifest
+  pub right : IsRight manifest
+
+abbrev pub IsAccepted : Bytes → Type 0
+IsAccepted text = IsBundle text ⊎ IsManifest text
+
+-- each line of a text ends with an LF
+abbrev pub IsEnded : Bytes → Type 0
+IsEnded text = text ≡ ended (lines_of text)

@@ -1,5 +1,0 @@
-use Rattle.pv_laws_images.proofs.Blocks.{blocks-fine, fine-blocks}
-use Rattle.pv_laws_images.proofs.blocks_are_tested.Goals as goal
-
-pub returns : goal.returns
-returns c = λ v bytes n. (blocks-fine v bytes n, fine-blocks v bytes n)

@@ -1,5 +1,0 @@
-use Rattle.pv_laws_images.proofs.Faults.{named, answered}
-use Rattle.pv_laws_images.proofs.first_fault_is_named.Goals as goal
-
-pub returns : goal.returns
-returns c = λ bytes fault. (named bytes fault, answered bytes fault)

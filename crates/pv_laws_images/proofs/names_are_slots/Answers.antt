@@ -1,5 +1,0 @@
-use Rattle.pv_laws_images.proofs.Names.{as_many_names}
-use Rattle.pv_laws_images.proofs.names_are_slots.Goals as goal
-
-pub returns : goal.returns
-returns c = λ v bytes n once. as_many_names v bytes once n

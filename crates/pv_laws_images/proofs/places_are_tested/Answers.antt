@@ -1,5 +1,0 @@
-use Rattle.pv_laws_images.proofs.Places.{place-fine, fine-place}
-use Rattle.pv_laws_images.proofs.places_are_tested.Goals as goal
-
-pub returns : goal.returns
-returns c = λ v bytes n. (place-fine v bytes n, fine-place v bytes n)

@@ -1,7 +1,0 @@
-use Rattle.pv_model.specs.Mount.{inode_number}
-use Rattle.pv_laws_images.proofs.Names.{within-reached}
-use Rattle.pv_laws_images.proofs.Reached.{reached-within}
-use Rattle.pv_laws_images.proofs.reached_in_few_steps.Goals as goal
-
-pub returns : goal.returns
-returns c = λ v bytes n once has. (within-reached v bytes once (inode_number bytes) n, reached-within v bytes once has n)

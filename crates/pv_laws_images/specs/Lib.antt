@@ -1,5 +1,0 @@
-pub mod Faults
-pub mod Slots
-pub mod Starts
-pub mod Inodes
-pub mod Mounts

@@ -1,3 +1,0 @@
-pub mod Larger
-pub mod Images
-pub mod Examples

@@ -1,5 +1,0 @@
-use Rattle.pv_laws_names.proofs.Moved.{permissions-come}
-use Rattle.pv_laws_names.proofs.moves.permissions_come_by_moves.Goals as goal
-
-pub returns : goal.returns
-returns c = λ program_of spells s pid f table d name k whole there found governs. permissions-come program_of spells s pid whole table f d name k there found governs

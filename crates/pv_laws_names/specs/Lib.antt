@@ -1,4 +1,0 @@
-pub mod Moves
-pub mod Order
-pub mod Examples
-pub mod OrderExamples

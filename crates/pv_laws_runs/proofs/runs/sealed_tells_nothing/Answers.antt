@@ -1,8 +1,0 @@
-use Rattle.pv_model.specs.Grammar.Programs.{program_of}
-use Rattle.pv_laws_secrecy.proofs.ForEver.{sealed-for_ever}
-use Rattle.pv_laws_runs.proofs.Ranges.{program_of-spells}
-use Rattle.pv_laws_runs.proofs.Starting.{reached-whole}
-use Rattle.pv_laws_runs.proofs.runs.sealed_tells_nothing.Goals as goal
-
-pub returns : goal.returns
-returns c = λ bytes s pids f hidden is. sealed-for_ever program_of program_of-spells s pids f hidden (reached-whole bytes s is)

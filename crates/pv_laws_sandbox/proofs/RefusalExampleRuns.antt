@@ -1,8 +1,0 @@
--- The refusals of two worked runs, by computing.
-use Rattle.std.proofs.Common.{refl}
-use Rattle.pv_model.specs.OnLiterals.{machine_on_literals}
-use Rattle.pv_laws_sandbox.specs.RefusalExamples.{RefusalExamples}
-
-pub refusals-happen : RefusalExamples
-unfolding machine_on_literals
-refusals-happen = record { none_governs = refl; lacks_permission = refl; would_widen = refl; locked = refl; increase = refl; exec_increase = refl; kill = refl; missing = refl }

@@ -1,5 +1,0 @@
-use Rattle.pv_laws_sandbox.proofs.Inherited.{descendants-held}
-use Rattle.pv_laws_sandbox.proofs.descent.descendants_are_held.Goals as goal
-
-pub returns : goal.returns
-returns c = descendants-held

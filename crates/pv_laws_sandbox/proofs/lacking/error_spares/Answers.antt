@@ -1,5 +1,0 @@
-use Rattle.pv_laws_sandbox.proofs.Refused.{error-spares}
-use Rattle.pv_laws_sandbox.proofs.lacking.error_spares.Goals as goal
-
-pub returns : goal.returns
-returns c = λ program_of s pid p a at lenient. error-spares program_of s pid p at a lenient

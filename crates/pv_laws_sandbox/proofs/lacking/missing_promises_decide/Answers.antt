@@ -1,5 +1,0 @@
-use Rattle.pv_laws_sandbox.proofs.Refused.{missing-decides}
-use Rattle.pv_laws_sandbox.proofs.lacking.missing_promises_decide.Goals as goal
-
-pub returns : goal.returns
-returns c = λ program_of s pid p call at is. missing-decides program_of s pid p at call is

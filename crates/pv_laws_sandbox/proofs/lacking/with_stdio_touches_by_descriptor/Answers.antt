@@ -1,5 +1,0 @@
-use Rattle.pv_laws_sandbox.proofs.Missing.{touches-by_descriptor}
-use Rattle.pv_laws_sandbox.proofs.lacking.with_stdio_touches_by_descriptor.Goals as goal
-
-pub returns : goal.returns
-returns c = touches-by_descriptor

@@ -1,5 +1,0 @@
-use Rattle.pv_laws_sandbox.proofs.Missing.{walks-nowhere}
-use Rattle.pv_laws_sandbox.proofs.lacking.with_stdio_walks_nowhere.Goals as goal
-
-pub returns : goal.returns
-returns c = walks-nowhere

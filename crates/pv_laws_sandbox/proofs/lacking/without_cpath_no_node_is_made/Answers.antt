@@ -1,5 +1,0 @@
-use Rattle.pv_laws_sandbox.proofs.Missing.{no-node_made}
-use Rattle.pv_laws_sandbox.proofs.lacking.without_cpath_no_node_is_made.Goals as goal
-
-pub returns : goal.returns
-returns c = no-node_made

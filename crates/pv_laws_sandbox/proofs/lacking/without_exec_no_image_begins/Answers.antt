@@ -1,5 +1,0 @@
-use Rattle.pv_laws_sandbox.proofs.Missing.{no-image}
-use Rattle.pv_laws_sandbox.proofs.lacking.without_exec_no_image_begins.Goals as goal
-
-pub returns : goal.returns
-returns c = no-image

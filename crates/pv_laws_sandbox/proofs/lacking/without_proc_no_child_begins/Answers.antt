@@ -1,5 +1,0 @@
-use Rattle.pv_laws_sandbox.proofs.Missing.{no-child}
-use Rattle.pv_laws_sandbox.proofs.lacking.without_proc_no_child_begins.Goals as goal
-
-pub returns : goal.returns
-returns c = no-child

@@ -1,5 +1,0 @@
-use Rattle.pv_laws_sandbox.proofs.Missing.{bytes-by_descriptor}
-use Rattle.pv_laws_sandbox.proofs.lacking.without_wpath_bytes_change_by_descriptor.Goals as goal
-
-pub returns : goal.returns
-returns c = bytes-by_descriptor

@@ -1,5 +1,0 @@
-use Rattle.pv_laws_sandbox.proofs.Firsts.{first-missing-named}
-use Rattle.pv_laws_sandbox.proofs.promises.first_missing_is_named.Goals as goal
-
-pub returns : goal.returns
-returns c = first-missing-named

@@ -1,5 +1,0 @@
-use Rattle.pv_laws_sandbox.proofs.Pledged.{promise-refuses}
-use Rattle.pv_laws_sandbox.proofs.promises.promise_refuses_exactly.Goals as goal
-
-pub returns : goal.returns
-returns c = λ program_of s pid me call errno a at. promise-refuses program_of s pid me call at errno a

@@ -1,5 +1,0 @@
-use Rattle.pv_laws_sandbox.proofs.RefusalExampleRuns.{refusals-happen}
-use Rattle.pv_laws_sandbox.proofs.refusal_examples.refusals_happen.Goals as goal
-
-pub returns : goal.returns
-returns c = refusals-happen

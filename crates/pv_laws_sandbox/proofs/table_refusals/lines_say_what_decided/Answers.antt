@@ -1,5 +1,0 @@
-use Rattle.pv_laws_sandbox.proofs.TableSays.{lines-say}
-use Rattle.pv_laws_sandbox.proofs.table_refusals.lines_say_what_decided.Goals as goal
-
-pub returns : goal.returns
-returns c = lines-say

@@ -1,5 +1,0 @@
-use Rattle.pv_laws_sandbox.proofs.Judged.{judgement-as_said}
-use Rattle.pv_laws_sandbox.proofs.tables.judgement_is_as_said.Goals as goal
-
-pub returns : goal.returns
-returns c = judgement-as_said

@@ -1,5 +1,0 @@
-use Rattle.pv_laws_secrecy.proofs.Provenance.{each-has_origin}
-use Rattle.pv_laws_secrecy.proofs.origins.each_has_an_origin.Goals as goal
-
-pub returns : goal.returns
-returns c = each-has_origin

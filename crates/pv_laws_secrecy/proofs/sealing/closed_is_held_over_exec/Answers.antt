@@ -1,5 +1,0 @@
-use Rattle.pv_laws_secrecy.proofs.Invariant.{closed-held}
-use Rattle.pv_laws_secrecy.proofs.sealing.closed_is_held_over_exec.Goals as goal
-
-pub returns : goal.returns
-returns c = closed-held

@@ -1,5 +1,0 @@
-use Rattle.pv_laws_secrecy.proofs.Invariant.{frozen-stays}
-use Rattle.pv_laws_secrecy.proofs.sealing.frozen_stays.Goals as goal
-
-pub returns : goal.returns
-returns c = frozen-stays

@@ -1,0 +1,5 @@
+use Rattle.pv_laws_states.proofs.Outcomes.{refused-reports}
+use Rattle.pv_laws_states.proofs.calls.refused_only_reports.Goals as goal
+
+pub returns : goal.returns
+returns c = refused-reports

@@ -1,0 +1,5 @@
+use Rattle.pv_laws_steps.proofs.AskSteps.{fstats-commute}
+use Rattle.pv_laws_steps.proofs.asking.fstats_commute.Goals as goal
+
+pub returns : goal.returns
+returns c = fstats-commute

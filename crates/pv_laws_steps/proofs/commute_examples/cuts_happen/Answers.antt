@@ -1,0 +1,5 @@
+use Rattle.pv_laws_steps.proofs.GrowingExamples.{cuts-happen}
+use Rattle.pv_laws_steps.proofs.commute_examples.cuts_happen.Goals as goal
+
+pub returns : goal.returns
+returns c = cuts-happen

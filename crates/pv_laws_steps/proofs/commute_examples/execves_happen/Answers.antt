@@ -1,0 +1,5 @@
+use Rattle.pv_laws_steps.proofs.HoldingExamples.{execves-happen}
+use Rattle.pv_laws_steps.proofs.commute_examples.execves_happen.Goals as goal
+
+pub returns : goal.returns
+returns c = execves-happen

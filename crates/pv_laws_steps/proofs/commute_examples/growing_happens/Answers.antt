@@ -1,0 +1,5 @@
+use Rattle.pv_laws_steps.proofs.GrowingExamples.{growing-happens}
+use Rattle.pv_laws_steps.proofs.commute_examples.growing_happens.Goals as goal
+
+pub returns : goal.returns
+returns c = growing-happens

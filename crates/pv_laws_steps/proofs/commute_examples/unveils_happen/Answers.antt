@@ -1,0 +1,5 @@
+use Rattle.pv_laws_steps.proofs.HoldingExamples.{unveils-happen}
+use Rattle.pv_laws_steps.proofs.commute_examples.unveils_happen.Goals as goal
+
+pub returns : goal.returns
+returns c = unveils-happen

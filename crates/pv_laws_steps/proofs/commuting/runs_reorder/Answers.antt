@@ -1,0 +1,5 @@
+use Rattle.pv_laws_steps.proofs.Reordered.{runs-reorder}
+use Rattle.pv_laws_steps.proofs.commuting.runs_reorder.Goals as goal
+
+pub returns : goal.returns
+returns c = runs-reorder

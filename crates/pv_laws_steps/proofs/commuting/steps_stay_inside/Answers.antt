@@ -1,0 +1,5 @@
+use Rattle.pv_laws_steps.proofs.Inward.{where-inside}
+use Rattle.pv_laws_steps.proofs.commuting.steps_stay_inside.Goals as goal
+
+pub returns : goal.returns
+returns c = where-inside

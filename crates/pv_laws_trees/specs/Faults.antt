@@ -1,0 +1,9 @@
+-- The first error of bytes that are not an image.
+use Rattle.std.specs.Prelude.{◌≡◌, ◌↔◌, Err}
+use Rattle.pv_model.specs.declared.fault.ImageFault.{ImageFault}
+use Rattle.pv_model.specs.Bytes.{Bytes}
+use Rattle.pv_model.specs.Mount.{mounted, IsFaultOf}
+
+-- `mounted` gives an error if and only if it is the first
+abbrev pub FirstFaultIsNamed : Type 0
+FirstFaultIsNamed = (bytes : Bytes) (fault : ImageFault) → (mounted bytes ≡ Err fault) ↔ IsFaultOf bytes fault

@@ -1,0 +1,291 @@
+//! Answers, written and flushed.
+ghost use Rattle.std.specs.Prelude.{◌≡◌, ◌⊎◌, ◌≤◌, [], Err, IfErr, OnOk, OnErr};
+ghost use Rattle.pv_answers.specs.Reaching.{reached_by};
+ghost use Rattle.pv_model.specs.Answers.Explain.{explain_lines};
+ghost use Rattle.pv_model.specs.Answers.Explore.{explore_lines};
+ghost use Rattle.pv_model.specs.Answers.Graph.{graph_lines};
+ghost use Rattle.pv_model.specs.Answers.Lines.{answer_bytes};
+ghost use Rattle.pv_model.specs.Answers.Needs.{needs_lines};
+ghost use Rattle.pv_model.specs.Answers.ProcessRecord.{state_lines};
+ghost use Rattle.pv_model.specs.Answers.Reach.{reach_lines};
+ghost use Rattle.pv_model.specs.Answers.Turns.{schedule_text, turns};
+ghost use Rattle.pv_model.specs.Grammar.Programs.{program_of};
+ghost use Rattle.pv_model.specs.Listing.{listing, report};
+ghost use Rattle.pv_model.specs.Sealed.{verdict_line};
+ghost use Rattle.pv_model.specs.Step.{steps_of};
+ghost use Rattle.pv_model.specs.Stream.{Rose};
+ghost use Rattle.pv_dirs.specs.Trees.{bytes_at};
+ghost use Rattle.pv_questions.specs.Files.{IsFileAt};
+ghost use Rattle.pv_questions.specs.Asking.{BufferedOnlyIfUnwritten, IsWritingStop};
+ghost use Rattle.pv_streams.specs.Sinks.{and_all, WritesPrefix};
+
+use crate::file::write_file;
+use crate::stop::AskStop;
+use pv_answers::{write_reach, write_reach_of, write_state};
+use pv_calls_state::Parts;
+use pv_explain::{Explainer, explain_schedule};
+use pv_explore::{FirstMachine, Progress, write_explore, write_graph};
+use pv_listing::{ListStop, write_listing};
+use pv_model::{RunFault, Verdict};
+use pv_needs::{write_needs, write_turns};
+use pv_run::{Ready, write_report, write_verdict};
+use pv_session::{Session, Stop};
+use pv_streams::Sink;
+use pv_tree::Tree;
+use std::alloc::Global;
+
+// Flushes the text of an answer: all of it, or a prefix if there is no memory.
+fn flush_buffer<W: Sink>(end: Result<(), Stop>, out: &mut W) -> Result<(), AskStop>
+    ensures preserved { W.written out.new ≡ W.written out.old }
+    ensures done { OnOk result (OnErr end ⊥) }
+    ensures empty { OnOk result (W.buffered out.new ≡ 0) }
+    ensures kind { IfErr result IsWritingStop }
+    ensures stopped { IfErr result (λ stop. BufferedOnlyIfUnwritten stop (W.buffered out.new)) }
+    ensures failed { result ≡ Err AskStop.Write → (end ≡ Err Stop.Write) ⊎ Rose (W.failures out.old) (W.failures out.new) }
+    ensures counted { end ≡ Err Stop.Write → W.failures out.new ≡ W.failures out.old }
+{
+    match end {
+        Ok(()) => {
+            out.flush()?;
+            Ok(())
+        }
+        Err(Stop::Memory) => {
+            out.flush()?;
+            Err(AskStop::Machine(RunFault::Memory))
+        }
+        Err(Stop::Write) => Err(AskStop::Write),
+    }
+}
+
+// Writes the state of each process.
+#[tactic(auto, using(pv_streams::proofs::Sinks::begins_whole))]
+pub(crate) fn report_state<W: Sink>(parts: &Parts, out: &mut W) -> Result<(), AskStop>
+    ensures whole { OnOk result (W.written out.new ≡ and_all (W.written out.old) (answer_bytes (state_lines parts.now))) }
+    ensures prefix { OnErr result (WritesPrefix (answer_bytes (state_lines parts.now)) (W.written out.old) (W.written out.new)) }
+    ensures empty { OnOk result (W.buffered out.new ≡ 0) }
+    ensures kind { IfErr result IsWritingStop }
+    ensures stopped { IfErr result (λ stop. BufferedOnlyIfUnwritten stop (W.buffered out.new)) }
+    ensures failed { result ≡ Err AskStop.Write → Rose (W.failures out.old) (W.failures out.new) }
+{
+    write_state(out, parts)?;
+    out.flush()?;
+    Ok(())
+}
+
+// Writes the permissions of each live process.
+#[tactic(auto, using(pv_streams::proofs::Sinks::begins_whole))]
+pub(crate) fn report_reach<W: Sink>(parts: &Parts, out: &mut W) -> Result<(), AskStop>
+    ensures whole { OnOk result (W.written out.new ≡ and_all (W.written out.old) (answer_bytes (reach_lines parts.now))) }
+    ensures prefix { OnErr result (WritesPrefix (answer_bytes (reach_lines parts.now)) (W.written out.old) (W.written out.new)) }
+    ensures empty { OnOk result (W.buffered out.new ≡ 0) }
+    ensures kind { IfErr result IsWritingStop }
+    ensures stopped { IfErr result (λ stop. BufferedOnlyIfUnwritten stop (W.buffered out.new)) }
+    ensures failed { result ≡ Err AskStop.Write → Rose (W.failures out.old) (W.failures out.new) }
+{
+    write_reach(out, parts)?;
+    out.flush()?;
+    Ok(())
+}
+
+// Writes the permissions of a process, if it is live.
+#[tactic(auto, using(pv_streams::proofs::Sinks::begins_whole))]
+pub(crate) fn report_reach_of<W: Sink>(parts: &Parts, pid: u32, out: &mut W) -> Result<(), AskStop>
+    ensures whole { OnOk result (W.written out.new ≡ and_all (W.written out.old) (answer_bytes (reached_by parts.now pid))) }
+    ensures prefix { OnErr result (WritesPrefix (answer_bytes (reached_by parts.now pid)) (W.written out.old) (W.written out.new)) }
+    ensures empty { OnOk result (W.buffered out.new ≡ 0) }
+    ensures kind { IfErr result IsWritingStop }
+    ensures stopped { IfErr result (λ stop. BufferedOnlyIfUnwritten stop (W.buffered out.new)) }
+    ensures failed { result ≡ Err AskStop.Write → Rose (W.failures out.old) (W.failures out.new) }
+{
+    write_reach_of(out, parts, pid)?;
+    out.flush()?;
+    Ok(())
+}
+
+// Writes the line of a verdict.
+#[tactic(auto, using(pv_streams::proofs::Sinks::begins_whole))]
+pub(crate) fn report_verdict<W: Sink>(verdict: &Verdict, out: &mut W) -> Result<(), AskStop>
+    ensures whole { OnOk result (W.written out.new ≡ and_all (W.written out.old) (verdict_line verdict.now)) }
+    ensures prefix { OnErr result (WritesPrefix (verdict_line verdict.now) (W.written out.old) (W.written out.new)) }
+    ensures empty { OnOk result (W.buffered out.new ≡ 0) }
+    ensures kind { IfErr result IsWritingStop }
+    ensures stopped { IfErr result (λ stop. BufferedOnlyIfUnwritten stop (W.buffered out.new)) }
+    ensures failed { result ≡ Err AskStop.Write → Rose (W.failures out.old) (W.failures out.new) }
+{
+    write_verdict(out, verdict)?;
+    out.flush()?;
+    Ok(())
+}
+
+// Writes the verdicts on all files of a machine.
+#[tactic(auto, using(pv_streams::proofs::Sinks::begins_whole))]
+pub(crate) fn report_audit<W: Sink>(
+    alloc: Global,
+    session: &Session,
+    out: &mut W,
+) -> Result<(), AskStop>
+    ensures whole { OnOk result (W.written out.new ≡ and_all (W.written out.old) (report session.now)) }
+    ensures prefix { OnErr result (WritesPrefix (report session.now) (W.written out.old) (W.written out.new)) }
+    ensures empty { OnOk result (W.buffered out.new ≡ 0) }
+    ensures kind { IfErr result IsWritingStop }
+    ensures stopped { IfErr result (λ stop. BufferedOnlyIfUnwritten stop (W.buffered out.new)) }
+    ensures failed { result ≡ Err AskStop.Write → Rose (W.failures out.old) (W.failures out.new) }
+{
+    match write_report(alloc, session, out) {
+        Ok(()) => {
+            out.flush()?;
+            Ok(())
+        }
+        Err(ListStop::Memory) => {
+            out.flush()?;
+            Err(AskStop::Machine(RunFault::Memory))
+        }
+        Err(ListStop::Write) => Err(AskStop::Write),
+    }
+}
+
+// Writes the explained steps of a schedule.
+#[tactic(auto, using(pv_streams::proofs::Sinks::begins_whole))]
+pub(crate) fn report_steps<W: Sink>(
+    alloc: Global,
+    explainer: &mut Explainer,
+    ready: &mut Ready,
+    out: &mut W,
+) -> Result<(), AskStop>
+    requires { explainer.old ≡ [] }
+    ensures whole { OnOk result (W.written out.new ≡ and_all (W.written out.old) (answer_bytes (explain_lines program_of (steps_of ready.old.schedule) ready.old.session))) }
+    ensures prefix { OnErr result (WritesPrefix (answer_bytes (explain_lines program_of (steps_of ready.old.schedule) ready.old.session)) (W.written out.old) (W.written out.new)) }
+    ensures empty { OnOk result (W.buffered out.new ≡ 0) }
+    ensures kind { IfErr result IsWritingStop }
+    ensures stopped { IfErr result (λ stop. BufferedOnlyIfUnwritten stop (W.buffered out.new)) }
+    ensures failed { result ≡ Err AskStop.Write → Rose (W.failures out.old) (W.failures out.new) }
+{
+    let turns = ready.schedule.turns();
+    let end = explain_schedule(alloc, &mut ready.session, explainer, turns, out);
+    flush_buffer(end, out)
+}
+
+// Writes the demands of each program in the steps of a schedule.
+#[tactic(auto, using(pv_streams::proofs::Sinks::begins_whole))]
+pub(crate) fn report_needs<W: Sink>(
+    alloc: Global,
+    ready: &mut Ready,
+    out: &mut W,
+) -> Result<(), AskStop>
+    ensures whole { OnOk result (W.written out.new ≡ and_all (W.written out.old) (answer_bytes (needs_lines program_of (steps_of ready.old.schedule) ready.old.session))) }
+    ensures prefix { OnErr result (WritesPrefix (answer_bytes (needs_lines program_of (steps_of ready.old.schedule) ready.old.session)) (W.written out.old) (W.written out.new)) }
+    ensures empty { OnOk result (W.buffered out.new ≡ 0) }
+    ensures kind { IfErr result IsWritingStop }
+    ensures stopped { IfErr result (λ stop. BufferedOnlyIfUnwritten stop (W.buffered out.new)) }
+    ensures failed { result ≡ Err AskStop.Write → Rose (W.failures out.old) (W.failures out.new) }
+{
+    let end = write_needs(alloc, &mut ready.session, ready.schedule.turns(), out);
+    flush_buffer(end, out)
+}
+
+// Writes the listing of a tree.
+#[tactic(auto, using(pv_streams::proofs::Sinks::begins_whole))]
+pub(crate) fn report_listing<W: Sink>(
+    alloc: Global,
+    tree: &Tree,
+    out: &mut W,
+) -> Result<(), AskStop>
+    ensures whole { OnOk result (W.written out.new ≡ and_all (W.written out.old) (listing tree.now.tree)) }
+    ensures prefix { OnErr result (WritesPrefix (listing tree.now.tree) (W.written out.old) (W.written out.new)) }
+    ensures empty { OnOk result (W.buffered out.new ≡ 0) }
+    ensures kind { IfErr result IsWritingStop }
+    ensures stopped { IfErr result (λ stop. BufferedOnlyIfUnwritten stop (W.buffered out.new)) }
+    ensures failed { result ≡ Err AskStop.Write → Rose (W.failures out.old) (W.failures out.new) }
+{
+    match write_listing(alloc, tree, out) {
+        Ok(()) => {
+            out.flush()?;
+            Ok(())
+        }
+        Err(ListStop::Memory) => {
+            out.flush()?;
+            Err(AskStop::Machine(RunFault::Memory))
+        }
+        Err(ListStop::Write) => Err(AskStop::Write),
+    }
+}
+
+// Writes a fair schedule of a machine.
+#[tactic(auto, using(pv_streams::proofs::Sinks::begins_whole))]
+pub(crate) fn report_turns<W: Sink>(
+    alloc: Global,
+    session: &mut Session,
+    slice: u32,
+    steps: u32,
+    out: &mut W,
+) -> Result<(), AskStop>
+    requires { 1 ≤ slice }
+    ensures whole { OnOk result (W.written out.new ≡ and_all (W.written out.old) (schedule_text (turns program_of slice steps session.old))) }
+    ensures prefix { OnErr result (WritesPrefix (schedule_text (turns program_of slice steps session.old)) (W.written out.old) (W.written out.new)) }
+    ensures empty { OnOk result (W.buffered out.new ≡ 0) }
+    ensures kind { IfErr result IsWritingStop }
+    ensures stopped { IfErr result (λ stop. BufferedOnlyIfUnwritten stop (W.buffered out.new)) }
+    ensures failed { result ≡ Err AskStop.Write → Rose (W.failures out.old) (W.failures out.new) }
+{
+    let end = write_turns(alloc, session, slice, steps, out);
+    flush_buffer(end, out)
+}
+
+// Writes what can happen under any schedule of a machine.
+#[tactic(auto, using(pv_streams::proofs::Sinks::begins_whole))]
+pub(crate) fn report_explore<W: Sink, P: Progress>(
+    alloc: Global,
+    first_machine: &FirstMachine,
+    states: u32,
+    progress: &mut P,
+    out: &mut W,
+) -> Result<(), AskStop>
+    requires { 1 ≤ states }
+    ensures whole { OnOk result (W.written out.new ≡ and_all (W.written out.old) (answer_bytes (explore_lines program_of states first_machine.now))) }
+    ensures prefix { OnErr result (WritesPrefix (answer_bytes (explore_lines program_of states first_machine.now)) (W.written out.old) (W.written out.new)) }
+    ensures empty { OnOk result (W.buffered out.new ≡ 0) }
+    ensures kind { IfErr result IsWritingStop }
+    ensures stopped { IfErr result (λ stop. BufferedOnlyIfUnwritten stop (W.buffered out.new)) }
+    ensures failed { result ≡ Err AskStop.Write → Rose (W.failures out.old) (W.failures out.new) }
+{
+    let end = write_explore(alloc, first_machine, states, progress, out);
+    flush_buffer(end, out)
+}
+
+// Writes the state graph of a machine.
+#[tactic(auto, using(pv_streams::proofs::Sinks::begins_whole))]
+pub(crate) fn report_graph<W: Sink, P: Progress>(
+    alloc: Global,
+    first_machine: &FirstMachine,
+    states: u32,
+    tree: bool,
+    progress: &mut P,
+    out: &mut W,
+) -> Result<(), AskStop>
+    requires { 1 ≤ states }
+    ensures whole { OnOk result (W.written out.new ≡ and_all (W.written out.old) (answer_bytes (graph_lines program_of states tree first_machine.now))) }
+    ensures prefix { OnErr result (WritesPrefix (answer_bytes (graph_lines program_of states tree first_machine.now)) (W.written out.old) (W.written out.new)) }
+    ensures empty { OnOk result (W.buffered out.new ≡ 0) }
+    ensures kind { IfErr result IsWritingStop }
+    ensures stopped { IfErr result (λ stop. BufferedOnlyIfUnwritten stop (W.buffered out.new)) }
+    ensures failed { result ≡ Err AskStop.Write → Rose (W.failures out.old) (W.failures out.new) }
+{
+    let end = write_graph(alloc, first_machine, states, tree, progress, out);
+    flush_buffer(end, out)
+}
+
+// Writes the bytes of a file.
+#[tactic(auto, using(pv_streams::proofs::Sinks::begins_whole))]
+pub(crate) fn report_file<W: Sink>(tree: &Tree, node: u16, out: &mut W) -> Result<(), AskStop>
+    requires { IsFileAt tree.now.tree node }
+    ensures whole { OnOk result (W.written out.new ≡ and_all (W.written out.old) (bytes_at tree.now.tree node)) }
+    ensures prefix { OnErr result (WritesPrefix (bytes_at tree.now.tree node) (W.written out.old) (W.written out.new)) }
+    ensures empty { OnOk result (W.buffered out.new ≡ 0) }
+    ensures kind { IfErr result IsWritingStop }
+    ensures stopped { IfErr result (λ stop. BufferedOnlyIfUnwritten stop (W.buffered out.new)) }
+    ensures failed { result ≡ Err AskStop.Write → Rose (W.failures out.old) (W.failures out.new) }
+{
+    write_file(out, tree, node)?;
+    out.flush()?;
+    Ok(())
+}

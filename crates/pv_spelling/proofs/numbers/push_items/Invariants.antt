@@ -1,6 +1,0 @@
-use Rattle.std.proofs.Common.{take}
-use Rattle.pv_spelling.specs.Packed.{IsAdded}
-use Rattle.pv_spelling.proofs.numbers.push_items.Given as goal
-
-abbrev pub invariant-loop-byte : goal.invariant-loop-byte
-invariant-loop-byte l = IsAdded (take l.byte-index l.bytes) l.fn.key.items l.key.items

@@ -1,4 +1,0 @@
-pub mod Packed
-pub mod Parts
-pub mod Groups
-pub mod Spelled

@@ -1,0 +1,157 @@
+-- The groups of a state: nodes group by group, and the concatenation of all groups.
+use Rattle.std.proofs.Common.{◌≡◌, ◌∙◌, sym, ap, ap₂, ℕ, zero, suc, ◌+◌, ◌-◌, ◌<◌, ◌≤◌, ◌⊎◌, inl, inr, List, [], ◌∷◌, ◌++◌, length, map, take, drop, get_or, flat_map, append_assoc, append-nil, add-one, refl, arith}
+use Rattle.std.proofs.lemmas.Grind.{flat_map-append}
+use Rattle.std.proofs.lemmas.List.{drop-drop, drop_all, length-drop, map-append, take-append-drop, take_all}
+use Rattle.std.proofs.Math.Seq.{drop-cons}
+use Rattle.pv_model.specs.Answers.Numbers.{Numbers, bytes_numbers, file_numbers, instruction_numbers, list_numbers, node_numbers, number_numbers, option_numbers, record_numbers, state_numbers, tree_numbers, version_numbers}
+use Rattle.pv_model.specs.Bytes.{Bytes}
+use Rattle.pv_model.specs.Numbered.{Numbered, at_number}
+use Rattle.pv_model.specs.State.{ProcessRecord, live, ended_record, State}
+use Rattle.pv_model.specs.Tree.{Node, Tree}
+use Rattle.pv_procs.specs.Parts.{record_of}
+use Rattle.pv_state_encoding.specs.declared.trees.TheConstants.{GROUP_SIZES}
+use Rattle.pv_state_encoding.specs.Groups.{counts_part, files_part, joined, node_groups, node_part, record_parts, state_groups, tree_part}
+use Rattle.pv_state_encoding.specs.Packed.{packed_all, IsAdded}
+use Rattle.pv_state_encoding.specs.Parts.{held_numbers}
+use Rattle.pv_state_encoding.proofs.Adding.{packed-append}
+use Rattle.pv_state_encoding.proofs.Numbering.{take-at}
+use Rattle.pv_state_encoding.proofs.Owned.{process-is}
+
+-- numbers appended to nothing
+pub added_whole : (ns : Numbers) (old new : Bytes) → old ≡ [] → IsAdded ns old new → new ≡ packed_all ns
+added_whole ns old new none added = added.is ∙ ap (λ bs. bs ++ packed_all ns) none
+
+-- ---- nodes, group by group
+
+at-drop : (xs : Numbered Node) (from i : ℕ) → at_number (drop from xs) i ≡ at_number xs (from + i)
+at-drop xs zero i = let same : 0 + i ≡ i = omega arith in ap (at_number xs) (sym same)
+at-drop [] (suc from) i = refl
+at-drop (x ∷ xs) (suc from) i = let more : suc from + i ≡ suc (from + i) = omega arith in at-drop xs from i ∙ ap (at_number (x ∷ xs)) (sym more)
+
+module _ (nodes : Numbered Node) where
+  -- the nodes in a range of numbers that excludes its end
+  abbrev pub parts_between : ℕ → ℕ → List Bytes
+  parts_between from end = map node_part (take (end - from) (drop from nodes))
+
+  pub between-start : (from : ℕ) → [] ≡ parts_between from from
+  between-start from = let none : from - from ≡ 0 = omega arith in ap (λ k. map node_part (take k (drop from nodes))) (sym none)
+
+  pub between-next : (from node : ℕ) (now new : List Bytes) (part : Bytes) → from ≤ node → node < length nodes → part ≡ node_part (at_number nodes node) → new ≡ now ++ part ∷ [] → now ≡ parts_between from node
+      → new ≡ parts_between from (node + 1)
+  between-next from node now new part low within is added so_far =
+      let k : ℕ = node - from in
+      let here : from + (node - from) ≡ node = omega arith in
+      let more : node + 1 - from ≡ suc (node - from) = omega arith in
+      let inside : node - from < length (drop from nodes) = omega (arith, length-drop from nodes) in
+      added ∙ ap₂ (λ (ps : List Bytes) (p : Bytes). ps ++ p ∷ []) so_far (is ∙ ap (λ n. node_part (at_number nodes n)) (sym here) ∙ ap node_part (sym (at-drop nodes from (node - from))))
+      ∙ sym (map-append node_part (take (node - from) (drop from nodes)) (at_number (drop from nodes) (node - from) ∷ []))
+      ∙ ap (map node_part) (sym (take-at (drop from nodes) (node - from) inside) ∙ ap (λ j. take j (drop from nodes)) (sym more))
+
+  -- the end of a group of this size
+  abbrev pub EndsAfter : ℕ → ℕ → ℕ → Type 0
+  EndsAfter from size end = (end ≡ from + size) ⊎ ((end ≡ length nodes) × (length nodes ≤ from + size))
+
+  first-group : (from size end : ℕ) → EndsAfter from size end → (take size (drop from nodes) ≡ take (end - from) (drop from nodes)) × (drop size (drop from nodes) ≡ drop end nodes)
+  first-group from size end (inl is) =
+      let many : size ≡ end - from = omega arith in (ap (λ k. take k (drop from nodes)) many, drop-drop size from nodes ∙ ap (λ k. drop k nodes) (sym is))
+  first-group from size end (inr past) =
+      let is = past.0 in
+      let more = past.1 in (
+        take_all size (drop from nodes) (omega (arith, length-drop from nodes)) ∙ sym (take_all (end - from) (drop from nodes) (omega (arith, length-drop from nodes))),
+        drop_all size (drop from nodes) (omega (arith, length-drop from nodes)) ∙ sym (drop_all end nodes (omega arith)),
+      )
+
+  pub grouped-next : (sizes : List ℕ) (i from end : ℕ) (now new all : List (List Bytes)) (group : List Bytes) → i < length sizes → EndsAfter from (get_or sizes i 0) end → group ≡ parts_between from end → new ≡ now ++ group ∷ []
+      → now ++ node_groups (drop i sizes) (drop from nodes) ≡ all → new ++ node_groups (drop (i + 1) sizes) (drop end nodes) ≡ all
+  grouped-next sizes i from end now new all group within ends is added so_far =
+      let size : ℕ = get_or sizes i 0 in
+      let first = first-group from (get_or sizes i 0) end ends in
+      let rest : List (List Bytes) = node_groups (drop (i + 1) sizes) (drop end nodes) in
+      ap (λ gs. gs ++ rest) (added ∙ ap (λ (g : List Bytes). now ++ g ∷ []) (is ∙ ap (map node_part) (sym first.0)))
+      ∙ append_assoc now (map node_part (take (get_or sizes i 0) (drop from nodes)) ∷ []) rest
+      ∙ ap (λ (xs : Numbered Node). now ++ map node_part (take (get_or sizes i 0) (drop from nodes)) ∷ node_groups (drop (i + 1) sizes) xs) (sym first.1)
+      ∙ ap (λ (ks : List ℕ). now ++ node_groups ks (drop from nodes)) (sym (drop-cons sizes i 0 within ∙ ap (λ k. get_or sizes i 0 ∷ drop k sizes) (sym (add-one i))))
+      ∙ so_far
+
+  pub grouped-end : (sizes : List ℕ) (i from count : ℕ) (now new all : List (List Bytes)) (group : List Bytes) → length sizes ≤ i → count ≡ length nodes → group ≡ parts_between from count → new ≡ now ++ group ∷ []
+      → now ++ node_groups (drop i sizes) (drop from nodes) ≡ all → new ≡ all
+  grouped-end sizes i from count now new all group past is group_is added so_far =
+      added ∙ ap (λ (g : List Bytes). now ++ g ∷ []) (group_is ∙ ap (map node_part) (take_all (count - from) (drop from nodes) (omega (arith, length-drop from nodes))))
+      ∙ ap (λ (ks : List ℕ). now ++ node_groups ks (drop from nodes)) (sym (drop_all i sizes past))
+      ∙ so_far
+
+-- ---- the groups of a state, in sequence
+
+pub all-grouped : (s : State) (start one two three all : List (List Bytes)) (counts files : List Bytes) → start ≡ [] → one ≡ start ++ counts ∷ [] → two ≡ one ++ map record_parts s.processes → three ≡ two ++ files ∷ []
+    → all ≡ three ++ node_groups GROUP_SIZES s.tree.nodes → counts ≡ counts_part s.last_process (length s.processes) ∷ [] → files ≡ files_part s.files ∷ tree_part s.tree ∷ [] → all ≡ state_groups s
+unfolding state_groups
+all-grouped s start one two three all counts files none first second third last counts_is files_is =
+    let nodes : List (List Bytes) = node_groups GROUP_SIZES s.tree.nodes in
+    let records : List (List Bytes) = map record_parts s.processes in
+    last ∙ ap (λ (gs : List (List Bytes)). gs ++ nodes) (third ∙ ap (λ (gs : List (List Bytes)). gs ++ files ∷ []) (second ∙ ap (λ (gs : List (List Bytes)). gs ++ records) (first ∙ ap (λ (gs : List (List Bytes)). gs ++ counts ∷ []) none)))
+    ∙ append_assoc (counts ∷ records) (files ∷ []) nodes
+    ∙ ap₂ (λ (a b : List Bytes). a ∷ (records ++ b ∷ nodes)) counts_is files_is
+
+-- ---- the concatenation is the encoding of the state
+
+abbrev together : List Bytes → Bytes
+together g = flat_map (λ p. p) g
+
+nodes-together : (nodes : Numbered Node) → together (map node_part nodes) ≡ packed_all (flat_map (option_numbers node_numbers) nodes)
+nodes-together [] = refl
+nodes-together (n ∷ nodes) = ap (λ bs. node_part n ++ bs) (nodes-together nodes) ∙ sym (packed-append (option_numbers node_numbers n) (flat_map (option_numbers node_numbers) nodes))
+
+nodes-joined : (sizes : List ℕ) (nodes : Numbered Node) → joined (node_groups sizes nodes) ≡ packed_all (flat_map (option_numbers node_numbers) nodes)
+nodes-joined [] nodes = append-nil (together (map node_part nodes)) ∙ nodes-together nodes
+nodes-joined (size ∷ sizes) nodes =
+    let numbers : Numbered Node → Numbers = flat_map (option_numbers node_numbers) in
+    ap₂ (λ (a b : Bytes). a ++ b) (nodes-together (take size nodes)) (nodes-joined sizes (drop size nodes))
+    ∙ sym (packed-append (numbers (take size nodes)) (numbers (drop size nodes)))
+    ∙ ap packed_all (sym (flat_map-append (option_numbers node_numbers) (take size nodes) (drop size nodes)) ∙ ap numbers (take-append-drop size nodes))
+
+three : (a b c : Bytes) → a ++ (b ++ (c ++ [])) ≡ (a ++ b) ++ c
+three a b c = ap (λ (x : Bytes). a ++ (b ++ x)) (append-nil c) ∙ sym (append_assoc a b c)
+
+record-together : (r : ℕ × ProcessRecord) → together (record_parts r) ≡ packed_all (record_numbers r)
+record-together (pid, live p) =
+    let held : Numbers = pid ∷ 0 ∷ held_numbers (record_of p) p.parent in
+    let program : Numbers = list_numbers instruction_numbers p.program in
+    let buffer : Numbers = bytes_numbers p.buffer in
+    three (packed_all held) (packed_all program) (packed_all buffer)
+    ∙ ap (λ (bs : Bytes). bs ++ packed_all buffer) (sym (packed-append held program))
+    ∙ sym (packed-append (held ++ program) buffer)
+    ∙ ap (λ (ns : Numbers). packed_all (pid ∷ 0 ∷ ns)) (sym (process-is p))
+record-together (pid, ended_record parent status) = append-nil (packed_all (record_numbers (pid, ended_record parent status)))
+
+records-joined : (rs : List (ℕ × ProcessRecord)) → joined (map record_parts rs) ≡ packed_all (flat_map record_numbers rs)
+records-joined [] = refl
+records-joined (r ∷ rs) = ap₂ (λ (a b : Bytes). a ++ b) (record-together r) (records-joined rs) ∙ sym (packed-append (record_numbers r) (flat_map record_numbers rs))
+
+regroup : (a b c d e : Bytes) → (a ++ []) ++ (b ++ ((c ++ (d ++ [])) ++ e)) ≡ ((a ++ b) ++ c) ++ (d ++ e)
+regroup a b c d e =
+    ap₂ (λ (x y : Bytes). x ++ (b ++ ((c ++ y) ++ e))) (append-nil a) (append-nil d)
+    ∙ ap (λ (x : Bytes). a ++ (b ++ x)) (append_assoc c d e)
+    ∙ sym (append_assoc a b (c ++ (d ++ e)))
+    ∙ sym (append_assoc (a ++ b) c (d ++ e))
+
+tree-is : (t : Tree) → packed_all (tree_numbers t) ≡ tree_part t ++ packed_all (flat_map (option_numbers node_numbers) t.nodes)
+unfolding tree_numbers
+tree-is t =
+    let sizes : Numbers = version_numbers t.version ++ number_numbers t.blocks ++ number_numbers t.inodes in
+    let nodes : Numbers = flat_map (option_numbers node_numbers) t.nodes in
+    ap packed_all (sym (append_assoc sizes (length t.nodes ∷ []) nodes)) ∙ packed-append (sizes ++ length t.nodes ∷ []) nodes
+
+pub state-joined : (s : State) → joined (state_groups s) ≡ packed_all (state_numbers s)
+unfolding state_groups state_numbers
+state-joined s =
+    let counts : Numbers = s.last_process ∷ length s.processes ∷ [] in
+    let records : Numbers = flat_map record_numbers s.processes in
+    let files : Numbers = list_numbers (option_numbers file_numbers) s.files in
+    let nodes : Numbers = flat_map (option_numbers node_numbers) s.tree.nodes in
+    ap (λ (bs : Bytes). (packed_all counts ++ []) ++ bs)
+    (flat_map-append together (map record_parts s.processes) ((files_part s.files ∷ tree_part s.tree ∷ []) ∷ node_groups GROUP_SIZES s.tree.nodes)
+    ∙ ap₂ (λ (a b : Bytes). a ++ ((packed_all files ++ (tree_part s.tree ++ [])) ++ b)) (records-joined s.processes) (nodes-joined GROUP_SIZES s.tree.nodes))
+    ∙ regroup (packed_all counts) (packed_all records) (packed_all files) (tree_part s.tree) (packed_all nodes)
+    ∙ ap₂ (λ (a b : Bytes). (a ++ packed_all files) ++ b) (sym (packed-append counts records)) (sym (tree-is s.tree))
+    ∙ ap (λ (bs : Bytes). bs ++ packed_all (tree_numbers s.tree)) (sym (packed-append (counts ++ records) files))
+    ∙ sym (packed-append ((counts ++ records) ++ files) (tree_numbers s.tree))

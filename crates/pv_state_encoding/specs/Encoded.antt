@@ -1,0 +1,104 @@
+-- A state as groups, and for each live process its outside view, the part on which the steps of other processes depend.
+use Rattle.std.specs.Prelude.{ℕ, false, if◌then◌else◌, ◌==◌, List, [], ◌∷◌, ◌++◌, length, map, Option, None, Some}
+use Rattle.pv_model.specs.Answers.Numbers.{Numbers, descriptor_numbers, entry_numbers, list_numbers, option_numbers}
+use Rattle.pv_model.specs.Bytes.{Bytes}
+use Rattle.pv_model.specs.State.{Process, ProcessRecord, live, ended_record, State}
+use Rattle.pv_procs.specs.declared.record.ProcessRecord.{ProcessRecord as Owned}
+use Rattle.pv_state_encoding.specs.declared.encoded.EncodedGroup.{EncodedGroup}
+use Rattle.pv_state_encoding.specs.declared.encoded.EncodedGroup.TheVariants.{Plain, Live}
+use Rattle.pv_state_encoding.specs.declared.trees.TheConstants.{GROUP_SIZES}
+use Rattle.pv_state_encoding.specs.Groups.{counts_part, ended_parts, files_part, node_groups, parts_of, process_parts, tree_part}
+use Rattle.pv_state_encoding.specs.Packed.{packed_all}
+
+-- ---- the part of the state on which the steps of other processes depend
+
+-- the outside view of a process: its parent, its directory, its descriptors, and its table
+abbrev pub outside : Process → Process
+outside p = record {
+  promises = None;
+  execpromises = None;
+  table = p.table;
+  locked = false;
+  directory = p.directory;
+  descriptors = p.descriptors;
+  program = [];
+  line = 0;
+  registers = [];
+  buffer = [];
+  parent = p.parent;
+}
+
+abbrev pub outside_record : ProcessRecord → ProcessRecord
+outside_record (live p) = live (outside p)
+outside_record (ended_record parent status) = ended_record parent status
+
+abbrev pub outside_but : ℕ → ℕ × ProcessRecord → ℕ × ProcessRecord
+outside_but pid r = (r.0, if r.0 == pid then r.1 else outside_record r.1)
+
+-- the state with each process except this one replaced by its outside view
+abbrev pub seen_state : ℕ → State → State
+seen_state pid s = record s { processes = map (outside_but pid) s.processes }
+
+-- ---- groups with their owners
+
+-- a group, the live process that owns it or 0, and its outside view
+pub record Encoded : Type 0 where
+  pub group : List Bytes
+  pub owner : ℕ
+  pub outside : List Bytes
+
+abbrev pub plain : List Bytes → Encoded
+plain g = record { group = g; owner = 0; outside = g }
+
+abbrev pub encoded_record : ℕ × ProcessRecord → Encoded
+encoded_record (pid, live p) = record { group = process_parts pid p; owner = pid; outside = process_parts pid (outside p) }
+encoded_record (pid, ended_record parent status) = plain (ended_parts pid parent status)
+
+-- the groups before those of processes, and those after them
+abbrev pub counts_group : State → List Bytes
+counts_group s = counts_part s.last_process (length s.processes) ∷ []
+
+abbrev pub tree_groups : State → List (List Bytes)
+tree_groups s = (files_part s.files ∷ tree_part s.tree ∷ []) ∷ node_groups GROUP_SIZES s.tree.nodes
+
+-- the groups of a state
+unfoldable pub encoded : State → List Encoded
+encoded s = plain (counts_group s) ∷ (map encoded_record s.processes ++ map plain (tree_groups s))
+
+-- the part of a group on which a step of a process depends
+abbrev pub seen_of : ℕ → Encoded → List Bytes
+seen_of pid c = if c.owner == pid then c.group else c.outside
+
+-- ---- in code
+
+-- the numbers of an outside view; omitted fields are 0
+abbrev pub bare_numbers : ℕ → ℕ → ℕ → Numbers
+bare_numbers pid parent directory = pid ∷ 0 ∷ 0 ∷ 0 ∷ parent ∷ directory ∷ 0 ∷ 0 ∷ 0 ∷ []
+
+abbrev pub outside_numbers : ℕ → Owned → ℕ → Numbers
+outside_numbers pid r parent = bare_numbers pid parent r.directory ++ list_numbers (option_numbers descriptor_numbers) r.descriptors ++ option_numbers (list_numbers entry_numbers) r.unveiled.table
+
+abbrev pub outside_parts : ℕ → Owned → ℕ → List Bytes
+outside_parts pid r parent = packed_all (outside_numbers pid r parent) ∷ packed_all (0 ∷ []) ∷ packed_all (0 ∷ []) ∷ []
+
+-- the outside view of a live process, if there is one
+abbrev pub live_outside : ℕ → Option Process → List Bytes
+live_outside pid None = []
+live_outside pid (Some p) = process_parts pid (outside p)
+
+abbrev pub live_encoded : ℕ → Option Process → Encoded
+live_encoded pid None = plain []
+live_encoded pid (Some p) = encoded_record (pid, live p)
+
+-- the group of the process with a number, if it has a record
+abbrev pub numbered_encoded : ℕ → Option ProcessRecord → Encoded
+numbered_encoded pid None = plain []
+numbered_encoded pid (Some r) = encoded_record (pid, r)
+
+-- the group of the code as a group of the definitions
+abbrev pub encoded_of : EncodedGroup → Encoded
+encoded_of (Plain g) = plain (parts_of g)
+encoded_of (Live pid g o) = record { group = parts_of g; owner = pid; outside = parts_of o }
+
+abbrev pub encoded_all : List EncodedGroup → List Encoded
+encoded_all gs = map encoded_of gs

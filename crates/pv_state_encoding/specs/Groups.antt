@@ -1,0 +1,78 @@
+-- A state as groups of parts, each a byte string. A part that many states share is a part of its own. The concatenation
+-- of all parts is the encoding of the state.
+use Rattle.std.specs.Prelude.{ℕ, List, [], ◌∷◌, ◌++◌, length, map, take, drop, flat_map, Option, None, Some}
+use Rattle.std.specs.Global.{Vec}
+use Rattle.pv_model.specs.Answers.Numbers.{bytes_numbers, file_numbers, instruction_numbers, list_numbers, node_numbers, number_numbers, option_numbers, version_numbers}
+use Rattle.pv_model.specs.Bytes.{Bytes}
+use Rattle.pv_model.specs.State.{OpenFile, Process, Program, ProcessRecord as Record, live, ended_record, State}
+use Rattle.pv_model.specs.Tree.{Node, Tree}
+use Rattle.pv_procs.specs.Parts.{record_of}
+use Rattle.pv_procs.specs.declared.record.ProcessRecord.{ProcessRecord}
+use Rattle.pv_state_encoding.specs.declared.trees.TheConstants.{GROUP_SIZES}
+use Rattle.pv_state_encoding.specs.Packed.{packed_all}
+use Rattle.pv_state_encoding.specs.Parts.{held_numbers}
+
+-- the groups of the code as groups of the definitions
+abbrev pub parts_of : Vec (Vec ℕ) → List Bytes
+parts_of group = map (λ p. p.items) group.items
+
+abbrev pub groups_of : List (Vec (Vec ℕ)) → List (List Bytes)
+groups_of groups = map parts_of groups
+
+-- the concatenation of groups
+abbrev pub joined : List (List Bytes) → Bytes
+joined groups = flat_map (λ g. flat_map (λ p. p) g) groups
+
+-- ---- processes
+
+-- the part without program and buffer, the program, and the buffer
+abbrev pub owned_parts : ℕ → ProcessRecord → ℕ → Program → Bytes → List Bytes
+owned_parts pid r parent program buffer =
+    packed_all (pid ∷ 0 ∷ held_numbers r parent) ∷ packed_all (list_numbers instruction_numbers program) ∷ packed_all (bytes_numbers buffer) ∷ []
+
+abbrev pub process_parts : ℕ → Process → List Bytes
+process_parts pid p = owned_parts pid (record_of p) p.parent p.program p.buffer
+
+abbrev pub ended_parts : ℕ → ℕ → ℕ → List Bytes
+ended_parts pid parent status = packed_all (number_numbers pid ++ 1 ∷ number_numbers parent ++ number_numbers status) ∷ []
+
+abbrev pub record_parts : ℕ × Record → List Bytes
+record_parts (pid, live p) = process_parts pid p
+record_parts (pid, ended_record parent status) = ended_parts pid parent status
+
+-- the parts of the process with a number, if it has a record
+abbrev pub numbered_parts : ℕ → Option Record → List Bytes
+numbered_parts pid None = []
+numbered_parts pid (Some r) = record_parts (pid, r)
+
+-- the parts of a live process, if there is one
+abbrev pub live_parts : ℕ → Option Process → List Bytes
+live_parts pid None = []
+live_parts pid (Some p) = process_parts pid p
+
+-- ---- the tree
+
+abbrev pub node_part : Option Node → Bytes
+node_part node = packed_all (option_numbers node_numbers node)
+
+-- nodes in groups of these sizes; the last group has the rest
+abbrev pub node_groups : List ℕ → List (Option Node) → List (List Bytes)
+node_groups [] nodes = map node_part nodes ∷ []
+node_groups (size ∷ sizes) nodes = map node_part (take size nodes) ∷ node_groups sizes (drop size nodes)
+
+abbrev pub tree_part : Tree → Bytes
+tree_part t = packed_all (version_numbers t.version ++ number_numbers t.blocks ++ number_numbers t.inodes ++ length t.nodes ∷ [])
+
+-- ---- the state
+
+abbrev pub files_part : List (Option OpenFile) → Bytes
+files_part files = packed_all (list_numbers (option_numbers file_numbers) files)
+
+abbrev pub counts_part : ℕ → ℕ → Bytes
+counts_part last count = packed_all (last ∷ count ∷ [])
+
+-- the groups of a state
+unfoldable pub state_groups : State → List (List Bytes)
+state_groups s =
+    (counts_part s.last_process (length s.processes) ∷ [])
+    ∷ (map record_parts s.processes ++ (files_part s.files ∷ tree_part s.tree ∷ []) ∷ node_groups GROUP_SIZES s.tree.nodes)

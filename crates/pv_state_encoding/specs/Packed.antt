@@ -1,0 +1,21 @@
+-- Numbers as bytes: a small number takes one byte.
+use Rattle.std.specs.Prelude.{◌≡◌, ℕ, zero, suc, ◌+◌, ◌/◌, ◌%◌, if◌then◌else◌, nat_lt, [], ◌∷◌, ◌++◌, flat_map}
+use Rattle.pv_model.specs.Answers.Numbers.{Numbers}
+use Rattle.pv_model.specs.Bytes.{Bytes}
+
+-- seven bits in each byte, the lowest first, in at most this many bytes before the last; a byte of 128 or more is
+-- followed by another
+abbrev pub packed_in : ℕ → ℕ → Bytes
+packed_in zero n = n ∷ []
+packed_in (suc k) n = if nat_lt n 128 then n ∷ [] else (128 + n % 128) ∷ packed_in k (n / 128)
+
+-- a number of 64 bits in at most ten bytes
+unfoldable pub packed : ℕ → Bytes
+packed n = packed_in 9 n
+
+abbrev pub packed_all : Numbers → Bytes
+packed_all ns = flat_map packed ns
+
+-- the encoding of numbers is appended
+pub record IsAdded (ns : Numbers) (old new : Bytes) : Type 0 where
+  pub is : new ≡ old ++ packed_all ns

@@ -1,0 +1,23 @@
+-- The numbers of a process's record.
+use Rattle.std.specs.Prelude.{ℕ, ◌++◌, Option, None, Some, []}
+use Rattle.pv_model.specs.Answers.Numbers.{Numbers, bool_numbers, descriptor_numbers, entry_numbers, integer_numbers, list_numbers, number_numbers, option_numbers}
+use Rattle.pv_procs.specs.declared.record.ProcessRecord.{ProcessRecord}
+
+-- the numbers of an optional value
+abbrev pub if_there : {X : Type 0} → (X → Numbers) → Option X → Numbers
+if_there numbers None = []
+if_there numbers (Some x) = numbers x
+
+-- the line, the registers, the parent and the directory
+abbrev pub location_numbers : ProcessRecord → ℕ → Numbers
+location_numbers r parent = number_numbers r.context.line ++ list_numbers integer_numbers r.context.registers ++ number_numbers parent ++ number_numbers r.directory
+
+-- the same, then the lock and the promises
+abbrev pub promised_numbers : ProcessRecord → ℕ → Numbers
+promised_numbers r parent =
+    location_numbers r parent ++ bool_numbers r.unveiled.locked ++ option_numbers number_numbers r.pledge.promises ++ option_numbers number_numbers r.pledge.execpromises
+
+-- the same, then the descriptors and the table
+abbrev pub held_numbers : ProcessRecord → ℕ → Numbers
+held_numbers r parent =
+    promised_numbers r parent ++ list_numbers (option_numbers descriptor_numbers) r.descriptors ++ option_numbers (list_numbers entry_numbers) r.unveiled.table

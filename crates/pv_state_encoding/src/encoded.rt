@@ -1,0 +1,106 @@
+//! Groups of a state, with the processes that own them.
+ghost use Rattle.std.specs.Prelude.{◌≡◌, ◌∷◌, ◌++◌, [], map, IsSome, IfOk, OnOk};
+ghost use Rattle.std.specs.FinMap.Entries.{find};
+ghost use Rattle.std.specs.Ordering.{nat_cmp};
+ghost use Rattle.pv_procs.specs.ProcessTable.{process_in};
+ghost use Rattle.pv_state_encoding.specs.Groups.{groups_of, parts_of};
+ghost use Rattle.pv_state_encoding.specs.Encoded.{live_encoded, numbered_encoded, plain, encoded_all, encoded_of, encoded_record};
+
+use crate::outsides::outside_of_live;
+use crate::processes::{group_live, group_of_process};
+use pv_procs::Processes;
+use std::alloc::{AllocError, Global};
+
+/// A group of a state.
+#[derive(Drop)]
+pub enum EncodedGroup {
+    /// A group that belongs to no live process.
+    Plain(Vec<Vec<u8>>),
+    /// The group of a live process: its number, the group, and the outside view, that is, the part of the process on
+    /// which the steps of other processes depend.
+    Live(u32, Vec<Vec<u8>>, Vec<Vec<u8>>),
+}
+
+// Returns the group of a live process.
+fn encoded_live(alloc: Global, processes: &Processes, pid: u32) -> Result<EncodedGroup, AllocError>
+    requires { IsSome (process_in processes.now pid) }
+    ensures { IfOk result (λ group. encoded_of group ≡ live_encoded pid (process_in processes.now pid)) }
+{
+    let outside = outside_of_live(alloc, processes, pid)?;
+    let group = group_live(alloc, processes, pid)?;
+    Ok(EncodedGroup::Live(pid, group, outside))
+}
+
+// Returns the group of a process. It is empty if there is no such process.
+fn encoded_process(
+    alloc: Global,
+    processes: &Processes,
+    pid: u32,
+) -> Result<EncodedGroup, AllocError>
+    ensures { IfOk result (λ group. encoded_of group ≡ numbered_encoded pid (find nat_cmp pid processes.now.processes)) }
+{
+    if processes.live(pid) {
+        return encoded_live(alloc, processes, pid);
+    }
+    Ok(EncodedGroup::Plain(group_of_process(alloc, processes, pid)?))
+}
+
+// Appends a group.
+fn push_encoded(encoded: &mut Vec<EncodedGroup>, group: EncodedGroup) -> Result<(), AllocError>
+    ensures { OnOk result (encoded_all encoded.new.items ≡ encoded_all encoded.old.items ++ encoded_of group ∷ []) }
+{
+    encoded.push(group)?;
+    Ok(())
+}
+
+/// Appends a group that belongs to no live process.
+///
+/// # Errors
+///
+/// `AllocError`, if there is no memory.
+pub(crate) fn push_plain(
+    encoded: &mut Vec<EncodedGroup>,
+    group: Vec<Vec<u8>>,
+) -> Result<(), AllocError>
+    ensures { OnOk result (encoded_all encoded.new.items ≡ encoded_all encoded.old.items ++ plain (parts_of group) ∷ []) }
+{
+    push_encoded(encoded, EncodedGroup::Plain(group))
+}
+
+/// Appends groups that belong to no live process.
+///
+/// # Errors
+///
+/// `AllocError`, if there is no memory.
+pub(crate) fn push_plains(
+    encoded: &mut Vec<EncodedGroup>,
+    groups: Vec<Vec<Vec<u8>>>,
+) -> Result<(), AllocError>
+    ensures { OnOk result (encoded_all encoded.new.items ≡ encoded_all encoded.old.items ++ map plain (groups_of groups.items)) }
+{
+    for group in groups {
+        push_plain(encoded, group)?;
+    }
+    Ok(())
+}
+
+/// Appends the groups of all processes, by process number.
+///
+/// # Errors
+///
+/// `AllocError`, if there is no memory.
+pub(crate) fn push_encoded_processes(
+    alloc: Global,
+    encoded: &mut Vec<EncodedGroup>,
+    processes: &Processes,
+) -> Result<(), AllocError>
+    ensures { OnOk result (encoded_all encoded.new.items ≡ encoded_all encoded.old.items ++ map encoded_record processes.now.processes) }
+{
+    processes.invariant();
+    let mut last = 0;
+    while let Some(pid) = processes.next_number(last) {
+        push_encoded(encoded, encoded_process(alloc, processes, pid)?)?;
+        last = pid;
+    }
+    Ok(())
+}

@@ -1,0 +1,89 @@
+//! Open files.
+ghost use Rattle.std.specs.Prelude.{◌≡◌, ◌<◌, ◌++◌, flat_map, IsSome, Some, IfOk, OnOk};
+ghost use Rattle.pv_model.specs.declared.limits.TheConstants.{OPEN_FILES};
+ghost use Rattle.pv_model.specs.Answers.Numbers.{bytes_numbers, file_numbers, list_numbers, option_numbers};
+ghost use Rattle.pv_model.specs.Numbered.{at_number};
+ghost use Rattle.pv_state_encoding.specs.Groups.{files_part};
+ghost use Rattle.pv_state_encoding.specs.Packed.{IsAdded};
+ghost use Rattle.pv_state_encoding.specs.Parts.{if_there};
+ghost use Rattle.std.specs.Option.{option_copied};
+
+use crate::numbers::{push_bool, push_bytes, push_mode, push_number};
+use pv_files::OpenFiles;
+use pv_model::Name;
+use pv_model::limits::OPEN_FILES;
+use std::alloc::{AllocError, Global};
+
+// Appends an optional name.
+#[tactic(auto, using(crate::proofs::Adding::added_then))]
+fn push_name(key: &mut Vec<u8>, name: Option<&Name>) -> Result<(), AllocError>
+    ensures { OnOk result (IsAdded (option_numbers bytes_numbers (option_copied name.entry)) key.old.items key.new.items) }
+{
+    match name {
+        None => push_number(key, 0),
+        Some(name) => {
+            push_number(key, 1)?;
+            push_bytes(key, name.as_slice())
+        }
+    }
+}
+
+// Appends an open file.
+fn push_opened(key: &mut Vec<u8>, files: &OpenFiles, file: usize) -> Result<(), AllocError>
+    requires { IsSome (at_number files.now.files file) }
+    ensures { OnOk result (IsAdded (if_there file_numbers (at_number files.now.files file)) key.old.items key.new.items) }
+{
+    push_number(key, u64::from(files.node(file)))?;
+    push_mode(key, files.mode(file))?;
+    push_bool(key, files.appends(file))?;
+    push_number(key, u64::from(files.offset(file)))?;
+    push_name(key, files.last_name(file))
+}
+
+// Appends the open file of a number, if there is one.
+#[tactic(auto, using(crate::proofs::Numbering::added_there))]
+fn push_file(key: &mut Vec<u8>, files: &OpenFiles, file: usize) -> Result<(), AllocError>
+    ensures { OnOk result (IsAdded (option_numbers file_numbers (at_number files.now.files file)) key.old.items key.new.items) }
+{
+    if !files.is_open(file) {
+        return push_number(key, 0);
+    }
+    push_number(key, 1)?;
+    push_opened(key, files, file)
+}
+
+// Appends open files, by their numbers.
+#[tactic(auto, using(crate::proofs::Numbering::added_at, crate::proofs::Adding::added_none, crate::proofs::Adding::added_list))]
+fn push_each_file(key: &mut Vec<u8>, files: &OpenFiles) -> Result<(), AllocError>
+    ensures { OnOk result (IsAdded (flat_map (option_numbers file_numbers) files.now.files) key.old.items key.new.items) }
+{
+    files.invariant();
+    for file in 0..OPEN_FILES {
+        push_file(key, files, file)?;
+    }
+    Ok(())
+}
+
+// Appends all open files.
+#[tactic(auto, using(crate::proofs::Adding::added_then))]
+fn push_files(key: &mut Vec<u8>, files: &OpenFiles) -> Result<(), AllocError>
+    ensures { OnOk result (IsAdded (list_numbers (option_numbers file_numbers) files.now.files) key.old.items key.new.items) }
+{
+    files.invariant();
+    push_number(key, OPEN_FILES as u64)?;
+    push_each_file(key, files)
+}
+
+/// Returns the part of all open files.
+///
+/// # Errors
+///
+/// `AllocError`, if there is no memory.
+#[tactic(auto, using(crate::proofs::Grouping::added_whole))]
+pub(crate) fn part_of_files(alloc: Global, files: &OpenFiles) -> Result<Vec<u8>, AllocError>
+    ensures { IfOk result (λ part. part.items ≡ files_part files.now.files) }
+{
+    let mut part = Vec::new(alloc);
+    push_files(&mut part, files)?;
+    Ok(part)
+}

@@ -1,0 +1,22 @@
+//! The canonical encoding of a state as bytes: two states are equal exactly if their encodings are equal.
+//!
+//! `states` encodes a state as groups of parts (`parts`). A part that many states share, such as a program, is then
+//! stored once. `encoded` pairs the group of each process with its owner and its outside view (`outsides`), the part of
+//! the process on which the steps of other processes depend. `processes`, `instructions`, `files` and `trees` encode
+//! parts. `numbers` encodes numbers, in one byte each if they are below 128.
+#![tactic(auto)]
+
+mod encoded;
+mod files;
+mod instructions;
+mod numbers;
+mod outsides;
+mod parts;
+mod processes;
+mod states;
+mod trees;
+
+pub use encoded::EncodedGroup;
+pub use numbers::push_number;
+pub use states::{encoded_state, state_groups};
+pub use trees::push_tree;

@@ -1,0 +1,369 @@
+//! Processes.
+ghost use Rattle.std.specs.Prelude.{◌≡◌, ◌<◌, ◌∷◌, ◌++◌, [], map, flat_map, length, slice_get, IsSome, Some, IfOk, OnOk};
+ghost use Rattle.std.specs.FinMap.Entries.{find};
+ghost use Rattle.std.specs.Ordering.{nat_cmp};
+ghost use Rattle.pv_model.specs.declared.limits.TheConstants.{DESCRIPTORS};
+ghost use Rattle.pv_model.specs.Answers.Numbers.{bytes_numbers, descriptor_numbers, entry_numbers, instruction_numbers, integer_numbers, list_numbers, number_numbers, option_numbers, target_numbers};
+ghost use Rattle.pv_model.specs.Calls.Restraints.{entries_of_table};
+ghost use Rattle.pv_model.specs.Numbered.{at_number};
+ghost use Rattle.pv_procs.specs.ProcessTable.{process_in};
+ghost use Rattle.pv_promises.specs.Pledge.{bits_of};
+ghost use Rattle.pv_state_encoding.specs.Groups.{ended_parts, groups_of, live_parts, numbered_parts, owned_parts, parts_of, record_parts};
+ghost use Rattle.pv_state_encoding.specs.Packed.{IsAdded, packed_all};
+ghost use Rattle.pv_state_encoding.specs.Parts.{if_there, held_numbers, promised_numbers, location_numbers};
+
+use crate::instructions::push_instruction;
+use crate::numbers::{push_bool, push_bytes, push_integer, push_number, push_permissions};
+use crate::parts::{push_group, push_part};
+use bitflags::Flags;
+use pv_files::Descriptors;
+use pv_model::limits::DESCRIPTORS;
+use pv_model::{Promises, Target};
+use pv_procs::{ProcessRecord, Processes};
+use pv_script::Program;
+use pv_unveil::Table;
+use std::alloc::{AllocError, Global};
+
+// Appends registers in order.
+fn push_each_register(key: &mut Vec<u8>, registers: &[i32]) -> Result<(), AllocError>
+    ensures { OnOk result (IsAdded (flat_map integer_numbers registers.now) key.old.items key.new.items) }
+{
+    for register in registers {
+        push_integer(key, *register)?;
+    }
+    Ok(())
+}
+
+// Appends all registers.
+#[tactic(auto, using(crate::proofs::Adding::added_then))]
+fn push_registers(key: &mut Vec<u8>, registers: &[i32]) -> Result<(), AllocError>
+    ensures { OnOk result (IsAdded (list_numbers integer_numbers registers.now) key.old.items key.new.items) }
+{
+    push_number(key, registers.len() as u64)?;
+    push_each_register(key, registers)
+}
+
+// Appends an optional set of promises.
+#[tactic(auto, using(crate::proofs::Adding::added_then))]
+fn push_promises(key: &mut Vec<u8>, promises: Option<Promises>) -> Result<(), AllocError>
+    ensures { OnOk result (IsAdded (option_numbers number_numbers (bits_of promises)) key.old.items key.new.items) }
+{
+    match promises {
+        None => push_number(key, 0),
+        Some(set) => {
+            push_number(key, 1)?;
+            push_number(key, u64::from(set.bits()))
+        }
+    }
+}
+
+// ---- descriptors
+
+// Appends the descriptor of a number, if it is open.
+#[tactic(auto, using(crate::proofs::Adding::added_then, crate::proofs::Adding::added_both))]
+fn push_descriptor(
+    key: &mut Vec<u8>,
+    descriptors: &Descriptors,
+    number: u8,
+) -> Result<(), AllocError>
+    ensures { OnOk result (IsAdded (option_numbers descriptor_numbers (at_number descriptors.now number)) key.old.items key.new.items) }
+{
+    let Ok(file) = descriptors.at(i32::from(number)) else {
+        return push_number(key, 0);
+    };
+    push_number(key, 1)?;
+    push_number(key, file as u64)?;
+    push_bool(key, descriptors.marked(number))
+}
+
+// Appends descriptors, by their numbers.
+fn push_each_descriptor(key: &mut Vec<u8>, descriptors: &Descriptors) -> Result<(), AllocError>
+    ensures { OnOk result (IsAdded (flat_map (option_numbers descriptor_numbers) descriptors.now) key.old.items key.new.items) }
+{
+    descriptors.invariant();
+    for number in 0..DESCRIPTORS as u8 {
+        push_descriptor(key, descriptors, number)?;
+    }
+    Ok(())
+}
+
+// Appends all descriptors.
+#[tactic(auto, using(crate::proofs::Adding::added_then))]
+pub(crate) fn push_descriptors(
+    key: &mut Vec<u8>,
+    descriptors: &Descriptors,
+) -> Result<(), AllocError>
+    ensures { OnOk result (IsAdded (list_numbers (option_numbers descriptor_numbers) descriptors.now) key.old.items key.new.items) }
+{
+    descriptors.invariant();
+    push_number(key, DESCRIPTORS as u64)?;
+    push_each_descriptor(key, descriptors)
+}
+
+// ---- tables
+
+// Appends the target of an entry.
+#[tactic(auto, using(crate::proofs::Adding::added_then, crate::proofs::Adding::added_both))]
+fn push_target(key: &mut Vec<u8>, target: &Target) -> Result<(), AllocError>
+    ensures { OnOk result (IsAdded (target_numbers target.now) key.old.items key.new.items) }
+{
+    match target {
+        Target::Directory(number) => {
+            push_number(key, 0)?;
+            push_number(key, u64::from(*number))
+        }
+        Target::Name { dir, name } => {
+            push_number(key, 1)?;
+            push_number(key, u64::from(*dir))?;
+            push_bytes(key, name.as_slice())
+        }
+    }
+}
+
+// Appends an entry of a table.
+fn push_entry(key: &mut Vec<u8>, table: &Table, number: u8) -> Result<(), AllocError>
+    requires { number < length (entries_of_table table.now.table) }
+    ensures { OnOk result (IsAdded (if_there entry_numbers (slice_get (entries_of_table table.now.table) number)) key.old.items key.new.items) }
+{
+    push_target(key, table.target(number))?;
+    push_permissions(key, table.permissions(number))
+}
+
+// Appends entries, by their numbers.
+fn push_each_entry(key: &mut Vec<u8>, table: &Table) -> Result<(), AllocError>
+    ensures { OnOk result (IsAdded (flat_map entry_numbers (entries_of_table table.now.table)) key.old.items key.new.items) }
+{
+    for number in 0..table.len() as u8 {
+        push_entry(key, table, number)?;
+    }
+    Ok(())
+}
+
+// Appends a table, if there is one.
+#[tactic(auto, using(crate::proofs::Adding::added_then))]
+pub(crate) fn push_table(key: &mut Vec<u8>, table: &Table) -> Result<(), AllocError>
+    ensures { OnOk result (IsAdded (option_numbers (list_numbers entry_numbers) table.now.table) key.old.items key.new.items) }
+{
+    if table.is_empty() {
+        return push_number(key, 0);
+    }
+    push_number(key, 1)?;
+    push_number(key, table.len() as u64)?;
+    push_each_entry(key, table)
+}
+
+// ---- programs
+
+// Appends instructions, line by line.
+fn push_each_line(key: &mut Vec<u8>, program: &Program) -> Result<(), AllocError>
+    ensures { OnOk result (IsAdded (flat_map instruction_numbers program.now) key.old.items key.new.items) }
+{
+    for number in 0..program.len() as u16 {
+        let Some(instruction) = program.at(number + 1) else {
+            unreachable!()
+        };
+        push_instruction(key, instruction)?;
+    }
+    Ok(())
+}
+
+// Appends a program.
+#[tactic(auto, using(crate::proofs::Adding::added_then))]
+fn push_program(key: &mut Vec<u8>, program: &Program) -> Result<(), AllocError>
+    ensures { OnOk result (IsAdded (list_numbers instruction_numbers program.now) key.old.items key.new.items) }
+{
+    push_number(key, program.len() as u64)?;
+    push_each_line(key, program)
+}
+
+// ---- a process
+
+// Appends the line, the registers, the parent and the directory.
+#[tactic(auto, using(crate::proofs::Adding::added_both))]
+fn push_location(key: &mut Vec<u8>, owned: &ProcessRecord, parent: u32) -> Result<(), AllocError>
+    ensures { OnOk result (IsAdded (location_numbers owned.now parent) key.old.items key.new.items) }
+{
+    push_number(key, u64::from(owned.context.line()))?;
+    push_registers(key, &owned.context.registers())?;
+    push_number(key, u64::from(parent))?;
+    push_number(key, u64::from(owned.directory))
+}
+
+// Appends the same, then the lock and the promises.
+#[tactic(auto, using(crate::proofs::Adding::added_both))]
+fn push_promised(key: &mut Vec<u8>, owned: &ProcessRecord, parent: u32) -> Result<(), AllocError>
+    ensures { OnOk result (IsAdded (promised_numbers owned.now parent) key.old.items key.new.items) }
+{
+    push_location(key, owned, parent)?;
+    push_bool(key, owned.unveiled.is_locked())?;
+    push_promises(key, owned.pledge.promises())?;
+    push_promises(key, owned.pledge.execpromises())
+}
+
+// Appends the same, then the descriptors and the table.
+#[tactic(auto, using(crate::proofs::Adding::added_both))]
+fn push_held(key: &mut Vec<u8>, owned: &ProcessRecord, parent: u32) -> Result<(), AllocError>
+    ensures { OnOk result (IsAdded (held_numbers owned.now parent) key.old.items key.new.items) }
+{
+    push_promised(key, owned, parent)?;
+    push_descriptors(key, &owned.descriptors)?;
+    push_table(key, &owned.unveiled)
+}
+
+// Appends a process that has ended.
+#[tactic(auto, using(crate::proofs::Adding::added_then, crate::proofs::Adding::added_both))]
+fn push_ended(key: &mut Vec<u8>, pid: u32, parent: u32, status: u32) -> Result<(), AllocError>
+    ensures { OnOk result (IsAdded (number_numbers pid ++ 1 ∷ number_numbers parent ++ number_numbers status) key.old.items key.new.items) }
+{
+    push_number(key, u64::from(pid))?;
+    push_number(key, 1)?;
+    push_number(key, u64::from(parent))?;
+    push_number(key, u64::from(status))
+}
+
+// ---- groups
+
+// Returns the part of a live process that has neither its program nor its buffer.
+#[tactic(auto, using(crate::proofs::Adding::added_then, crate::proofs::Grouping::added_whole))]
+fn part_held(
+    alloc: Global,
+    pid: u32,
+    owned: &ProcessRecord,
+    parent: u32,
+) -> Result<Vec<u8>, AllocError>
+    ensures { IfOk result (λ part. part.items ≡ packed_all (pid ∷ 0 ∷ held_numbers owned.now parent)) }
+{
+    let mut part = Vec::new(alloc);
+    push_number(&mut part, u64::from(pid))?;
+    push_number(&mut part, 0)?;
+    push_held(&mut part, owned, parent)?;
+    Ok(part)
+}
+
+// Returns the part of a program.
+#[tactic(auto, using(crate::proofs::Grouping::added_whole))]
+fn part_of_program(alloc: Global, program: &Program) -> Result<Vec<u8>, AllocError>
+    ensures { IfOk result (λ part. part.items ≡ packed_all (list_numbers instruction_numbers program.now)) }
+{
+    let mut part = Vec::new(alloc);
+    push_program(&mut part, program)?;
+    Ok(part)
+}
+
+// Returns the part of a buffer.
+#[tactic(auto, using(crate::proofs::Grouping::added_whole))]
+fn part_of_buffer(alloc: Global, buffer: &[u8]) -> Result<Vec<u8>, AllocError>
+    ensures { IfOk result (λ part. part.items ≡ packed_all (bytes_numbers buffer.now)) }
+{
+    let mut part = Vec::new(alloc);
+    push_bytes(&mut part, buffer)?;
+    Ok(part)
+}
+
+// Returns the group of a live process, given its record and its parent.
+fn group_owned(
+    alloc: Global,
+    pid: u32,
+    owned: &ProcessRecord,
+    parent: u32,
+    program: &Program,
+) -> Result<Vec<Vec<u8>>, AllocError>
+    ensures { IfOk result (λ group. parts_of group ≡ owned_parts pid owned.now parent program.now owned.now.context.buffer) }
+{
+    let mut group = Vec::new(alloc);
+    push_part(&mut group, part_held(alloc, pid, owned, parent)?)?;
+    push_part(&mut group, part_of_program(alloc, program)?)?;
+    push_part(&mut group, part_of_buffer(alloc, owned.context.buffer())?)?;
+    Ok(group)
+}
+
+// Returns the group of a live process.
+pub(crate) fn group_live(
+    alloc: Global,
+    processes: &Processes,
+    pid: u32,
+) -> Result<Vec<Vec<u8>>, AllocError>
+    requires { IsSome (process_in processes.now pid) }
+    ensures { IfOk result (λ group. parts_of group ≡ live_parts pid (process_in processes.now pid)) }
+{
+    let Some(parent) = processes.parent_of(pid) else {
+        unreachable!()
+    };
+    group_owned(
+        alloc,
+        pid,
+        processes.record(pid),
+        parent,
+        processes.program(pid),
+    )
+}
+
+// Returns the group of a process that has ended.
+#[tactic(auto, using(crate::proofs::Grouping::added_whole))]
+fn group_ended(
+    alloc: Global,
+    pid: u32,
+    parent: u32,
+    status: u32,
+) -> Result<Vec<Vec<u8>>, AllocError>
+    ensures { IfOk result (λ group. parts_of group ≡ ended_parts pid parent status) }
+{
+    let mut part = Vec::new(alloc);
+    push_ended(&mut part, pid, parent, status)?;
+    let mut group = Vec::new(alloc);
+    push_part(&mut group, part)?;
+    Ok(group)
+}
+
+// Returns the group of a process. It is empty if there is no such process.
+#[tactic(auto, using(crate::proofs::Owned::group_of_live, crate::proofs::Owned::group_of_ended, crate::proofs::Owned::group_of_nobody))]
+pub(crate) fn group_of_process(
+    alloc: Global,
+    processes: &Processes,
+    pid: u32,
+) -> Result<Vec<Vec<u8>>, AllocError>
+    ensures { IfOk result (λ group. parts_of group ≡ numbered_parts pid (find nat_cmp pid processes.now.processes)) }
+{
+    if processes.live(pid) {
+        return group_live(alloc, processes, pid);
+    }
+    match processes.ended(pid) {
+        Some((parent, status)) => group_ended(alloc, pid, parent, status),
+        None => Ok(Vec::new(alloc)),
+    }
+}
+
+/// Returns the number of processes, including those that have ended and are not yet waited for.
+pub(crate) fn count(processes: &Processes) -> u64
+    ensures { result ≡ length processes.now.processes }
+{
+    processes.invariant();
+    let mut count = 0;
+    let mut last = 0;
+    while let Some(pid) = processes.next_number(last) {
+        count += 1;
+        last = pid;
+    }
+    count
+}
+
+/// Appends the groups of all processes, by process number.
+///
+/// # Errors
+///
+/// `AllocError`, if there is no memory.
+pub(crate) fn push_process_groups(
+    alloc: Global,
+    groups: &mut Vec<Vec<Vec<u8>>>,
+    processes: &Processes,
+) -> Result<(), AllocError>
+    ensures { OnOk result (groups_of groups.new.items ≡ groups_of groups.old.items ++ map record_parts processes.now.processes) }
+{
+    processes.invariant();
+    let mut last = 0;
+    while let Some(pid) = processes.next_number(last) {
+        push_group(groups, group_of_process(alloc, processes, pid)?)?;
+        last = pid;
+    }
+    Ok(())
+}

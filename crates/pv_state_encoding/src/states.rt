@@ -1,0 +1,95 @@
+//! States.
+ghost use Rattle.std.specs.Prelude.{◌≡◌, ◌++◌, ◌∷◌, [], length, IfOk};
+ghost use Rattle.pv_state_encoding.specs.Groups.{counts_part, files_part, groups_of, parts_of, state_groups, tree_part};
+ghost use Rattle.pv_state_encoding.specs.Encoded.{encoded, encoded_all};
+
+use crate::encoded::{EncodedGroup, push_encoded_processes, push_plain, push_plains};
+use crate::files::part_of_files;
+use crate::numbers::push_number;
+use crate::parts::{push_group, push_part};
+use crate::processes::{count, push_process_groups};
+use crate::trees::{part_of_sizes, push_node_groups};
+use pv_calls_state::Parts;
+use pv_procs::Processes;
+use std::alloc::{AllocError, Global};
+
+// Returns the group of the last process number given and the number of processes.
+#[tactic(auto, using(crate::proofs::Adding::added_then, crate::proofs::Grouping::added_whole))]
+fn group_of_counts(
+    alloc: Global,
+    processes: &Processes,
+    last: u32,
+) -> Result<Vec<Vec<u8>>, AllocError>
+    ensures { IfOk result (λ group. parts_of group ≡ counts_part last (length processes.now.processes) ∷ []) }
+{
+    let mut part = Vec::new(alloc);
+    push_number(&mut part, u64::from(last))?;
+    push_number(&mut part, count(processes))?;
+    let mut group = Vec::new(alloc);
+    push_part(&mut group, part)?;
+    Ok(group)
+}
+
+// Returns the group of the open files and of the tree's sizes.
+fn group_of_files(alloc: Global, parts: &Parts) -> Result<Vec<Vec<u8>>, AllocError>
+    ensures { IfOk result (λ group. parts_of group ≡ files_part parts.now.files ∷ tree_part parts.now.tree ∷ []) }
+{
+    let mut group = Vec::new(alloc);
+    push_part(&mut group, part_of_files(alloc, parts.files())?)?;
+    push_part(&mut group, part_of_sizes(alloc, parts.tree())?)?;
+    Ok(group)
+}
+
+/// Returns the encoding of a state as groups of parts. Two states are equal exactly if their groups are equal. A
+/// program, a buffer or a node is a part of its own, because many states share it. `last` is the last process number
+/// that the state has given.
+///
+/// # Errors
+///
+/// `AllocError`, if there is no memory.
+#[tactic(auto, unfolding(crate::specs::Groups::state_groups))]
+pub fn state_groups(
+    alloc: Global,
+    parts: &Parts,
+    last: u32,
+) -> Result<Vec<Vec<Vec<u8>>>, AllocError>
+    requires { last ≡ parts.now.last_process }
+    ensures { IfOk result (λ groups. groups_of groups.items ≡ state_groups parts.now) }
+{
+    let mut groups = Vec::new(alloc);
+    push_group(
+        &mut groups,
+        group_of_counts(alloc, parts.processes(), last)?,
+    )?;
+    push_process_groups(alloc, &mut groups, parts.processes())?;
+    push_group(&mut groups, group_of_files(alloc, parts)?)?;
+    push_node_groups(alloc, &mut groups, parts.tree())?;
+    Ok(groups)
+}
+
+/// Returns the encoding of a state as groups of parts, each with its owner and, for a live process, its outside view.
+/// `last` is the last process number that the state has given.
+///
+/// # Errors
+///
+/// `AllocError`, if there is no memory.
+pub fn encoded_state(
+    alloc: Global,
+    parts: &Parts,
+    last: u32,
+) -> Result<Vec<EncodedGroup>, AllocError>
+    requires { last ≡ parts.now.last_process }
+    ensures { IfOk result (λ groups. encoded_all groups.items ≡ encoded parts.now) }
+{
+    let mut encoded = Vec::new(alloc);
+    push_plain(
+        &mut encoded,
+        group_of_counts(alloc, parts.processes(), last)?,
+    )?;
+    push_encoded_processes(alloc, &mut encoded, parts.processes())?;
+    push_plain(&mut encoded, group_of_files(alloc, parts)?)?;
+    let mut nodes = Vec::new(alloc);
+    push_node_groups(alloc, &mut nodes, parts.tree())?;
+    push_plains(&mut encoded, nodes)?;
+    Ok(encoded)
+}

@@ -1,0 +1,252 @@
+//! Trees.
+ghost use Rattle.std.specs.Prelude.{◌≡◌, ◌<◌, ◌≤◌, ◌+◌, ◌-◌, ◌⊎◌, ◌∷◌, ◌++◌, [], false, take, drop, map, flat_map, length, option_map, IsSome, IsTrue, IfSome, IfOk, Some, OnOk};
+ghost use Rattle.pv_dirs.specs.Trees.{bytes_at};
+ghost use Rattle.pv_model.specs.Answers.Numbers.{bytes_numbers, list_numbers, name_numbers, node_numbers, number_numbers, option_numbers, tree_numbers, version_numbers};
+ghost use Rattle.pv_model.specs.Calls.Descriptors.{next_name};
+ghost use Rattle.pv_model.specs.Tree.{node_at, entries_at, find_entry, is_directory_at};
+ghost use Rattle.pv_state_encoding.specs.Groups.{groups_of, node_groups, node_part, parts_of, tree_part};
+ghost use Rattle.pv_state_encoding.specs.Packed.{IsAdded};
+ghost use Rattle.pv_state_encoding.specs.Parts.{if_there};
+
+use crate::numbers::{push_bool, push_bytes, push_items, push_number};
+use crate::parts::{push_group, push_part};
+use pv_model::{Kind, Name, Version};
+use pv_tree::Tree;
+use std::alloc::{AllocError, Global};
+
+/// The number of nodes in each group of a state. The last group, which is not listed, has the remaining nodes. The
+/// first groups are small because nodes with low numbers change most.
+pub(crate) const GROUP_SIZES: [u16; 9] = [16, 16, 32, 64, 128, 256, 512, 1024, 2048];
+
+// Returns the name of a directory that follows the last one, with its node. `before` is a guess of the number of names
+// before it.
+fn next(tree: &Tree, directory: u16, last: &Option<Name>, before: u32) -> Option<(Name, u16)>
+    requires { IsTrue (is_directory_at tree.now.tree directory) }
+    ensures name { option_map (λ e. e.0) result ≡ next_name last.now (entries_at tree.now.tree directory) }
+    ensures node { IfSome result (λ e. find_entry tree.now.tree directory e.0 ≡ Some e.1) }
+{
+    match last {
+        None => tree.next_entry(directory, None, before),
+        Some(name) => tree.next_entry(directory, Some(name.as_slice()), before),
+    }
+}
+
+// Appends a name with its node.
+#[tactic(auto, using(crate::proofs::Adding::added_both))]
+fn push_entry(key: &mut Vec<u8>, name: &Name, node: u16) -> Result<(), AllocError>
+    ensures { OnOk result (IsAdded (name_numbers (name.now, node)) key.old.items key.new.items) }
+{
+    push_bytes(key, name.as_slice())?;
+    push_number(key, u64::from(node))
+}
+
+// Appends the entries of a directory, in the order of their names.
+fn push_each_entry(key: &mut Vec<u8>, tree: &Tree, directory: u16) -> Result<(), AllocError>
+    requires { IsTrue (is_directory_at tree.now.tree directory) }
+    ensures { OnOk result (IsAdded (flat_map name_numbers (entries_at tree.now.tree directory)) key.old.items key.new.items) }
+{
+    tree.invariant();
+    let mut last: Option<Name> = None;
+    for entry in 0..tree.size(directory) {
+        let Some((name, node)) = next(tree, directory, &last, entry) else {
+            unreachable!()
+        };
+        push_entry(key, &name, node)?;
+        last = Some(name);
+    }
+    Ok(())
+}
+
+// Appends the bytes of a file or of a link's text, run by run.
+fn push_runs(key: &mut Vec<u8>, tree: &Tree, node: u16) -> Result<(), AllocError>
+    requires used { IsSome (node_at tree.now.tree node) }
+    requires other { is_directory_at tree.now.tree node ≡ false }
+    ensures { OnOk result (IsAdded (bytes_at tree.now.tree node) key.old.items key.new.items) }
+{
+    let size = tree.size(node);
+    let mut at = 0;
+    while at < size {
+        let part = tree.lend(node, at);
+        push_items(key, part)?;
+        at += part.len() as u32;
+    }
+    Ok(())
+}
+
+// Appends the bytes of a file or of a link's text, preceded by their length.
+#[tactic(auto, using(crate::proofs::Adding::added_then))]
+fn push_content(key: &mut Vec<u8>, tree: &Tree, node: u16) -> Result<(), AllocError>
+    requires used { IsSome (node_at tree.now.tree node) }
+    requires other { is_directory_at tree.now.tree node ≡ false }
+    ensures { OnOk result (IsAdded (bytes_numbers (bytes_at tree.now.tree node)) key.old.items key.new.items) }
+{
+    push_number(key, u64::from(tree.size(node)))?;
+    push_runs(key, tree, node)
+}
+
+// Appends a node.
+#[tactic(auto, using(crate::proofs::Nodes::added_directory, crate::proofs::Nodes::added_file, crate::proofs::Nodes::added_executable, crate::proofs::Nodes::added_link, crate::proofs::Nodes::is_directory_there, crate::proofs::Nodes::no_directory))]
+fn push_node(key: &mut Vec<u8>, tree: &Tree, node: u16) -> Result<(), AllocError>
+    requires { IsSome (node_at tree.now.tree node) }
+    ensures { OnOk result (IsAdded (if_there node_numbers (node_at tree.now.tree node)) key.old.items key.new.items) }
+{
+    match tree.kind(node) {
+        Kind::Directory => {
+            push_number(key, 0)?;
+            push_number(key, u64::from(tree.size(node)))?;
+            push_each_entry(key, tree, node)
+        }
+        Kind::File => {
+            push_number(key, 1)?;
+            push_bool(key, false)?;
+            push_content(key, tree, node)
+        }
+        Kind::Executable => {
+            push_number(key, 1)?;
+            push_bool(key, true)?;
+            push_content(key, tree, node)
+        }
+        Kind::Symlink => {
+            push_number(key, 2)?;
+            push_content(key, tree, node)
+        }
+    }
+}
+
+// Appends the node of a number, if there is one.
+#[tactic(auto, using(crate::proofs::Numbering::added_there))]
+fn push_numbered(key: &mut Vec<u8>, tree: &Tree, node: u16) -> Result<(), AllocError>
+    ensures { OnOk result (IsAdded (option_numbers node_numbers (node_at tree.now.tree node)) key.old.items key.new.items) }
+{
+    if !tree.is_used(node) {
+        return push_number(key, 0);
+    }
+    push_number(key, 1)?;
+    push_node(key, tree, node)
+}
+
+// Appends nodes, by their numbers.
+fn push_each_node(key: &mut Vec<u8>, tree: &Tree) -> Result<(), AllocError>
+    ensures { OnOk result (IsAdded (flat_map (option_numbers node_numbers) tree.now.tree.nodes) key.old.items key.new.items) }
+{
+    let sizes = tree.sizes();
+    for node in 0..sizes.inodes + 1 {
+        push_numbered(key, tree, node)?;
+    }
+    Ok(())
+}
+
+// Appends the version of an image.
+fn push_version(key: &mut Vec<u8>, version: Version) -> Result<(), AllocError>
+    ensures { OnOk result (IsAdded (version_numbers version) key.old.items key.new.items) }
+{
+    match version {
+        Version::V1 => push_number(key, 0),
+        Version::V2 => push_number(key, 1),
+    }
+}
+
+// Appends the sizes of a tree: all of the tree except its nodes.
+#[tactic(auto, using(crate::proofs::Adding::added_then, crate::proofs::Adding::added_both))]
+fn push_sizes(key: &mut Vec<u8>, tree: &Tree) -> Result<(), AllocError>
+    ensures { OnOk result (IsAdded (version_numbers tree.now.tree.version ++ number_numbers tree.now.tree.blocks ++ number_numbers tree.now.tree.inodes ++ length tree.now.tree.nodes ∷ []) key.old.items key.new.items) }
+{
+    let sizes = tree.sizes();
+    push_version(key, sizes.version)?;
+    push_number(key, u64::from(sizes.blocks))?;
+    push_number(key, u64::from(sizes.inodes))?;
+    push_number(key, u64::from(sizes.inodes) + 1)
+}
+
+/// Appends a tree.
+///
+/// # Errors
+///
+/// As for `push_number`.
+#[tactic(auto, using(crate::proofs::Adding::added_then, crate::proofs::Adding::added_both), unfolding(pv_model::specs::Answers::Numbers::tree_numbers))]
+pub fn push_tree(key: &mut Vec<u8>, tree: &Tree) -> Result<(), AllocError>
+    ensures { OnOk result (IsAdded (tree_numbers tree.now.tree) key.old.items key.new.items) }
+{
+    push_sizes(key, tree)?;
+    push_each_node(key, tree)
+}
+
+// ---- parts
+
+/// Returns the part of a tree's sizes.
+///
+/// # Errors
+///
+/// `AllocError`, if there is no memory.
+#[tactic(auto, using(crate::proofs::Grouping::added_whole))]
+pub(crate) fn part_of_sizes(alloc: Global, tree: &Tree) -> Result<Vec<u8>, AllocError>
+    ensures { IfOk result (λ part. part.items ≡ tree_part tree.now.tree) }
+{
+    let mut part = Vec::new(alloc);
+    push_sizes(&mut part, tree)?;
+    Ok(part)
+}
+
+// Returns the part of the node of a number, if there is one.
+#[tactic(auto, using(crate::proofs::Grouping::added_whole))]
+fn part_of_node(alloc: Global, tree: &Tree, node: u16) -> Result<Vec<u8>, AllocError>
+    ensures { IfOk result (λ part. part.items ≡ node_part (node_at tree.now.tree node)) }
+{
+    let mut part = Vec::new(alloc);
+    push_numbered(&mut part, tree, node)?;
+    Ok(part)
+}
+
+// Returns the group of the nodes in a range of numbers, which excludes its end.
+fn group_of_nodes(
+    alloc: Global,
+    tree: &Tree,
+    from: u16,
+    end: u16,
+) -> Result<Vec<Vec<u8>>, AllocError>
+    requires first { from ≤ end }
+    requires within { end ≤ length tree.now.tree.nodes }
+    ensures { IfOk result (λ group. parts_of group ≡ map node_part (take (end - from) (drop from tree.now.tree.nodes))) }
+{
+    let mut group = Vec::new(alloc);
+    for node in from..end {
+        push_part(&mut group, part_of_node(alloc, tree, node)?)?;
+    }
+    Ok(group)
+}
+
+// Returns the end of a group of `size` nodes.
+fn end_of(from: u16, size: u16, count: u16) -> u16
+    requires { from ≤ count }
+    ensures first { from ≤ result }
+    ensures within { result ≤ count }
+    ensures end { (result ≡ from + size) ⊎ ((result ≡ count) × (count ≤ from + size)) }
+{
+    if size < count - from {
+        from + size
+    } else {
+        count
+    }
+}
+
+/// Appends the groups of a tree's nodes.
+///
+/// # Errors
+///
+/// `AllocError`, if there is no memory.
+pub(crate) fn push_node_groups(
+    alloc: Global,
+    groups: &mut Vec<Vec<Vec<u8>>>,
+    tree: &Tree,
+) -> Result<(), AllocError>
+    ensures { OnOk result (groups_of groups.new.items ≡ groups_of groups.old.items ++ node_groups GROUP_SIZES tree.now.tree.nodes) }
+{
+    let count = tree.sizes().inodes + 1;
+    let mut from = 0;
+    for size in GROUP_SIZES {
+        let end = end_of(from, size, count);
+        push_group(groups, group_of_nodes(alloc, tree, from, end)?)?;
+        from = end;
+    }
+    push_group(groups, group_of_nodes(alloc, tree, from, count)?)
+}

@@ -1,0 +1,148 @@
+//! Cached transitions.
+ghost use Rattle.std.specs.Prelude.{◌≡◌, ◌++◌, ◌∷◌, [], true, IfOk, IfSome, OnErr, OnOk};
+
+use crate::cells::{Cell, Edit, edited_cells, edits_of, step_key};
+use indexmap::IndexSet;
+use std::alloc::{AllocError, Global};
+
+/// A cached transition.
+#[derive(Drop)]
+pub struct CachedStep {
+    /// The key of the step.
+    pub key: Vec<u8>,
+    /// The trace lines of the step.
+    pub text: Vec<u8>,
+    /// The edits that yield the cells after the step.
+    pub edits: Vec<Edit>,
+}
+
+/// A cache of transitions, in the order in which they were added.
+#[derive(Drop)]
+pub struct CachedSteps {
+    // The keys, for lookup.
+    keys: IndexSet<Vec<u8>>,
+    /// The transitions.
+    pub steps: Vec<CachedStep>,
+}
+
+/// The result of a step, from the cached transition with its key.
+#[derive(Drop)]
+pub struct Recalled {
+    /// The trace lines of the step.
+    pub text: Vec<u8>,
+    /// The cells after the step.
+    pub cells: Vec<Cell>,
+}
+
+// Returns a copy of bytes.
+fn copy_of(alloc: Global, bytes: &[u8]) -> Result<Vec<u8>, AllocError>
+    ensures { IfOk result (λ copy. copy.items ≡ bytes.now) }
+{
+    let mut copy = Vec::new(alloc);
+    copy.extend_from_slice(bytes)?;
+    Ok(copy)
+}
+
+impl CachedSteps {
+    ghost use Rattle.pv_step_cache.specs.Edits.{step_key};
+    ghost use Rattle.pv_step_cache.specs.Steps.{Adds, HasStep, IsFound, WasCached};
+
+    /// Returns an empty cache.
+    pub fn new(alloc: Global) -> CachedSteps
+        ensures { result.steps.items ≡ [] }
+    {
+        CachedSteps {
+            keys: IndexSet::new(alloc),
+            steps: Vec::new(alloc),
+        }
+    }
+
+    // Returns the transition with a key, if it is cached.
+    fn find(&self, key: &[u8]) -> Option<&CachedStep>
+        ensures { IfSome result (λ step. IsFound self.now.steps.items key.now step.now) }
+    {
+        let number = self.keys.get_index_of(key)?;
+        let step = self.steps.get(number)?;
+        if step.key.as_slice() == key {
+            Some(step)
+        } else {
+            None
+        }
+    }
+
+    // Adds a transition.
+    fn add(&mut self, alloc: Global, step: CachedStep) -> Result<(), AllocError>
+        ensures added { OnOk result (self.new.steps.items ≡ self.old.steps.items ++ step ∷ []) }
+        ensures unchanged { OnErr result (self.new.steps.items ≡ self.old.steps.items) }
+    {
+        let key = copy_of(alloc, &step.key)?;
+        let _ = self.keys.insert_full(key)?;
+        self.steps.push(step)?;
+        Ok(())
+    }
+
+    /// Returns whether the cache has a transition with the key of a process's step in the state of these cells.
+    ///
+    /// # Errors
+    ///
+    /// `AllocError`, if there is no memory.
+    pub fn is_cached(&self, alloc: Global, cells: &[Cell], pid: u32) -> Result<bool, AllocError>
+        ensures { IfOk result (λ cached. cached ≡ true → HasStep self.now.steps.items (step_key pid cells.now)) }
+    {
+        let key = step_key(alloc, cells, pid)?;
+        match self.find(&key) {
+            Some(_) => Ok(true),
+            None => Ok(false),
+        }
+    }
+
+    /// Returns the result of a process's step in the state of these cells, if a transition with its key is cached.
+    ///
+    /// # Errors
+    ///
+    /// `AllocError`, if there is no memory.
+    pub fn recall(
+        &self,
+        alloc: Global,
+        cells: &[Cell],
+        pid: u32,
+    ) -> Result<Option<Recalled>, AllocError>
+        ensures { IfOk result (λ made. IfSome made (λ r. WasCached self.now.steps.items (step_key pid cells.now) cells.now r.text.items r.cells.items)) }
+    {
+        let key = step_key(alloc, cells, pid)?;
+        let Some(step) = self.find(&key) else {
+            return Ok(None);
+        };
+        let text = copy_of(alloc, &step.text)?;
+        let cells = edited_cells(alloc, cells, &step.edits)?;
+        Ok(Some(Recalled { text, cells }))
+    }
+
+    /// Adds the transition of a process's step, given the cells before and after it. Adds nothing if the step changed
+    /// the cell of another live process, or if a transition with the same key is cached.
+    ///
+    /// # Errors
+    ///
+    /// `AllocError`, if there is no memory. Nothing is then added.
+    pub fn keep(
+        &mut self,
+        alloc: Global,
+        before: &[Cell],
+        after: &[Cell],
+        pid: u32,
+        text: &[u8],
+    ) -> Result<(), AllocError>
+        ensures cached { OnOk result (Adds self.old.steps.items self.new.steps.items pid before.now after.now text.now) }
+        ensures unchanged { OnErr result (self.new.steps.items ≡ self.old.steps.items) }
+    {
+        let key = step_key(alloc, before, pid)?;
+        if self.keys.contains(&key) {
+            return Ok(());
+        }
+        let Some(edits) = edits_of(alloc, before, after, pid)? else {
+            return Ok(());
+        };
+        let text = copy_of(alloc, text)?;
+        self.add(alloc, CachedStep { key, text, edits })
+    }
+}

@@ -1,0 +1,49 @@
+-- The entries that remain of a synthetic directory, and those created in a directory in memory.
+use Rattle.std.specs.Prelude.{ℕ, true, false, [], codes}
+use Rattle.pv_model.specs.Manifest.{Entry, make, further_name}
+use Rattle.pv_model.specs.Tree.{directory_node, file_node, link_node}
+use Rattle.pv_host_copy.specs.declared.entry.Identity.{Identity}
+use Rattle.pv_host_copy.specs.Hosts.{HostEntries, no_more, a_directory, a_file, a_link}
+use Rattle.pv_tests_image.specs.declared.directory.MadeUp.{MadeUp}
+use Rattle.pv_tests_image.specs.declared.directory.MadeUp.TheVariants.{Upper, AfterDirectory, AfterLink, AfterAll, Lower, AfterFirst, AfterBoth}
+use Rattle.pv_tests_image.specs.declared.target.Made.{Made}
+use Rattle.pv_tests_image.specs.declared.target.Made.TheVariants.{Directory, File, Link, Name}
+
+abbrev pub node : ℕ → Identity
+node n = record { device = 1; inode = n }
+
+-- the entries that remain
+abbrev pub rest_of : MadeUp → HostEntries
+rest_of AfterAll = no_more
+rest_of AfterLink = a_file (codes "x") (node 6) true (codes "exit 0") no_more
+rest_of AfterDirectory = a_link (codes "l") (node 7) (codes "a/one") (a_file (codes "x") (node 6) true (codes "exit 0") no_more)
+rest_of Upper =
+    a_directory (codes "a") (a_file (codes "one") (node 5) false (codes "abc") (a_file (codes "two") (node 5) false (codes "abc") no_more))
+    (a_link (codes "l") (node 7) (codes "a/one") (a_file (codes "x") (node 6) true (codes "exit 0") no_more))
+rest_of AfterBoth = no_more
+rest_of AfterFirst = a_file (codes "two") (node 5) false (codes "abc") no_more
+rest_of Lower = a_file (codes "one") (node 5) false (codes "abc") (a_file (codes "two") (node 5) false (codes "abc") no_more)
+
+-- the number of these names
+abbrev pub left_of : MadeUp → ℕ
+left_of Upper = 3
+left_of AfterDirectory = 2
+left_of AfterLink = 1
+left_of AfterAll = 0
+left_of Lower = 2
+left_of AfterFirst = 1
+left_of AfterBoth = 0
+
+-- the number of levels of directories below it
+abbrev pub height_of : MadeUp → ℕ
+height_of Lower = 0
+height_of AfterFirst = 0
+height_of AfterBoth = 0
+height_of whole = 1
+
+-- the entry that was created
+abbrev pub entry_made : Made → Entry
+entry_made (Directory path) = make path.items (directory_node [])
+entry_made (File path executable bytes) = make path.items (file_node executable bytes.items)
+entry_made (Link path text) = make path.items (link_node text.items)
+entry_made (Name path source) = further_name path.items source.items
