@@ -16,6 +16,13 @@ impl BlockSet {
         BlockSet { words: [0; 1024] }
     }
 
+    /// Makes this set equal to another one.
+    pub(crate) fn copy_from(&mut self, other: &BlockSet)
+        ensures { self.new ≡ other.now }
+    {
+        self.words.copy_from_slice(&other.words);
+    }
+
     /// Adds a number to the set. If the set contains it already, nothing changes.
     pub fn insert(&mut self, k: u16)
         ensures after { (j : ℕ) → is_member self.new j ≡ (j == k || is_member self.old j) }

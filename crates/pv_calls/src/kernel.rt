@@ -1,5 +1,5 @@
 //! The kernel: the state of the machine, and the calls on it.
-ghost use Rattle.std.specs.Prelude.{◌≡◌, ◌⊎◌, ◌<◌, ◌≤◌, IfOk, IfErr, OnErr, IsSome, IsTrue, Ok, Err, Some, length};
+ghost use Rattle.std.specs.Prelude.{◌≡◌, ◌⊎◌, ◌<◌, ◌≤◌, IfOk, IfErr, OnOk, OnErr, IsSome, IsTrue, Ok, Err, Some, length};
 ghost use Rattle.pv_laws_states.specs.States.{IsFirstTree, IsValid, is_call};
 ghost use Rattle.pv_model.specs.declared.limits.TheConstants.{BUFFER};
 ghost use Rattle.pv_model.specs.Answer.{answer};
@@ -15,6 +15,7 @@ ghost use Rattle.pv_calls.specs.Kernel.{IsCallable};
 ghost use Rattle.pv_calls.specs.Loading.{LoadsProgram};
 ghost use Rattle.pv_calls_state.specs.Changes.{IsRegistered, PassesInside, StepsInside};
 ghost use Rattle.pv_procs.specs.Turns.{AwaitsCall, IsFetched, RegisterNext};
+ghost use Rattle.pv_tree.specs.Sizes.{HaveSameSizes};
 
 use crate::carry::carry_out;
 use pv_audit::{frozen_to, leak};
@@ -27,7 +28,7 @@ use pv_namei::{CachedLookup, Lookup};
 use pv_procs::Fetched;
 use pv_script::CallTexts;
 use pv_tree::{Store, Tree};
-use std::alloc::Global;
+use std::alloc::{AllocError, Global};
 use std::marker::Model;
 
 /// The state of the machine, with a name lookup.
@@ -66,6 +67,23 @@ impl Kernel<CachedLookup> {
     {
         let lookup = CachedLookup::new(alloc)?;
         Kernel::boot_with(alloc, store, lookup)
+    }
+
+    /// Makes this kernel equal to another one, in an image of the same sizes. Does not allocate. The name cache is empty
+    /// afterwards.
+    ///
+    /// # Errors
+    ///
+    /// `AllocError`, if the reference count of a program is at its limit. The kernel is then unchanged.
+    pub fn copy_from(&mut self, other: &Kernel<CachedLookup>) -> Result<(), AllocError>
+        requires { HaveSameSizes self.old.state.tree other.now.state.tree }
+        ensures copied { OnOk result (self.new ≡ other.now) }
+        ensures unchanged { OnErr result (self.new ≡ self.old) }
+    {
+        self.system.parts.copy_from(&other.system.parts)?;
+        self.system.lookup.clear();
+        self.walks = other.walks;
+        Ok(())
     }
 }
 

@@ -1,5 +1,5 @@
 //! The state of the machine: its tree, its open files and its processes.
-ghost use Rattle.std.specs.Prelude.{◌≡◌, IfOk, IsSome, Some, option_copied, option_map};
+ghost use Rattle.std.specs.Prelude.{◌≡◌, IfOk, OnErr, OnOk, IsSome, Some, option_copied, option_map};
 ghost use Rattle.pv_files.specs.Counted.{IsCounted};
 ghost use Rattle.pv_model.specs.Held.{collect};
 ghost use Rattle.pv_model.specs.State.{first_state, process_at};
@@ -8,6 +8,7 @@ ghost use Rattle.pv_procs.specs.Parts.{record_of};
 ghost use Rattle.pv_procs.specs.ProcessTable.{IsProcessTable};
 ghost use Rattle.pv_procs.specs.Turns.{context_of};
 ghost use Rattle.pv_tree.specs.Present.{IsPresent};
+ghost use Rattle.pv_tree.specs.Sizes.{HaveSameSizes};
 
 mod descriptors;
 mod ending;
@@ -65,6 +66,22 @@ impl Parts {
             files,
             processes,
         })
+    }
+
+    /// Makes this state equal to another one, in an image of the same sizes.
+    ///
+    /// # Errors
+    ///
+    /// `AllocError`, if the reference count of a program is at its limit. The state is then unchanged.
+    pub fn copy_from(&mut self, other: &Parts) -> Result<(), AllocError>
+        requires { HaveSameSizes self.old.tree other.now.tree }
+        ensures copied { OnOk result (self.new ≡ other.now) }
+        ensures unchanged { OnErr result (self.new ≡ self.old) }
+    {
+        self.processes.copy_from(&other.processes)?;
+        self.tree.copy_from(&other.tree);
+        self.files.copy_from(&other.files);
+        Ok(())
     }
 
     /// Does nothing. Its contract states that the state has no unused open file and no unreferenced node.

@@ -3,6 +3,7 @@ pub mod Dirs
 pub mod Images
 pub mod Index
 pub mod Listing
+pub mod Sizes
 pub mod Slots
 pub mod Stored
 pub mod Trees

@@ -8,6 +8,7 @@ ghost use Rattle.pv_model.specs.Image.{inode_blocks, greatest_blocks};
 ghost use Rattle.pv_model.specs.Room.{greatest_length};
 ghost use Rattle.pv_model.specs.Tree.{node_at, entries_at, is_directory_at, find_entry, is_name, with_node, with_entry, without_entry, new_number};
 ghost use Rattle.pv_dirs.specs.Listing.{IsNextName, IsNextNameOf};
+ghost use Rattle.pv_dirs.specs.Sizes.{HaveSameSizes};
 ghost use Rattle.pv_dirs.specs.Trees.{sort_of, new_node, bytes_at, written, cut, without_node, total_need, LacksRoom, grown_length};
 
 mod counting;
@@ -79,6 +80,16 @@ impl Directories {
             block_count,
             index,
         })
+    }
+
+    /// Makes this tree equal to another one in an image of the same sizes.
+    pub fn copy_from(&mut self, other: &Directories)
+        requires { HaveSameSizes self.old other.now }
+        ensures { self.new ≡ other.now }
+    {
+        self.inodes.copy_from(&other.inodes);
+        self.block_count = other.block_count;
+        self.index.copy_from(&other.index);
     }
 
     /// Returns the number of inodes, which limits the number of nodes.

@@ -64,6 +64,14 @@ impl Index {
         }
     }
 
+    /// Makes this index equal to another one.
+    pub(crate) fn copy_from(&mut self, other: &Index)
+        ensures { self.new ≡ other.now }
+    {
+        self.places.copy_from_slice(&other.places);
+        self.ascending.copy_from_slice(&other.ascending);
+    }
+
     /// Removes all entries from the index.
     pub(crate) fn clear(&mut self) {
         self.places.fill(Bucket::Empty);

@@ -113,7 +113,7 @@ module _ (s : Records) (keys : List ℕ) (are : AreKeys s keys) (k : ℕ) (withi
   wrote new = with_value s (slice_index keys k) new
 
   -- a write to its record changes only its record
-  slots_after : (new : Opened) → slots_under (wrote new) keys ≡ set (slots_under s keys) k (where_used new)
+  pub slots_after : (new : Opened) → slots_under (wrote new) keys ≡ set (slots_under s keys) k (where_used new)
   slots_after new =
       one_written s (wrote new) (slice_index keys k) new (Updates-with_value s (slice_index keys k) new has_record) keys k within refl
       (λ j below same. are.own j k (omega (arith, are.count)) (omega (arith, are.count)) same)

@@ -53,4 +53,14 @@ impl LastName {
     {
         if self.given { Some(&self.name) } else { None }
     }
+
+    /// Makes this value equal to another one.
+    pub(crate) fn copy_from(&mut self, other: &LastName)
+        ensures { self.new ≡ other.now }
+    {
+        match other.get() {
+            Some(name) => self.keep(name.copy()),
+            None => self.forget(),
+        }
+    }
 }

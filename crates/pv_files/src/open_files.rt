@@ -3,7 +3,7 @@ ghost use Rattle.std.specs.Prelude.{◌≡◌, ◌+◌, ◌-◌, ◌<◌, ◌≤
 ghost use Rattle.std.specs.Option.{option_copied};
 ghost use Rattle.pv_model.specs.Numbered.{at_number, without_number, least_free};
 ghost use Rattle.pv_files.specs.Counted.{IsCounted, no_files, with_file, with_users, with_opened};
-ghost use Rattle.pv_files.specs.Slots.{file_of, users_of, record_at, slots_under};
+ghost use Rattle.pv_files.specs.Slots.{AreKeys, file_of, users_of, record_at, slots_under, where_used};
 
 use crate::opened::Opened;
 use pv_model::limits::OPEN_FILES;
@@ -73,6 +73,34 @@ fn first_free_from(records: &Slab<Opened>, keys: &[usize], first: usize) -> Opti
     Some(first + following)
 }
 
+// Makes the record of a number equal to another record.
+fn copy_record(records: &mut Slab<Opened>, keys: &[usize], number: usize, opened: &Opened)
+    requires are_keys { AreKeys records.old keys.now }
+    requires in_range { number < OPEN_FILES }
+    ensures are_keys { AreKeys records.new keys.now }
+    ensures copied { slots_under records.new keys.now
+        ≡ slice_set (slots_under records.old keys.now) number (where_used opened.now) }
+{
+    records[keys[number]].copy_from(opened);
+}
+
+// Makes the record of each number equal to the one that it has in another table.
+fn copy_records(
+    records: &mut Slab<Opened>,
+    keys: &[usize],
+    others: &Slab<Opened>,
+    other_keys: &[usize],
+)
+    requires are_keys { AreKeys records.old keys.now }
+    requires are_other_keys { AreKeys others.now other_keys.now }
+    ensures are_keys { AreKeys records.new keys.now }
+    ensures copied { slots_under records.new keys.now ≡ slots_under others.now other_keys.now }
+{
+    for number in 0..OPEN_FILES {
+        copy_record(records, keys, number, &others[other_keys[number]]);
+    }
+}
+
 impl OpenFiles {
     /// Creates a table without open files.
     ///
@@ -100,6 +128,14 @@ impl OpenFiles {
         ensures { IsCounted self.now }
     {
         let _ = &self.records;
+    }
+
+    /// Makes these open files equal to others, with the same users. Does not allocate.
+    pub fn copy_from(&mut self, other: &OpenFiles)
+        ensures { self.new ≡ other.now }
+    {
+        copy_records(&mut self.records, &self.keys, &other.records, &other.keys);
+        self.first = other.first;
     }
 
     /// Returns whether some number is free.

@@ -85,4 +85,16 @@ impl Opened {
     {
         self.listed.keep(name);
     }
+
+    /// Makes this record equal to another one.
+    pub(crate) fn copy_from(&mut self, other: &Opened)
+        ensures { self.new ≡ other.now }
+    {
+        self.node = other.node;
+        self.mode = other.mode;
+        self.append = other.append;
+        self.offset = other.offset;
+        self.listed.copy_from(&other.listed);
+        self.users = other.users;
+    }
 }

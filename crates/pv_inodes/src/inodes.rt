@@ -66,6 +66,19 @@ impl Inodes {
         }
     }
 
+    /// Makes these inodes equal to others of the same version, with the same numbers of inodes and data blocks.
+    pub fn copy_from(&mut self, other: &Inodes)
+        requires version { self.old.version ≡ other.now.version }
+        requires inodes { length self.old.nodes - 1 ≡ length other.now.nodes - 1 }
+        requires blocks { self.old.blocks ≡ other.now.blocks }
+        ensures { self.new ≡ other.now }
+    {
+        self.blocks.copy_from(&other.blocks);
+        self.inodes = other.inodes;
+        self.version = other.version;
+        self.least = other.least;
+    }
+
     /// Returns the version of the image's format.
     pub fn version(&self) -> Version
         ensures { result ≡ self.now.version }

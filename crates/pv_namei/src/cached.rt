@@ -83,6 +83,14 @@ impl CachedLookup {
         })
     }
 
+    /// Discards all cached answers.
+    pub fn clear(&mut self)
+        ensures empty { self.new.answers.entries ≡ [] }
+        ensures agrees { (map : ℕ → List ℕ → Option ℕ) → FitsMap self.new.answers map }
+    {
+        self.answers.clear();
+    }
+
     /// Returns the cached answer for a directory and a name, or `None` if there is none. The answer is `Some(None)` if
     /// the name is known to be absent.
     pub fn preserved(&self, directory: u16, name: &[u8]) -> Option<Option<u16>>

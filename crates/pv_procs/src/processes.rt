@@ -1,5 +1,5 @@
 //! The processes of the system.
-ghost use Rattle.std.specs.Prelude.{◌≡◌, ◌↔◌, ◌<◌, ◌≤◌, ◌-◌, pos, length, false, is_some, IfOk, IsTrue, IsSome, Some, IfErr, OnErr, option_copied, option_map, slice_set, position, true};
+ghost use Rattle.std.specs.Prelude.{◌≡◌, ◌↔◌, ◌<◌, ◌≤◌, ◌-◌, pos, length, false, is_some, IfOk, IsTrue, IsSome, Some, IfErr, OnOk, OnErr, option_copied, option_map, slice_set, position, true};
 ghost use Rattle.std.specs.FinMap.Entries.{find};
 ghost use Rattle.std.specs.Borrow.{sem};
 ghost use Rattle.std.specs.Ordering.{nat_cmp};
@@ -16,16 +16,17 @@ ghost use Rattle.pv_model.specs.Tree.{Tree};
 
 use crate::ProcessRecord;
 use crate::ending::settle;
-use crate::shared::{Shared, first_programs, free_program, take_up, unreference};
+use crate::shared::{Shared, first_programs, free_program, share_programs, take_up, unreference};
 use crate::slot::{
-    ProcessSlot, adopter, blank, ended_child_of, has_child, has_ended_child, index_of,
-    index_of_live, left_of, live_index, make_child, number_after, spare_slots,
+    ProcessSlot, adopter, blank, copy_slots, ended_child_of, has_child, has_ended_child, index_of,
+    index_of_live, left_of, live_index, make_child, number_after, spare_slots, use_slots,
 };
 use pv_model::limits::{LAST_PROCESS, PROCESSES};
 use pv_model::{CallRef, Errno};
 use pv_script::{CallTexts, Program};
 use std::alloc::{AllocError, Global};
 use std::marker::Model;
+use std::mem::swap;
 
 /// The next step of a process.
 #[derive(Clone, Copy)]
@@ -56,6 +57,8 @@ pub struct Processes {
     slots: Vec<ProcessSlot>,
     spare: Vec<ProcessSlot>,
     programs: Vec<Shared>,
+    // The vector in which `copy_from` prepares programs. It has room for all, and its elements have no meaning.
+    prepared: Vec<Shared>,
     last: u32,
 }
 
@@ -97,8 +100,26 @@ impl Processes {
             slots,
             spare,
             programs,
+            prepared: Vec::with_capacity(alloc, PROCESSES)?,
             last: 1,
         })
+    }
+
+    /// Makes these processes equal to others.
+    ///
+    /// # Errors
+    ///
+    /// Returns `AllocError` if the reference count of a program is at its limit. The processes then do not change.
+    pub fn copy_from(&mut self, other: &Processes) -> Result<(), AllocError>
+        ensures copied { OnOk result (self.new ≡ other.now) }
+        ensures unchanged { OnErr result (self.new ≡ self.old) }
+    {
+        share_programs(&mut self.prepared, &other.programs)?;
+        swap(&mut self.programs, &mut self.prepared);
+        use_slots(&mut self.slots, &mut self.spare, other.slots.len());
+        copy_slots(&mut self.slots, &other.slots);
+        self.last = other.last;
+        Ok(())
     }
 
     /// Does nothing. Its contract states the invariant of the processes.

@@ -1,5 +1,5 @@
 //! Programs that processes share.
-ghost use Rattle.std.specs.Prelude.{◌≡◌, ◌≢◌, ℕ, ◌+◌, ◌<◌, ◌==◌, [], ◌∷◌, replicate, length, position, slice_get, slice_set, vec_len, IfOk};
+ghost use Rattle.std.specs.Prelude.{◌≡◌, ◌≢◌, ℕ, ◌+◌, ◌<◌, ◌==◌, [], ◌∷◌, replicate, length, position, slice_get, slice_set, vec_len, IfOk, OnOk};
 ghost use Rattle.pv_procs.specs.Slots.{users_at, program_at};
 
 use pv_model::limits::PROCESSES;
@@ -21,11 +21,33 @@ pub(crate) fn first_programs(alloc: Global, program: Program) -> Result<Vec<Shar
 {
     let mut programs = Vec::with_capacity(alloc, PROCESSES)?;
     programs.push(Shared { program, users: 1 })?;
+    let unused = Program::empty(alloc)?;
     for _slot in 0..PROCESSES - 1 {
-        let program = Program::empty(alloc);
+        let program = unused.share()?;
         programs.push(Shared { program, users: 0 })?;
     }
     Ok(programs)
+}
+
+/// Replaces the slots in a vector, which has room for them, by copies of others, which share their programs.
+///
+/// # Errors
+///
+/// Returns `AllocError` if the reference count of a program is at its limit.
+pub(crate) fn share_programs(
+    programs: &mut Vec<Shared>,
+    others: &[Shared],
+) -> Result<(), AllocError>
+    ensures { OnOk result (programs.new.items ≡ others.now) }
+{
+    programs.clear();
+    for other in others {
+        programs.push(Shared {
+            program: other.program.share()?,
+            users: other.users,
+        })?;
+    }
+    Ok(())
 }
 
 /// Removes a user of the program in slot `k`.

@@ -1,5 +1,5 @@
 //! A slot for a process.
-ghost use Rattle.std.specs.Prelude.{◌≡◌, ◌-◌, ◌==◌, nat_lt, true, find as first_where, List, option_map, position, is_some, IsSome, IfSome, Some, None, IfOk, vec_len, vec_capacity, if◌then◌else◌};
+ghost use Rattle.std.specs.Prelude.{◌≡◌, ◌+◌, ◌-◌, ◌<◌, ◌≤◌, ◌==◌, nat_lt, min, length, true, find as first_where, List, option_map, position, is_some, IsSome, IfSome, Some, None, IfOk, vec_len, vec_capacity, if◌then◌else◌};
 ghost use Rattle.std.specs.FinMap.Entries.{find};
 ghost use Rattle.std.specs.Ordering.{nat_cmp};
 ghost use Rattle.pv_model.specs.State.{live_process};
@@ -64,6 +64,71 @@ pub(crate) fn make_child(slot: &mut ProcessSlot, number: u32, parent: &ProcessSl
     let owned = slot.record.get_mut();
     owned.copy_from(parent.record.get());
     owned.context.report(0, 0);
+}
+
+// Makes a slot equal to another one.
+fn copy_slot(slot: &mut ProcessSlot, other: &ProcessSlot)
+    ensures { slot.new ≡ other.now }
+{
+    slot.number = other.number;
+    slot.parent = other.parent;
+    slot.status = other.status;
+    slot.program = other.program;
+    let owned = slot.record.get_mut();
+    owned.copy_from(other.record.get());
+}
+
+/// Makes slots equal to others.
+pub(crate) fn copy_slots(slots: &mut [ProcessSlot], others: &[ProcessSlot])
+    requires { length slots.old ≡ length others.now }
+    ensures { slots.new ≡ others.now }
+{
+    for k in 0..others.len() {
+        copy_slot(&mut slots[k], &others[k]);
+    }
+}
+
+// Moves the last slot of a vector to the end of another one.
+fn move_last(from: &mut Vec<ProcessSlot>, to: &mut Vec<ProcessSlot>)
+    requires there { 0 < vec_len from.old }
+    requires room { vec_len to.old < vec_capacity to.old }
+    ensures fewer { vec_len from.new + 1 ≡ vec_len from.old }
+    ensures more { vec_len to.new ≡ vec_len to.old + 1 }
+    ensures from_capacity { vec_capacity from.new ≡ vec_capacity from.old }
+    ensures to_capacity { vec_capacity to.new ≡ vec_capacity to.old }
+{
+    let Some(slot) = from.pop() else {
+        unreachable!()
+    };
+    to.push_reserved(slot);
+}
+
+// Moves slots from the end of a vector to another one, until at most `count` are left.
+fn move_beyond(from: &mut Vec<ProcessSlot>, to: &mut Vec<ProcessSlot>, count: usize)
+    requires { vec_len from.old + vec_len to.old ≤ vec_capacity to.old }
+    ensures left { vec_len from.new ≡ min (vec_len from.old) count }
+    ensures all { vec_len from.new + vec_len to.new ≡ vec_len from.old + vec_len to.old }
+    ensures from_capacity { vec_capacity from.new ≡ vec_capacity from.old }
+    ensures to_capacity { vec_capacity to.new ≡ vec_capacity to.old }
+{
+    for _slot in count..from.len() {
+        move_last(from, to);
+    }
+}
+
+/// Moves slots between those in use and the spare ones, until `count` are in use.
+pub(crate) fn use_slots(slots: &mut Vec<ProcessSlot>, spare: &mut Vec<ProcessSlot>, count: usize)
+    requires enough { count ≤ vec_len slots.old + vec_len spare.old }
+    requires room { vec_len slots.old + vec_len spare.old ≤ vec_capacity slots.old }
+    requires spare_room { vec_len slots.old + vec_len spare.old ≤ vec_capacity spare.old }
+    ensures used { vec_len slots.new ≡ count }
+    ensures all { vec_len slots.new + vec_len spare.new ≡ vec_len slots.old + vec_len spare.old }
+    ensures capacity { vec_capacity slots.new ≡ vec_capacity slots.old }
+    ensures spare_capacity { vec_capacity spare.new ≡ vec_capacity spare.old }
+{
+    let unused = slots.len() + spare.len() - count;
+    move_beyond(slots, spare, count);
+    move_beyond(spare, slots, unused);
 }
 
 // Returns whether slot `k` is that of a process.

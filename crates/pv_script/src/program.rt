@@ -1,5 +1,5 @@
 //! Programs.
-ghost use Rattle.std.specs.Prelude.{◌≡◌, ◌-◌, ◌≤◌, ◌↔◌, [], length, slice_get, vec_len, IsTrue};
+ghost use Rattle.std.specs.Prelude.{◌≡◌, ◌-◌, ◌≤◌, ◌↔◌, [], length, slice_get, vec_len, IsTrue, IfOk};
 ghost use Rattle.std.specs.Option.{option_copied};
 ghost use Rattle.pv_model.specs.Grammar.Programs.{read_program};
 ghost use Rattle.pv_script.specs.Reading.{GivesProgram};
@@ -8,8 +8,9 @@ use crate::instruction::instruction;
 use pv_model::limits::LINES;
 use pv_model::{Instruction, ParseFault, What};
 use pv_text::lines::{count_lines, split_line};
-use std::alloc::Global;
+use std::alloc::{AllocError, Global};
 use std::marker::Model;
+use std::rc::Rc;
 
 // The number of the first line that exceeds the limit, counted from 1.
 const TOO_MANY: u16 = LINES as u16 + 1;
@@ -17,7 +18,18 @@ const TOO_MANY: u16 = LINES as u16 + 1;
 /// A program: at most 256 instructions. Contracts see their list.
 #[derive(Drop)]
 pub struct Program {
-    lines: Vec<Instruction>,
+    // Shared by a reference count, since machines that are copies of each other run the same programs.
+    lines: Rc<Vec<Instruction>>,
+}
+
+// Returns the program of these lines.
+fn shared(alloc: Global, lines: Vec<Instruction>) -> Result<Program, AllocError>
+    requires { vec_len lines ≤ LINES }
+    ensures { IfOk result (λ program. program ≡ lines.items) }
+{
+    Ok(Program {
+        lines: Rc::new(alloc, lines)?,
+    })
 }
 
 impl Model for Program {
@@ -27,19 +39,21 @@ impl Model for Program {
 
     ghost Value = { Instructions };
 
-    ghost view = { λ p. p.lines.items };
+    ghost view = { λ p. p.lines.value.items };
 
-    ghost invariant = { λ p. length p.lines.items ≤ LINES };
+    ghost invariant = { λ p. length p.lines.value.items ≤ LINES };
 }
 
 impl Program {
     /// Creates a program without lines.
-    pub fn empty(alloc: Global) -> Program
-        ensures { result ≡ [] }
+    ///
+    /// # Errors
+    ///
+    /// Returns `AllocError` if memory cannot be allocated.
+    pub fn empty(alloc: Global) -> Result<Program, AllocError>
+        ensures { IfOk result (λ program. program ≡ []) }
     {
-        Program {
-            lines: Vec::new(alloc),
-        }
+        shared(alloc, Vec::new(alloc))
     }
 
     /// Parses a program: at most 256 lines, each an instruction.
@@ -67,7 +81,7 @@ impl Program {
             line_number += 1;
             rest = following;
         }
-        Ok(Program { lines })
+        Ok(shared(alloc, lines)?)
     }
 
     /// Returns the number of lines, at most 256.
@@ -85,12 +99,17 @@ impl Program {
         self.lines.is_empty()
     }
 
-    /// Converts the program to the vector of its lines, without a copy.
-    pub fn into_lines(self) -> Vec<Instruction>
-        ensures value { result.items ≡ self }
-        ensures few { vec_len result ≤ LINES }
+    /// Returns the same program. It shares the lines, so it allocates no memory.
+    ///
+    /// # Errors
+    ///
+    /// Returns `AllocError` if the reference count of the lines is at its limit.
+    pub fn share(&self) -> Result<Program, AllocError>
+        ensures { IfOk result (λ program. program ≡ self.now) }
     {
-        self.lines
+        Ok(Program {
+            lines: self.lines.clone()?,
+        })
     }
 
     /// Returns the instruction of a line, counted from 1, or `None` if there is no such line. Line 0 is the same as

@@ -2,8 +2,8 @@
 //!
 //! `session` has `Session`, which owns a kernel, the texts of the last call, and the buffer for trace lines. A contract
 //! sees it as a state. `step` makes one step; `trace_step` also writes its lines; `pass` makes consecutive steps on
-//! registers at once. `audit` checks a file. If it is sealed, no later step depends on its bytes (confidentiality); if
-//! it is also frozen, no later step changes it (integrity).
+//! registers at once. `copy_from` makes a machine equal to another one. `audit` checks a file. If it is sealed, no later
+//! step depends on its bytes (confidentiality); if it is also frozen, no later step changes it (integrity).
 //!
 //! `running` runs the turns of a schedule and writes the lines of each step before it makes the next.
 #![tactic(auto)]

@@ -13,6 +13,7 @@ ghost use Rattle.pv_calls.specs.Kernel.{IsCallable};
 ghost use Rattle.pv_model.specs.Answer.{answer};
 ghost use Rattle.pv_calls_state.specs.Changes.{StepsInside};
 ghost use Rattle.pv_procs.specs.Turns.{AwaitsCall, CallsNext, IsFetched, RegisterNext};
+ghost use Rattle.pv_tree.specs.Sizes.{HaveSameSizes};
 ghost use Rattle.pv_session.specs.Audits.{KeepsSecret, KeepsSecretAt};
 ghost use Rattle.pv_session.specs.Restraints.{ChildBeginsAlike, GainsNothing, LeavesOthers};
 ghost use Rattle.pv_session.specs.declared.session.Stop.TheVariants.{Memory, Write};
@@ -30,7 +31,7 @@ use pv_script::CallTexts;
 use pv_streams::{Failed, Sink};
 use pv_trace::{LineBuffer, write_call_lines, write_gone_line};
 use pv_tree::{Store, Tree};
-use std::alloc::Global;
+use std::alloc::{AllocError, Global};
 use std::marker::Model;
 
 /// The reason why a run stops before its end.
@@ -125,6 +126,19 @@ impl Session {
             }),
             Err(fault) => Err(fault),
         }
+    }
+
+    /// Makes this machine equal to another one, in an image of the same sizes. Does not allocate.
+    ///
+    /// # Errors
+    ///
+    /// `AllocError`, if the reference count of a program is at its limit. The machine is then unchanged.
+    pub fn copy_from(&mut self, other: &Session) -> Result<(), AllocError>
+        requires { HaveSameSizes self.old.tree other.now.tree }
+        ensures copied { OnOk result (self.new ≡ other.now) }
+        ensures unchanged { OnErr result (self.new ≡ self.old) }
+    {
+        self.kernel.copy_from(&other.kernel)
     }
 
     // Does nothing. Its contract states that the state satisfies the invariant of all runs.

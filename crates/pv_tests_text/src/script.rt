@@ -103,7 +103,7 @@ const TURNS: &[(u32, u32)] = &[(1, 2), (3, 1)];
 
 #[test]
 fn lines_and_turns_as_lists(rt: HostRuntime) {
-    expect_same(&rt, read(&rt, b"wait\nfork\n").into_lines().len(), 2);
+    expect_length(&rt, b"wait\nfork\n", 2);
     let schedule = Schedule::parse(rt.alloc(), b"1 2\n3\n").expect(&rt, "a schedule");
     assert_eq!(rt; schedule.turns(), TURNS);
 }

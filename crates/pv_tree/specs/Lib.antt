@@ -4,4 +4,5 @@ pub mod NodeNames
 pub mod Places
 pub mod Rooms
 pub mod Present
+pub use Rattle.pv_dirs.specs.Sizes
 pub use Rattle.pv_dirs.specs.Trees

@@ -14,6 +14,7 @@ ghost use Rattle.pv_dirs.specs.Trees.{sort_of, bytes_at};
 ghost use Rattle.pv_tree.specs.Changes.{root_alone};
 ghost use Rattle.pv_tree.specs.Holding.{holds_at};
 ghost use Rattle.pv_tree.specs.Present.{IsPresent};
+ghost use Rattle.pv_tree.specs.Sizes.{HaveSameSizes};
 
 mod contents;
 mod holding;
@@ -122,6 +123,17 @@ impl Tree {
             names: no_names(),
             holds: no_holds(),
         })
+    }
+
+    /// Makes this tree equal to another one, with the same reference counts, in an image of the same sizes.
+    pub fn copy_from(&mut self, other: &Tree)
+        requires { HaveSameSizes self.old.tree other.now.tree }
+        ensures { self.new ≡ other.now }
+    {
+        self.directories.copy_from(&other.directories);
+        self.parents.copy_from_slice(&other.parents);
+        self.names.copy_from_slice(&other.names);
+        self.holds.copy_from_slice(&other.holds);
     }
 
     /// Does nothing. Its contract states the invariant of the tree.

@@ -1,0 +1,21 @@
+use Rattle.std.proofs.Common.{◌<◌, ◌+◌, length, take, ap, ◌∙◌, arith}
+use Rattle.std.proofs.Math.ListN.{length-map}
+use Rattle.pv_files.specs.Slots.{record_at, slots_under, where_used}
+use Rattle.pv_files.proofs.Copies.{take_more-set_same}
+use Rattle.pv_files.proofs.Keys.{record_read}
+use Rattle.pv_files.proofs.open_files.copy_records.Goals as goal
+
+pub loop-number-preserved : goal.loop-number-preserved
+loop-number-preserved c =
+    let number = c.loop-number.number in
+    let mine = c.loop-number.invariant.are_keys in
+    let theirs = c.requires.are_other_keys in
+    let own = slots_under c.loop-number.records c.args.keys.now in
+    let other = slots_under c.args.others.now c.args.other_keys.now in
+    let within : number < length own = omega (arith, c.loop-number-test.true, mine.count, length-map c.args.keys.now (record_at c.loop-number.records)) in
+    let below : number < length other = omega (arith, c.loop-number-test.true, theirs.count, length-map c.args.other_keys.now (record_at c.args.others.now)) in
+    let read = record_read c.args.others.now c.args.other_keys.now theirs number (omega (arith, c.loop-number-test.true, theirs.count)) c.index.result.now c.index.ensures in
+    record {
+      are_keys = c.copy_record.ensures.are_keys;
+      copied = ap (take (number + 1)) c.copy_record.ensures.copied ∙ take_more-set_same own other number (where_used c.index.result.now) within below c.loop-number.invariant.copied read;
+    }
