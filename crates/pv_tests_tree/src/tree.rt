@@ -466,3 +466,48 @@ fn names_of_version_2_have_255_bytes(rt: HostRuntime) -> Result<(), AllocError> 
     expect_steps(&rt, &mut tree, LONG_NAMES);
     Ok(())
 }
+
+// Copies a tree over another one in an image of the same sizes.
+fn copy_over(rt: &impl Abort, tree: &mut Tree, other: &Tree) {
+    assert!(rt; tree.sizes() == other.sizes());
+    tree.copy_from(other);
+}
+
+const COPIED: &[Step] = &[
+    Make(1, b"d", NewNode::Directory, Ok(2)),
+    Make(2, b"f", NewNode::File, Ok(3)),
+    Write(3, 600, b"x", Ok(())),
+    Hold(3),
+];
+
+const REPLACED_BY_A_COPY: &[Step] = &[
+    Make(1, b"f", NewNode::File, Ok(2)),
+    Link(1, b"g", 2, Ok(())),
+    Hold(2),
+];
+
+// The copy has the entries, contents and references of the original. Changes of the copy do not change the original.
+const COPY: &[Step] = &[
+    That(Lists(1, &[b"d"])),
+    That(Lists(2, &[b"f"])),
+    That(Parent(2, Some(1))),
+    That(Names(2, 1)),
+    That(Size(3, 601)),
+    That(Holds(2, 0)),
+    Make(1, b"g", NewNode::File, Ok(4)),
+    Released(3),
+];
+
+const ORIGINAL: &[Step] = &[That(Lists(1, &[b"d"])), That(Holds(3, 1)), That(Unused(4))];
+
+#[test]
+fn a_tree_is_copied_over_another(rt: HostRuntime) -> Result<(), AllocError> {
+    let mut original = with_data_blocks(rt.alloc(), 6)?;
+    expect_steps(&rt, &mut original, COPIED);
+    let mut tree = with_data_blocks(rt.alloc(), 6)?;
+    expect_steps(&rt, &mut tree, REPLACED_BY_A_COPY);
+    copy_over(&rt, &mut tree, &original);
+    expect_steps(&rt, &mut tree, COPY);
+    expect_steps(&rt, &mut original, ORIGINAL);
+    Ok(())
+}

@@ -1,4 +1,4 @@
-use Rattle.std.proofs.Common.{◌≡◌, ◌+◌, ◌*◌, ◌<◌, length, ap, sym, ◌∙◌, arith}
+use Rattle.std.proofs.Common.{◌≡◌, length, ap, sym, ◌∙◌, arith}
 use Rattle.pv_blocks.specs.BlockStore.{BlockStore}
 use Rattle.pv_blocks.proofs.Stores.{length-blocks_of}
 use Rattle.pv_blocks.proofs.blocks.Blocks.copy_from.Goals as goal
