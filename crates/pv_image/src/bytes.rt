@@ -37,7 +37,12 @@ pub fn to_bytes(alloc: Global, tree: &Tree) -> Result<Vec<u8>, AllocError>
 ///   variants. This error precedes `Small`, and it is never `Memory`.
 /// - `Small`: an image of version 2 cannot have these sizes, or it has no room for the tree.
 /// - `Memory`: memory cannot be allocated.
-pub fn migrate(alloc: Global, bytes: &[u8], blocks: u32, inodes: u32) -> Result<Vec<u8>, MigrateFault>
+pub fn migrate(
+    alloc: Global,
+    bytes: &[u8],
+    blocks: u32,
+    inodes: u32,
+) -> Result<Vec<u8>, MigrateFault>
     ensures migrated { IfOk result (λ image. HoldsMigrated bytes.now blocks inodes image.items) }
     ensures refused { IfErr result (λ fault. (fault ≡ MigrateFault.Memory) ⊎ (migrated bytes.now blocks inodes ≡ Err fault)) }
     ensures kind { IfErr result IsMigrateFault }

@@ -20,7 +20,8 @@ const EXISTS: Outcome = Outcome::Failed(Errno::EEXIST, Cause::Plain);
 const STATUS: Outcome = Outcome::Text(Taken { value: 0, len: 8 });
 
 // A name that is absent, then created, and then renamed, with a stat(2) after each.
-const RENAMED: &[u8] = b"image 64 64\nexec \"/init\" 6\nstat \"/a\"\nmkdir \"/a\"\nstat \"/a\"\nrename \"/a\" \"/b\"\nstat \"/a\"\nstat \"/b\"\n";
+const RENAMED: &[u8] =
+    b"image 64 64\nexec \"/init\" 6\nstat \"/a\"\nmkdir \"/a\"\nstat \"/a\"\nrename \"/a\" \"/b\"\nstat \"/a\"\nstat \"/b\"\n";
 
 const RENAMED_OUTCOMES: &[Outcome] = &[
     ABSENT,
