@@ -1,10 +1,12 @@
 // Runs a program repeatedly in one process, each time on a file with one corrupted byte: each byte from FROM to below TO, with each of the
-// 255 other values in ascending order; or, if CUTS is 1, on each prefix of the file of FROM to below TO bytes. CHANGED names the file,
-// which the program reads by read(2). The descriptor ANSWERS gets, for each run, the number of its answer (2 bytes, the lowest first), and
+// 255 other values in ascending order; or, if MODE is "cut", on each prefix of the file of FROM to below TO bytes; or, if MODE is "break", on
+// the file with a read that fails after each number of bytes from FROM to below TO. CHANGED names the file, which the program reads by
+// read(2). The descriptor ANSWERS gets, for each run, the number of its answer (2 bytes, the lowest first), and
 // at the end the answers, in the order of their numbers: the status (1 byte), then the length (4 bytes) and the bytes of the standard
 // output, and the same of the standard error. It is loaded before the C library (LD_PRELOAD).
 #define _GNU_SOURCE
 #include <dlfcn.h>
+#include <errno.h>
 #include <fcntl.h>
 #include <setjmp.h>
 #include <stdarg.h>
@@ -22,7 +24,7 @@ enum { ROOM = 1 << 16, ANSWERS = 1 << 16 };
 static const char *changed;
 static unsigned char *bytes;
 static size_t size, at;
-static int in_hand = -1, running;
+static int in_hand = -1, running, breaks;
 static unsigned char outputs[2][ROOM];
 static uint32_t lengths[2];
 static unsigned char *answers[ANSWERS];
@@ -61,6 +63,10 @@ OPENS_AT(openat64)
 ssize_t read(int from, void *to, size_t count) {
     if (!running || from != in_hand) return syscall(SYS_read, from, to, count);
     size_t given = count < size - at ? count : size - at;
+    if (breaks && count && !given) {
+        errno = EIO;
+        return -1;
+    }
     memcpy(to, bytes + at, given);
     at += given;
     return (ssize_t)given;
@@ -158,7 +164,7 @@ static void change(size_t k, int out) {
     put(out, row, sizeof row);
 }
 
-// Writes the answer to a prefix of the file.
+// Writes the answer to a prefix of the file, or to a read that fails after it.
 static void cut(size_t left, int out) {
     size_t whole = size;
     size = left;
@@ -173,8 +179,12 @@ static int run_all(int count, char **given, char **variables) {
     if (!changed) fail("CHANGED");
     read_file();
     size_t from = number("FROM"), to = number("TO");
-    int out = (int)number("ANSWERS"), cuts = (int)number("CUTS");
-    for (size_t k = from; k < to && k < size; k++) {
+    int out = (int)number("ANSWERS");
+    const char *mode = getenv("MODE");
+    if (!mode) fail("MODE");
+    breaks = !strcmp(mode, "break");
+    int cuts = breaks || !strcmp(mode, "cut");
+    for (size_t k = from; k < to && k <= size; k++) {
         if (cuts) cut(k, out);
         else change(k, out);
     }

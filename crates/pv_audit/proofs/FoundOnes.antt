@@ -4,7 +4,7 @@ use Rattle.std.specs.Bool.{⊤}
 use Rattle.std.proofs.lemmas.Bool.{and_parts}
 use Rattle.std.proofs.lemmas.List.{map-append}
 use Rattle.pv_model.specs.declared.perms.Perms.{Perms}
-use Rattle.pv_model.specs.Bytes.{is_empty}
+use Rattle.pv_model.specs.Bytes.{Bytes, is_empty}
 use Rattle.pv_model.specs.Closed.{opens_or_moves}
 use Rattle.pv_model.specs.State.{State, process_at}
 use Rattle.pv_model.specs.Tree.{Tree, ancestors, find_entry, is_directory_at}
@@ -13,9 +13,17 @@ use Rattle.pv_laws_trees.proofs.Changes.{has_entry-directory}
 use Rattle.pv_audit.specs.declared.table_access.TableAccess.{TableAccess}
 use Rattle.pv_audit.specs.declared.suspects.Suspect.{Suspect}
 use Rattle.pv_audit.specs.Findings.{lesser, least, governing, passing, entries_passing, least_above, noted, table_of, note_of, noted_by, are_live}
-use Rattle.pv_tree.specs.NodeNames.{first_after, IsNextNameOfNode}
+use Rattle.pv_tree.specs.NodeNames.{names_after, names_from, IsNextNameOfNode}
 use Rattle.pv_audit.proofs.LeastOnes.{lesser-none, lesser-assoc, least-cons, passing-append}
-use Rattle.pv_tree.proofs.Rising.{Named, names_after, names_on, rises, after-next, after-none}
+
+-- a name with its directory
+abbrev pub Named : Type 0
+Named = ℕ × Bytes
+
+-- all names follow if there is no last one
+after-none : (ns : List Named) → names_after None ns ≡ ns
+after-none [] = refl
+after-none (x ∷ ns) = ap (λ (ys : List Named). x ∷ ys) (after-none ns)
 
 -- ---- one name at a time
 
@@ -111,32 +119,23 @@ live-at s (y ∷ ys) (suc k) d live within = live-at s ys k d (and_parts (is_som
 module _ (s : State) (ns : List Named) where
   -- the access noted so far, with the remaining names noted, is the access by all names
   pub record IsNotedTo (next : Option Named) (old ys : List Suspect) : Type 0 where
-    pub same : map (noted_by s ns) old ≡ map (noted_by s (names_on next ns)) ys
+    pub same : map (noted_by s ns) old ≡ map (noted_by s (names_from next ns)) ys
     pub live : are_live s ys ≡ true
 
   pub noted-all : (old ys : List Suspect) → IsNotedTo None old ys → ys ≡ map (noted_by s ns) old
   noted-all old ys so = sym (so.same ∙ noted-nothing s ys)
 
-  module _ (up : rises ns ≡ true) where
-    pub noted-first : (next : Option Named) (ys : List Suspect) → are_live s ys ≡ true → next ≡ first_after None ns → IsNotedTo next ys ys
-    noted-first next ys live is = record {
-      same = ap (λ (xs : List Named). map (noted_by s xs) ys) (sym (after-none ns) ∙ after-next None ns up ∙ ap (λ (o : Option Named). names_on o ns) (sym is));
-      live = live;
-    }
+  pub noted-first : (next : Option Named) (ys : List Suspect) → are_live s ys ≡ true → names_after None ns ≡ names_from next ns → IsNotedTo next ys ys
+  noted-first next ys live rest = record { same = ap (λ (xs : List Named). map (noted_by s xs) ys) (sym (after-none ns) ∙ rest); live = live }
 
-    left : (x : Named) (next : Option Named) → next ≡ first_after (Some x) ns → names_after (Some x) ns ≡ names_on next ns
-    left x next is = after-next (Some x) ns up ∙ ap (λ (o : Option Named). names_on o ns) (sym is)
+  pub noted-next : (x : Named) (next : Option Named) (old ys zs : List Suspect) → IsNotedTo (Some x) old ys → names_after (Some x) ns ≡ names_from next ns → zs ≡ map (note_of s x) ys → IsNotedTo next old zs
+  noted-next x next old ys zs so rest new = record {
+    same = so.same ∙ noted-more s x (names_after (Some x) ns) ys ∙ (λ i. map (noted_by s (rest i)) (sym new i));
+    live = ap (are_live s) new ∙ note-live s x ys ∙ so.live;
+  }
 
-    pub noted-next : (x : Named) (next : Option Named) (old ys zs : List Suspect) → IsNotedTo (Some x) old ys → next ≡ first_after (Some x) ns → zs ≡ map (note_of s x) ys → IsNotedTo next old zs
-    noted-next x next old ys zs so is new = record {
-      same =
-          so.same ∙ noted-more s x (names_after (Some x) ns) ys
-          ∙ (λ i. map (noted_by s (left x next is i)) (sym new i));
-      live = ap (are_live s) new ∙ note-live s x ys ∙ so.live;
-    }
-
-    pub noted-fewer : (x : Named) (next : Option Named) → next ≡ first_after (Some x) ns → length (names_on next ns) < length (names_on (Some x) ns)
-    noted-fewer x next is = omega (arith, ap length (left x next is))
+  pub noted-fewer : (x : Named) (next : Option Named) → names_after (Some x) ns ≡ names_from next ns → length (names_from next ns) < length (names_from (Some x) ns)
+  noted-fewer x next rest = omega (arith, ap length rest)
 
 -- the next name is one of the node
 pub IsOfNode : Tree → ℕ → Option Named → Type 0

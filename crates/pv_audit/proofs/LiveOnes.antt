@@ -6,7 +6,7 @@ use Rattle.std.specs.Ordering.{nat_cmp, is_lt, MatchOrdering}
 use Rattle.std.specs.declared.cmp.Ordering.{Ordering}
 use Rattle.std.specs.declared.cmp.Ordering.TheVariants.{Less, Equal, Greater}
 use Rattle.std.specs.FinMap.Entries.{find, is_sorted, below_all}
-use Rattle.std.proofs.lemmas.Bool.{and_parts, and_from, eq-eqb, ne_eqb, lt-ltb, ltb-true, cases_lt}
+use Rattle.std.proofs.lemmas.Bool.{and_parts, and_from, eq-eqb, ne_eqb, lt-ltb, ltb-true, cases_lt, false_from_ne_true}
 use Rattle.std.proofs.lemmas.List.{map-append}
 use Rattle.pv_model.specs.Held.{live_processes}
 use Rattle.pv_model.specs.State.{Process, ProcessRecord, live, ended_record, State, live_process, process_at}
@@ -14,7 +14,6 @@ use Rattle.pv_laws_states.proofs.Members.{find_number_after}
 use Rattle.pv_laws_trees.proofs.Members.{In}
 use Rattle.pv_audit.specs.declared.suspects.Suspect.{Suspect}
 use Rattle.pv_audit.specs.Findings.{suspect, are_live}
-use Rattle.pv_tree.proofs.Rising.{never}
 
 abbrev pub Living : Type 0
 Living = ℕ × Process
@@ -40,7 +39,7 @@ pub number-less : (a b : ℕ) → is_lt (nat_cmp a b) ≡ true → a < b
 number-less a b is = less_of (nat_cmp a b) a b (ranks a b) is
 
 not_lower : (a b : ℕ) → b ≤ a → nat_lt a b ≡ false
-not_lower a b high = never (nat_lt a b) (λ less. let low = ltb-true a b less in absurd (omega arith))
+not_lower a b high = false_from_ne_true (nat_lt a b) (λ less. let low = ltb-true a b less in absurd (omega arith))
 
 -- no process is below if all numbers are above
 none_below : (k n : ℕ) (rs : List Recorded) → below_all nat_cmp k rs ≡ true → n ≤ suc k → live_below n rs ≡ []

@@ -19,6 +19,7 @@ use Rattle.pv_model.specs.Effect.{answers, bytes_of, open_file, returns, returns
 use Rattle.pv_model.specs.Held.{collect}
 use Rattle.pv_model.specs.Numbered.{Numbered, at_number}
 use Rattle.pv_model.specs.Sealed.{is_file}
+use Rattle.pv_model.specs.Room.{is_too_long, fits}
 use Rattle.pv_model.specs.State.{OpenFile, Process, State, process_at, reads, writes}
 use Rattle.pv_model.specs.Tree.{Node, directory_node, file_node, link_node, Tree, node_at, entries_at, is_directory, is_directory_at}
 use Rattle.pv_laws_states.proofs.Processes.{files-update}
@@ -163,10 +164,10 @@ module _ (s : State) (pid : ℕ) (me : Process) (k : ℕ) (f : OpenFile) (count 
         rest ∙ refused_first (with_room (after_write s pid me k f count)) _ 0 (space_errno why) Plain
         (crowded (after_write s pid me k f count) why (ap (λ x. refusal (collect x).tree) after-is ∙ is))
 
-    pub some-written : (new : State) → new ≡ collect written → refusal new.tree ≡ None
+    pub some-written : (new : State) → new ≡ collect written → is_too_long new.tree ≡ false → fits new.tree ≡ true
         → collected (write_some s pid me k f count) ≡ done 0 (new, returns count)
-    some-written new is room =
+    some-written new is long fit =
         let same : collect (after_write s pid me k f count) ≡ new = ap collect after-is ∙ sym is in
         ap collected (rest ∙ given (with_room (after_write s pid me k f count)) (after_write s pid me k f count) (λ s. answers s count)
-        (roomy (after_write s pid me k f count) (ap (λ (x : State). refusal x.tree) same ∙ room)))
+        (roomy (after_write s pid me k f count) (ap (λ (x : State). is_too_long x.tree) same ∙ long) (ap (λ (x : State). fits x.tree) same ∙ fit)))
         ∙ ap (λ x. done 0 (x, returns count)) same

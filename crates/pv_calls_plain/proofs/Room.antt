@@ -1,5 +1,5 @@
 -- The effect of a tree's room on an attempt.
-use Rattle.std.proofs.Common.{◌≡◌, Bool, true, false, not, if◌then◌else◌, Option, None, Some, refl, subst}
+use Rattle.std.proofs.Common.{◌≡◌, Bool, true, false, not, if◌then◌else◌, Option, None, Some, refl, ap₂, subst}
 use Rattle.pv_inodes.specs.declared.space.Space.{Space}
 use Rattle.pv_inodes.specs.declared.space.Space.TheVariants.{Full, TooBig}
 use Rattle.pv_model.specs.declared.errno.Errno.TheVariants.{EFBIG, ENOSPC}
@@ -22,8 +22,8 @@ room_is s false true = refl
 room_is s false false = refl
 
 -- an attempt whose tree has room continues
-pub roomy : (s : State) → refusal (collect s).tree ≡ None → with_room s ≡ give s
-roomy s is = subst (room_by s (is_too_long (collect s).tree) (fits (collect s).tree)) is (room_is s (is_too_long (collect s).tree) (fits (collect s).tree))
+pub roomy : (s : State) → is_too_long (collect s).tree ≡ false → fits (collect s).tree ≡ true → with_room s ≡ give s
+roomy s short fit = ap₂ (λ long fit. refuse_if EFBIG long >> (refuse_if ENOSPC (not fit) >> give s)) short fit
 
 -- an attempt whose tree has no room is refused
 pub crowded : (s : State) (why : Space) → refusal (collect s).tree ≡ Some why → with_room s ≡ refused 0 (space_errno why) Plain

@@ -24,8 +24,7 @@ use Rattle.pv_calls_state.specs.Counts.{state_of, times, used_in, held_in, open_
 use Rattle.pv_calls_state.specs.Releasing.{files_on, HoldsOpened}
 use Rattle.pv_calls_state.proofs.Counting.{one-self, times-put, times-within, length-all_of, length-listed}
 use Rattle.pv_calls_state.proofs.Releasing.{of_file, of_node}
-use Rattle.pv_calls_state.proofs.Collecting.{times-cons, collect-parts}
-use Rattle.pv_tree.proofs.Entries.{one_if}
+use Rattle.pv_calls_state.proofs.Collecting.{one_if, times-cons, collect-parts}
 
 pub some-process : (o : Option Process) → IsSome o → (p : Process) × (o ≡ Some p)
 some-process None is = absurd (no is)

@@ -13,18 +13,22 @@ use Rattle.pv_model.specs.Tree.{Tree, root, named_numbers}
 use Rattle.pv_procs.specs.ProcessTable.{ProcessTable}
 use Rattle.pv_laws_trees.specs.Preserved.{wanted, preserved}
 use Rattle.pv_laws_trees.proofs.Keeping.{wanted-is}
+use Rattle.pv_laws_trees.proofs.NameCounts.{is_positive, positive-is, is-positive}
+use Rattle.pv_laws_trees.proofs.ReferenceCounts.{held-is}
 use Rattle.pv_laws_trees.proofs.Numbered.{same_numbered, at_number-keep, keep-agree, length-keep}
 use Rattle.pv_tree.specs.Holding.{HeldTree, held_numbers, collected}
 use Rattle.pv_tree.specs.Present.{IsPresent}
-use Rattle.pv_tree.proofs.Keeping.{held-is}
-use Rattle.pv_tree.proofs.Names.{is_positive, positive-is, is-positive}
 
 -- ---- counts
+
+-- 1 for the number itself, 0 for others
+abbrev pub one_if : ℕ → ℕ → ℕ
+one_if m n = cond (m == n) 1 0
 
 pub times-append : (n : ℕ) (a b : List ℕ) → times n (a ++ b) ≡ times n a + times n b
 times-append n a b = sum_by-append (λ m. cond (m == n) 1 0) a b
 
-pub times-cons : (n m : ℕ) (ns : List ℕ) → times n (m ∷ ns) ≡ cond (m == n) 1 0 + times n ns
+pub times-cons : (n m : ℕ) (ns : List ℕ) → times n (m ∷ ns) ≡ one_if m n + times n ns
 times-cons n m ns = sum_by-cons (λ k. cond (k == n) 1 0) m ns
 
 one-more : (b : Bool) (k : ℕ) → is_positive (cond b 1 0 + k) ≡ (b || is_positive k)

@@ -14,9 +14,8 @@ use Rattle.pv_model.specs.Numbered.{Numbered, at_number, present, with_number, w
 use Rattle.pv_model.specs.State.{Process, ProcessRecord, live, ended_record}
 use Rattle.pv_laws_states.proofs.Members.{all_of, find_number_after}
 use Rattle.pv_laws_states.proofs.Running.{not_before}
-use Rattle.pv_tree.proofs.Entries.{one_if}
 use Rattle.pv_calls_state.specs.Counts.{times}
-use Rattle.pv_calls_state.proofs.Collecting.{times-append, times-cons}
+use Rattle.pv_calls_state.proofs.Collecting.{one_if, times-append, times-cons}
 
 pub times-one : (n m : ℕ) → times n (m ∷ []) ≡ one_if m n
 times-one n m = times-cons n m [] ∙ add-zero (one_if m n)

@@ -16,12 +16,12 @@ use Rattle.pv_model.specs.Numbered.{Numbered, at_number, with_number, least_free
 use Rattle.pv_model.specs.State.{Descriptor, Process, State, with_process as state_with_process}
 use Rattle.pv_procs.specs.ProcessTable.{ProcessTable, with_process}
 use Rattle.pv_tree.specs.Holding.{HeldTree, holds_at, collected}
-use Rattle.pv_tree.proofs.Entries.{one_if}
 use Rattle.pv_laws_trees.proofs.Numbered.{least_free-free}
 use Rattle.pv_calls_state.specs.Attempts.{collected as collected_attempt}
 use Rattle.pv_calls_state.specs.Changes.{with_descriptors}
 use Rattle.pv_calls_state.specs.Counts.{state_of, times, open_nodes, IsCountedUp}
 use Rattle.pv_calls_state.specs.Releasing.{files_on, at_most}
+use Rattle.pv_calls_state.proofs.Collecting.{one_if}
 use Rattle.pv_calls_state.proofs.Counting.{of_place, times-one, times-with_number, times-without_number}
 use Rattle.pv_calls_state.proofs.Releasing.{of_file}
 use Rattle.pv_calls_state.proofs.Changing.{IsBefore, placed, state-put, counted-changed, collected-changed}

@@ -23,13 +23,12 @@ use Rattle.pv_procs.specs.Parts.{record_of}
 use Rattle.pv_procs.specs.ProcessTable.{ProcessTable, process_in, with_process, state_with}
 use Rattle.pv_tree.specs.Holding.{HeldTree, holds_at, collected}
 use Rattle.pv_tree.specs.Present.{IsPresent}
-use Rattle.pv_tree.proofs.Entries.{one_if}
 use Rattle.pv_calls_state.specs.Attempts.{collected as collected_attempt}
 use Rattle.pv_calls_state.specs.Counts.{state_of, times, used_in, held_in, open_nodes, IsCountedUp}
 use Rattle.pv_calls_state.specs.Releasing.{files_on, if_marked, marked_of, Releases, Shares, Unreferences}
 use Rattle.pv_calls_state.proofs.Counting.{of_place, times-place, one-self, times-within, times-put, times-put_new, all_of-adopted}
 use Rattle.pv_calls_state.proofs.Releasing.{of_file, collected_in_turn}
-use Rattle.pv_calls_state.proofs.Collecting.{times-cons, collect-parts}
+use Rattle.pv_calls_state.proofs.Collecting.{one_if, times-cons, collect-parts}
 use Rattle.pv_calls_state.proofs.Changing.{IsBefore, ordered, found, uses-own, holds-own, few-users, few-holds, few-held, own-directory, counted-changed, collected-changed}
 
 -- collecting twice equals collecting once

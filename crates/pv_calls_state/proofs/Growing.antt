@@ -6,7 +6,6 @@ use Rattle.pv_calls_state.specs.Counts.{state_of, IsCountedUp}
 use Rattle.pv_files.specs.Counted.{Counted, IsCounted}
 use Rattle.pv_inodes.specs.declared.space.Space.{Space}
 use Rattle.pv_model.specs.declared.kind.NewNode.{NewNode}
-use Rattle.pv_model.specs.declared.kind.NewNode.TheVariants.{Directory, File, Executable, Symlink}
 use Rattle.pv_model.specs.Bytes.{Bytes}
 use Rattle.pv_model.specs.Calls.Descriptors.{with_content, with_content_of}
 use Rattle.pv_model.specs.Held.{among, collect}
@@ -17,13 +16,12 @@ use Rattle.pv_tree.specs.Holding.{HeldTree, held_numbers, collected, after, with
 use Rattle.pv_tree.specs.Changes.{new_node}
 use Rattle.pv_tree.specs.Rooms.{refusal}
 use Rattle.pv_tree.specs.Present.{IsPresent}
-use Rattle.pv_tree.proofs.Keeping.{all-preserved, wanted-counted}
 use Rattle.pv_laws_trees.specs.Preserved.{wanted, preserved}
 use Rattle.pv_laws_trees.proofs.Changes.{node_at-same, node_at-other}
 use Rattle.pv_laws_trees.proofs.Edits.{new_number-free}
 use Rattle.pv_laws_trees.proofs.Entries.{by_name}
-use Rattle.pv_laws_trees.proofs.Keeping.{only_nodes_all, wanted-is, wanted-named, wanted-held}
-use Rattle.pv_laws_trees.proofs.NewNodes.{entry-was, entry-stays, dir-new, stays-new, named-new}
+use Rattle.pv_laws_trees.proofs.Keeping.{all_only_nodes, only_nodes_all, wanted-is, wanted-named, wanted-held}
+use Rattle.pv_laws_trees.proofs.NewNodes.{entry-was, entry-stays, dir-new, stays-new, named-new, new-entries}
 use Rattle.pv_laws_trees.proofs.Numbered.{at_number-below, with_number-other_within, length-drop_one, least_free-within}
 use Rattle.pv_laws_trees.proofs.Trees.{IsOrdered, ordered, among-entry, entry-among}
 use Rattle.pv_calls_state.proofs.Collecting.{collect-parts}
@@ -117,7 +115,7 @@ module _ (t : Tree) (held : List ℕ) (o : IsOrdered t) (there : (n : ℕ) → i
 -- ---- the same with counted references
 
 counted-wanted : (t : Tree) (holds : List ℕ) → collected t holds ≡ t → (n : ℕ) → is_some (node_at t n) ≡ true → among (wanted t (held_numbers holds)) n ≡ true
-counted-wanted t holds same n is = wanted-counted t holds n ∙ all-preserved t holds same n is
+counted-wanted t holds same n is = all_only_nodes t (wanted t (held_numbers holds)) same n is
 
 pub preserved-entry : (t : Tree) (holds : List ℕ) → IsOrdered t → collected t holds ≡ t → (d : ℕ) (name : Bytes) (m : ℕ) → is_directory_at t d ≡ true → find_entry t d name ≡ None
     → collected (with_entry t d name m) holds ≡ with_entry t d name m
@@ -162,16 +160,9 @@ module _ (h : HeldTree) (c : Counted) (ps : ProcessTable) (s : State) (view : st
 pub ordered-seen : (t : Tree) → IsWellFormed t → IsOrdered t
 ordered-seen t w = ordered t w.each_node
 
--- a new node has no entries
-pub new-bare : (k : NewNode) → entries_of (Some (new_node k)) ≡ []
-new-bare Directory = refl
-new-bare File = refl
-new-bare Executable = refl
-new-bare (Symlink text) = refl
-
 -- with a new node, every existing node stays
 pub preserved-made : (t : Tree) (holds : List ℕ) → IsWellFormed t → collected t holds ≡ t → (d : ℕ) (name : Bytes) (k : NewNode) → is_directory_at t d ≡ true → find_entry t d name ≡ None
     → collected (with_new_node t d name (new_node k)) holds ≡ with_new_node t d name (new_node k)
 preserved-made t holds w same d name k dir free =
     let numbers : length t.nodes ≡ t.inodes + 1 = omega (arith, w.numbers) in
-    new-preserved t (held_numbers holds) (ordered-seen t w) (counted-wanted t holds same) numbers d name (new_node k) dir free (new-bare k)
+    new-preserved t (held_numbers holds) (ordered-seen t w) (counted-wanted t holds same) numbers d name (new_node k) dir free (new-entries k)

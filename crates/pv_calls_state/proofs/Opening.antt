@@ -2,6 +2,7 @@
 use Rattle.std.proofs.Common.{◌≡◌, ◌≢◌, ℕ, zero, suc, ◌+◌, ◌-◌, ◌<◌, ◌≤◌, Bool, true, false, [], ◌++◌, length, take, replicate, Option, None, Some, is_some, refl, ap, sym, subst, ◌∙◌, ⊎_elim, arith}
 use Rattle.std.specs.Prelude.{slice_index, IsSome, IsTrue, if◌then◌else◌}
 use Rattle.std.proofs.lemmas.Bool.{cases_eq, cases_Bool}
+use Rattle.std.proofs.lemmas.List.{get_or-set_same, get_or-set_other}
 use Rattle.pv_files.specs.Counted.{Counted, IsCounted, with_opened}
 use Rattle.pv_inodes.specs.declared.space.Space.TheVariants.{Full, TooBig}
 use Rattle.pv_laws_states.specs.States.{IsTree, IsValid}
@@ -23,9 +24,6 @@ use Rattle.pv_tree.specs.Changes.{resized}
 use Rattle.pv_tree.specs.Holding.{HeldTree, holds_at, collected}
 use Rattle.pv_tree.specs.Rooms.{refusal}
 use Rattle.pv_tree.specs.Present.{IsPresent}
-use Rattle.pv_tree.proofs.Counting.{read-same, read-other}
-use Rattle.pv_tree.proofs.Entries.{one_if}
-use Rattle.pv_tree.proofs.Rooms.{refusal-fits}
 use Rattle.pv_laws_trees.specs.Room.{IsNoLonger, IsNoLarger}
 use Rattle.pv_laws_trees.proofs.Changes.{node_at-same, node_at-other}
 use Rattle.pv_laws_trees.proofs.Numbered.{at_number-below, least_free-free}
@@ -35,6 +33,7 @@ use Rattle.pv_laws_trees.proofs.Rooms.{smaller-fits, smaller-not_too_long, prese
 use Rattle.pv_calls_state.specs.Changes.{with_opened_descriptor, with_file_made}
 use Rattle.pv_calls_state.specs.Counts.{state_of, times, open_nodes, IsCountedUp}
 use Rattle.pv_calls_state.specs.Releasing.{files_on}
+use Rattle.pv_calls_state.proofs.Collecting.{one_if}
 use Rattle.pv_calls_state.proofs.Changing.{IsBefore, updated, few-holds, counted-changed, collected-changed}
 use Rattle.pv_calls_state.proofs.Counting.{one-apart, of_place, times-one, times-with_number}
 use Rattle.pv_calls_state.proofs.Descriptors.{times-given}
@@ -53,56 +52,7 @@ pub cut-there : (t : Tree) → IsTree t → (n : ℕ) (cuts : Bool) → (IsTrue 
 cut-there t is n true file there = file-some (node_at (with_content t n []) n) ((carries-content t is n [] refl).file n there ∙ file refl)
 cut-there t is n false file there = there
 
-no_longer : (t : Tree) (o : Option Node) → IsNoLonger t.version o o
-no_longer t None = tt
-no_longer t (Some node) = omega arith
-
--- truncation to no bytes has room
-pub cut-fits : (t : Tree) (n : ℕ) → is_file (node_at t n) ≡ true → is_too_long t ≡ false → fits t ≡ true → refusal (resized t n 0) ≡ None
-cut-fits t n file short room = by (node_at t n) refl file
-  where
-    by : (o : Option Node) → node_at t n ≡ o → is_file o ≡ true → refusal (resized t n 0) ≡ None
-    by None at is = cc
-    by (Some (directory_node es)) at is = cc
-    by (Some (link_node text)) at is = cc
-    by (Some (file_node x old)) at is =
-        let u : Tree = with_node t n (file_node x []) in
-        let below : n < length t.nodes = at_number-below t.nodes n (file_node x old) at in
-        let less : IsNoLarger u t = record {
-          blocks = refl;
-          inodes = refl;
-          version = refl;
-          nodes = λ m. ⊎_elim
-              (λ same. subst (λ j. IsNoLonger t.version (node_at u j) (node_at t j)) (sym same)
-              (subst (λ o. IsNoLonger t.version o (node_at t n)) (sym (node_at-same t n (file_node x []) below)) (subst (λ o. IsNoLonger t.version (Some (file_node x [])) o) (sym at) (omega arith))))
-              (λ other. subst (λ o. IsNoLonger t.version o (node_at t m)) (sym (node_at-other t n (file_node x []) m below other)) (no_longer t (node_at t m)))
-              (cases_eq m n);
-        } in
-        let nothing : 0 - length old ≡ 0 = omega arith in
-        let stays : is_too_long u ≡ false = ⊎_elim (λ long. let was = smaller-not_too_long t u less long in cc) (λ fine. fine) (cases_Bool (is_too_long u)) in
-        ap (λ o. refusal (with_content_of t n o (resize (bytes_of o) 0))) at
-        ∙ ap (λ k. refusal (with_node t n (file_node x (take 0 old ++ replicate k 0)))) nothing
-        ∙ refusal-fits u stays (smaller-fits t u less room)
-
 -- ---- a new node
-
-allowed-fits : (u : Tree) → refusal u ≡ None → fits u ≡ true
-allowed-fits u none = by (is_too_long u) (fits u) none
-  where
-    by : (a b : Bool) → (if a then Some TooBig else (if b then None else Some Full)) ≡ None → b ≡ true
-    by true b invalid = cc invalid
-    by false true is = refl
-    by false false invalid = cc invalid
-
--- the new node exists under its number
-pub made-there : (s : State) → IsValid s → (d : ℕ) (name : Bytes) → is_directory_at s.tree d ≡ true → find_entry s.tree d name ≡ None
-    → refusal (with_new_node s.tree d name (file_node false [])) ≡ None → IsSome (node_at (with_new_node s.tree d name (file_node false [])) (new_number s.tree))
-made-there s whole d name dir free allowed =
-    let u : Tree = with_new_node s.tree d name (file_node false []) in
-    let roomy = smaller-fits u (preserved u (held_after s)) (preserved-no_larger u (held_after s)) (allowed-fits u allowed) in
-    let below : new_number s.tree < length s.tree.nodes = new-below s whole d name (file_node false []) (held_after s) dir free refl (λ n is. is) roomy in
-    let within : new_number s.tree ≤ length s.tree.nodes = omega arith in
-    there-new s.tree d name (file_node false []) dir free refl within (new_number s.tree) (ap is_some (new-same s.tree d name (file_node false []) dir free refl within))
 
 -- the open file on it keeps every node
 pub made-tree : (s : State) (pid : ℕ) (me : Process) → IsValid s → process_at s pid ≡ Some me → (f : OpenFlags) (d : ℕ) (name : Bytes) → is_directory_at s.tree d ≡ true → find_entry s.tree d name ≡ None
@@ -137,8 +87,8 @@ module _ (t : HeldTree) (c : Counted) (ps : ProcessTable) (pid : ℕ) (me : Proc
 
     one-user : (k : ℕ) → slice_index c.users k + one_if (least_free c.files) k ≡ slice_index d.users k
     one-user = one-apart (slice_index c.users) (slice_index d.users) (least_free c.files)
-        (omega (arith, unused, ap (λ (x : Counted). slice_index x.users (least_free c.files)) files, read-same c.users (least_free c.files) 1 (omega (arith, is.counted.counts))))
-        (λ k other. sym (ap (λ (x : Counted). slice_index x.users k) files ∙ read-other c.users (least_free c.files) k 1 other))
+        (omega (arith, unused, ap (λ (x : Counted). slice_index x.users (least_free c.files)) files, get_or-set_same c.users (least_free c.files) 1 0 (omega (arith, is.counted.counts))))
+        (λ k other. sym (ap (λ (x : Counted). slice_index x.users k) files ∙ get_or-set_other c.users (least_free c.files) k 1 0 other))
 
     users : (k : ℕ) → slice_index d.users k + times k (files_on me.descriptors)
         ≡ slice_index c.users k + times k (files_on (with_opened_descriptor (least_free c.files) flags.close_on_exec me).descriptors)

@@ -1,21 +1,20 @@
 -- Removal of users, one at a time.
 use Rattle.std.proofs.Common.{◌≡◌, ◌≢◌, ℕ, zero, suc, ◌+◌, ◌-◌, ◌<◌, ◌≤◌, List, [], ◌∷◌, length, drop, None, Some, refl, ap, sym, subst, ◌∙◌, arith}
 use Rattle.std.specs.Prelude.{slice_index, slice_set, IsSome, option_map}
-use Rattle.std.proofs.lemmas.List.{drop_all}
+use Rattle.std.proofs.lemmas.List.{drop_all, get_or-set_same, get_or-set_other}
 use Rattle.pv_files.specs.Counted.{Counted, IsCounted}
 use Rattle.pv_model.specs.Numbered.{Numbered, at_number, without_number}
 use Rattle.pv_model.specs.State.{Descriptor, OpenFile}
 use Rattle.pv_model.specs.Tree.{Tree, IsWellFormed}
 use Rattle.pv_tree.specs.Holding.{HeldTree, holds_at, held_numbers, collected}
 use Rattle.pv_tree.specs.Present.{IsPresent}
-use Rattle.pv_tree.proofs.Counting.{read-same, read-other}
-use Rattle.pv_tree.proofs.Entries.{one_if}
-use Rattle.pv_tree.proofs.Keeping.{held-is}
-use Rattle.pv_tree.proofs.Names.{positive-is, is-positive}
 use Rattle.pv_laws_trees.proofs.Keeping.{in_turn}
+use Rattle.pv_laws_trees.proofs.NameCounts.{positive-is, is-positive}
 use Rattle.pv_laws_trees.proofs.Numbered.{without_number-other}
+use Rattle.pv_laws_trees.proofs.ReferenceCounts.{held-is}
 use Rattle.pv_calls_state.specs.Counts.{times, open_nodes}
 use Rattle.pv_calls_state.specs.Releasing.{files_on, if_marked, marked_of, HoldsOpened, Releases}
+use Rattle.pv_calls_state.proofs.Collecting.{one_if}
 use Rattle.pv_calls_state.proofs.Counting.{times-one, one-self, one-apart, indexed-within, times-without_number, times-drop, place-is, place-none}
 
 -- collecting in two steps equals collecting at once
@@ -116,8 +115,8 @@ still-opened all left t c u d held before = record { each = λ n. omega (arith, 
 module _ (file : ℕ) (c d : Counted) (used : 0 < slice_index c.users file) (users : d.users ≡ slice_set c.users file (slice_index c.users file - 1)) where
   one-less : (k : ℕ) → slice_index d.users k + one_if file k ≡ slice_index c.users k
   one-less = one-apart (slice_index d.users) (slice_index c.users) file
-      (omega (arith, ap (λ us. slice_index us file) users, read-same c.users file (slice_index c.users file - 1) (indexed-within c.users file used)))
-      (λ k other. ap (λ us. slice_index us k) users ∙ read-other c.users file k (slice_index c.users file - 1) other)
+      (omega (arith, ap (λ us. slice_index us file) users, get_or-set_same c.users file (slice_index c.users file - 1) 0 (indexed-within c.users file used)))
+      (λ k other. ap (λ us. slice_index us k) users ∙ get_or-set_other c.users file k (slice_index c.users file - 1) 0 other)
 
   -- it has other users
   pub releases-stays : (t : HeldTree) → IsPresent t → d.files ≡ c.files → Releases (file ∷ []) [] t c t d

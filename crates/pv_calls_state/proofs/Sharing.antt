@@ -1,14 +1,13 @@
 -- Addition of users, one at a time.
 use Rattle.std.proofs.Common.{◌≡◌, ℕ, ◌+◌, ◌<◌, ◌≤◌, [], length, drop, None, Some, ap, sym, subst, ◌∙◌, arith}
 use Rattle.std.specs.Prelude.{slice_index, option_map, IsSome}
-use Rattle.std.proofs.lemmas.List.{drop_all}
+use Rattle.std.proofs.lemmas.List.{drop_all, get_or-set_same, get_or-set_other}
 use Rattle.pv_files.specs.Counted.{Counted, IsCounted, with_users}
 use Rattle.pv_model.specs.Numbered.{Numbered, at_number}
 use Rattle.pv_model.specs.State.{Descriptor}
-use Rattle.pv_tree.proofs.Counting.{read-same, read-other}
-use Rattle.pv_tree.proofs.Entries.{one_if}
 use Rattle.pv_calls_state.specs.Counts.{times}
 use Rattle.pv_calls_state.specs.Releasing.{files_on, Shares}
+use Rattle.pv_calls_state.proofs.Collecting.{one_if}
 use Rattle.pv_calls_state.proofs.Counting.{one-self, one-apart, indexed-within, times-drop, times-there, place-is, place-none}
 use Rattle.pv_calls_state.proofs.Releasing.{of_file}
 
@@ -18,8 +17,8 @@ pub one-more : (c d : Counted) (file : ℕ) → IsCounted c → IsSome (at_numbe
 one-more c d file is there users =
     let below : file < length c.users = indexed-within c.users file ((is.used file).0 there) in
     one-apart (slice_index c.users) (slice_index d.users) file
-    (omega (arith, ap (λ x. slice_index x.users file) users, read-same c.users file (slice_index c.users file + 1) below))
-    (λ k other. sym (ap (λ x. slice_index x.users k) users ∙ read-other c.users file k (slice_index c.users file + 1) other))
+    (omega (arith, ap (λ x. slice_index x.users file) users, get_or-set_same c.users file (slice_index c.users file + 1) 0 below))
+    (λ k other. sym (ap (λ x. slice_index x.users k) users ∙ get_or-set_other c.users file k (slice_index c.users file + 1) 0 other))
 
 pub shares-nothing : (places : Numbered Descriptor) (k : ℕ) (c d : Counted) → option_map of_file (at_number places k) ≡ None
     → Shares (files_on places) (files_on (drop k places)) c d → Shares (files_on places) (files_on (drop (k + 1) places)) c d

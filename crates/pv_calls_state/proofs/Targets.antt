@@ -9,8 +9,8 @@ use Rattle.pv_model.specs.Tree.{node_at}
 use Rattle.pv_model.specs.Unveil.{Table, target_directory}
 use Rattle.pv_tree.specs.Holding.{HeldTree, holds_at, collected}
 use Rattle.pv_tree.specs.Present.{IsPresent}
-use Rattle.pv_tree.proofs.Entries.{one_if}
 use Rattle.pv_calls_state.specs.Counts.{times}
+use Rattle.pv_calls_state.proofs.Collecting.{one_if}
 use Rattle.pv_calls_state.proofs.Counting.{one-self, one-apart, times-from, times-get}
 use Rattle.pv_calls_state.proofs.Releasing.{collected_in_turn}
 

@@ -22,8 +22,6 @@ use Rattle.pv_tree.specs.Changes.{overwritten}
 use Rattle.pv_tree.specs.Holding.{HeldTree, collected, with_tree as with_held}
 use Rattle.pv_tree.specs.Rooms.{refusal}
 use Rattle.pv_tree.specs.Present.{IsPresent}
-use Rattle.pv_tree.proofs.Contents.{file-of}
-use Rattle.pv_tree.proofs.Rooms.{refusal-none}
 use Rattle.pv_laws_trees.proofs.Changes.{node_at-same}
 use Rattle.pv_laws_trees.proofs.Numbered.{at_number-below, length-with_number, with_number-same, with_number-other}
 use Rattle.pv_laws_trees.proofs.Rooms.{length-within}
@@ -31,26 +29,10 @@ use Rattle.pv_calls_state.proofs.Alone.{counted-file, lent-is, some-at}
 use Rattle.pv_calls_state.proofs.Growing.{preserved-content, preserved-seen, ordered-seen}
 use Rattle.pv_calls_state.proofs.Collecting.{collect-parts}
 
--- ---- lengths
-
-length-overwrite : (old : Bytes) (at : ℕ) (new : Bytes) → length (overwrite old at new) ≡ (at + length new) + (length old - (at + length new))
-length-overwrite old at new = simp (length-append, length-take, length-append, length-replicate, length-drop) (omega arith)
-
 -- overwriting replaces the content by the content with the new bytes in it
 pub overwritten-is : (t : Tree) (n at : ℕ) (bytes : Bytes) → 0 < length bytes → overwritten t n at bytes ≡ with_content t n (overwrite (bytes_of (node_at t n)) at bytes)
 overwritten-is t n at [] some = absurd (omega arith)
 overwritten-is t n at (b ∷ bytes) some = refl
-
--- a write without a refusal ends within the maximum length
-pub write-fits : (t : Tree) (n at : ℕ) (bytes : Bytes) → 0 < length bytes → is_file (node_at t n) ≡ true → refusal (overwritten t n at bytes) ≡ None → at + length bytes < 2 ^ 32
-write-fits t n at bytes some is allowed =
-    let file = file-of (node_at t n) is in
-    let new = overwrite file.1 at bytes in
-    let u : Tree = with_node t n (file_node file.0 new) in
-    let same : overwritten t n at bytes ≡ u = overwritten-is t n at bytes some ∙ ap (λ o. with_content_of t n o (overwrite (bytes_of o) at bytes)) file.2 in
-    let here : node_at u n ≡ Some (file_node file.0 new) = node_at-same t n (file_node file.0 new) (at_number-below t.nodes n (file_node file.0 file.1) file.2) in
-    let within = length-within u n (file_node file.0 new) here (refusal-none u (ap refusal (sym same) ∙ allowed)).0 in
-    omega (arith, within, greatest-low t.version, length-overwrite file.1 at bytes)
 
 -- the buffer in a live process's record is the buffer of the process
 pub own-buffer : (h : HeldTree) (c : Counted) (ps : ProcessTable) (s : State) → state_of h c ps ≡ s → (pid : ℕ) (me : Process) (r : ProcessRecord) (buffer : Bytes) → process_at s pid ≡ Some me
@@ -132,12 +114,3 @@ module _ (h : HeldTree) (c : Counted) (ps : ProcessTable) (s : State) (view : st
       → refusal (collect (with_file (with_tree s (content f s.tree)) k (placed f))).tree ≡ Some why
   write-refused why no_room f found =
       written-refused h c ps s view up is k f (placed f) (here f found) refl (content f) (preserved f) why (ap refusal (sym (content-is f found)) ∙ no_room)
-
-  -- the file ends within the maximum length
-  pub write-within : ((f : OpenFile) → at_number s.files k ≡ Some f → is_file (node_at s.tree f.node) ≡ true) → is_some (at_number s.files k) ≡ true
-      → refusal (overwritten h.tree n at bytes) ≡ None → at + length bytes < 2 ^ 32
-  write-within file there allowed =
-      let f = some-at (at_number s.files k) there in
-      let mine : option_map (λ f. f.node) (at_number c.files k) ≡ Some f.0.node = ap (option_map (λ f. f.node)) (here f.0 f.1) in
-      let number : n ≡ f.0.node = cc in
-      write-fits h.tree n at bytes some (ap₂ (λ (x : State) m. is_file (node_at x.tree m)) view number ∙ file f.0 f.1) allowed

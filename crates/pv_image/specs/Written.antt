@@ -9,6 +9,13 @@ use Rattle.pv_image.specs.declared.migrating.MigratingStop.{MigratingStop}
 use Rattle.pv_image.specs.declared.migrating.MigratingStop.TheVariants.{Refused, Write}
 use Rattle.pv_image.specs.Migrated.{migrated, IsMigrated, IsMigrateFault}
 
+-- the bytes are an image of exactly the migrated tree
+pub record HoldsMigrated (old_bytes : Bytes) (blocks inodes : ℕ) (image : Bytes) : Type 0 where
+  pub tree : Tree
+  pub is_new : migrated old_bytes blocks inodes ≡ Ok tree
+  pub holds : IsWrittenImageOf image tree
+  pub preserved : IsMigrated old_bytes blocks inodes image
+
 -- the output grew by an image of exactly the migrated tree
 pub record WritesMigrated (old_bytes : Bytes) (blocks inodes : ℕ) (before after : Option Bytes) : Type 0 where
   pub tree : Tree

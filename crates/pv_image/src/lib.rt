@@ -1,11 +1,12 @@
 //! Operations on whole images: mounting, building from manifests, writing to bytes, and migrating from version 1 to
 //! version 2.
 //!
-//! `mount`, `build`, `Manifest` and `Bundle` are reexported from lower crates. `to_bytes`, in `bytes`, returns the
-//! image that `pv_image_write` writes as bytes in memory. `migrated` in `specs/Migrated` computes the new tree or the
-//! error from the old bytes, and the laws below state in other words when each occurs. The new tree has the same nodes
-//! under the same numbers, in an image of exactly the requested sizes. `first` mounts images of version 1 only, `room`
-//! checks that a tree has room, and `migrating` writes the new image to a sink.
+//! `mount`, `build`, `Manifest` and `Bundle` are reexported from lower crates. `bytes` returns images as bytes
+//! in memory: `to_bytes` the image that `pv_image_write` writes, and `migrate` the image that `migrating` writes.
+//! `migrated` in `specs/Migrated` computes the new tree or the error from the old bytes, and the laws below state in
+//! other words when each occurs. The new tree has the same nodes under the same numbers, in an image of exactly the
+//! requested sizes. `first` mounts images of version 1 only, `room` checks that a tree has room, and `migrating` writes
+//! the new image to a sink.
 #![tactic(auto)]
 
 ghost use Rattle.pv_image.specs.Migrated.{ImagesAreJudgedFirst, MigratesImages, SmallLacksRoom};
@@ -16,8 +17,8 @@ mod first;
 mod migrating;
 mod room;
 
-pub use bytes::to_bytes;
-pub use migrating::{MigratingStop, migrate};
+pub use bytes::{migrate, to_bytes};
+pub use migrating::{MigratingStop, write_migrated};
 pub use pv_image_manifest::{Bundle, Manifest, build};
 pub use pv_image_mount::mount;
 

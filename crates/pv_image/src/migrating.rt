@@ -69,7 +69,7 @@ fn mount_roomy(
 /// - `Write`: a write or the flush failed. The sink has received a prefix of the new image.
 ///
 /// If the error is `Refused`, nothing was written.
-pub fn migrate<W: Sink>(
+pub fn write_migrated<W: Sink>(
     alloc: Global,
     bytes: Vec<u8>,
     blocks: u32,

@@ -21,12 +21,11 @@ use Rattle.pv_laws_trees.specs.Preserved.{preserved}
 use Rattle.pv_laws_trees.specs.Room.{IsNoLarger}
 use Rattle.pv_laws_trees.proofs.Entries.{by_name}
 use Rattle.pv_laws_trees.proofs.Keeping.{only-sound, reached-along}
+use Rattle.pv_laws_trees.proofs.NameCounts.{names-in_most, names-most}
 use Rattle.pv_laws_trees.proofs.Numbered.{at_number-below, length-keep}
 use Rattle.pv_laws_trees.proofs.Places.{list_all-weaker}
 use Rattle.pv_laws_trees.proofs.Rooms.{preserved-no_larger, length-within, smaller-fits}
 use Rattle.pv_laws_trees.proofs.Trees.{sound, well_formed}
-use Rattle.pv_tree.proofs.Entries.{count-most}
-use Rattle.pv_tree.proofs.Names.{names-most}
 use Rattle.pv_tree.specs.Holding.{HeldTree}
 use Rattle.pv_tree.specs.Present.{IsPresent}
 use Rattle.pv_image_write.specs.Placed.{lengthened, placed, written_at, named_need}
@@ -121,8 +120,7 @@ names-bounded n k (Some node ∷ xs) =
     omega (
       arith,
       length-append (names_in n (entries_of (Some node)) k) (flat_map (λ d. names_in n (entries_of (Some d.1)) d.0) (numbered_from (suc k) xs)),
-      length-map {B = ℕ × Bytes} (filter (λ (e : Bytes × ℕ). e.1 == n) (entries_of (Some node))) (λ (e : Bytes × ℕ). (k, e.0)),
-      count-most n (entries_of (Some node)),
+      names-in_most n k (entries_of (Some node)),
       entries-needed node,
       sum_by-cons (λ other. need V1 (node_length V1 other)) node (present xs),
       names-bounded n (suc k) xs,

@@ -16,6 +16,14 @@ use Rattle.pv_laws_trees.proofs.Trees.{ordered, among-entry, entry-among, sound}
 pub only_nodes_all : (t : Tree) (ns : List ℕ) → ((n : ℕ) (node : Node) → node_at t n ≡ Some node → among ns n ≡ true) → only_nodes t ns ≡ t
 only_nodes_all t ns all = ap (λ nodes. record t { nodes = nodes }) (keep-all (among ns) t.nodes all)
 
+-- and if a tree is unchanged, all its nodes are among the numbers
+pub all_only_nodes : (t : Tree) (ns : List ℕ) → only_nodes t ns ≡ t → (n : ℕ) → is_some (node_at t n) ≡ true → among ns n ≡ true
+all_only_nodes t ns same n is = by (node_at t n) refl is
+  where
+    by : (o : Option Node) → node_at t n ≡ o → is_some o ≡ true → among ns n ≡ true
+    by None at is = cc is
+    by (Some node) at is = (keep-some (among ns) t.nodes n node (ap (λ u. node_at u n) same ∙ at)).0
+
 -- ---- the wanted numbers
 
 pub wanted-is : (t : Tree) (held : List ℕ) (n : ℕ) → among (wanted t held) n ≡ ((root == n) || (among (named_numbers t) n || among held n))

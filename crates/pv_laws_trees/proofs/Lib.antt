@@ -1,7 +1,7 @@
 -- Lemmas about trees, walks and images. They are public because proofs of code use them.
 -- - Trees: Numbered (maps from numbers), Entries (the entries of a directory), NameOrder, Members (membership in
 --   lists), Trees (well-formed trees by their entries; parents), Encoded (bytes of names).
--- - Collection and room: Keeping, Rooms, Empty (the tree with only the root).
+-- - Collection and room: Keeping, Rooms, NameCounts, ReferenceCounts, Empty (the tree with only the root).
 -- - Changes: Changes (one node replaced), NewNodes, Edits (changes that keep a tree well-formed), Above (ancestors),
 --   Found (lookups before and after a change).
 -- - Walks: Walks (the function computes the relation), Places (valid places, and what a walk reads).
@@ -21,6 +21,8 @@ pub mod Walks
 pub mod Places
 pub mod Empty
 pub mod NewNodes
+pub mod NameCounts
+pub mod ReferenceCounts
 pub mod Found
 pub mod Members
 pub mod NameOrder

@@ -2,15 +2,25 @@
 use Rattle.std.proofs.Common.{◌≡◌, ◌≢◌, ℕ, ◌≤◌, true, false, [], length, Option, None, Some, is_some, refl, ap, ap₂, sym, ◌∙◌, inl, inr, ◌⊎◌, ⊎_elim}
 use Rattle.std.specs.FinMap.Entries.{find, put}
 use Rattle.std.proofs.lemmas.Bool.{cases_eq}
+use Rattle.pv_model.specs.declared.kind.NewNode.{NewNode}
+use Rattle.pv_model.specs.declared.kind.NewNode.TheVariants.{Directory, File, Executable, Symlink}
 use Rattle.pv_model.specs.Bytes.{Bytes}
 use Rattle.pv_model.specs.Held.{among}
 use Rattle.pv_model.specs.Tree.{Node, directory_node, Tree, node_at, entries_of, entries_at, is_directory, is_directory_at, find_entry, named_numbers, with_node, new_number, with_new_node, with_entry}
+use Rattle.pv_laws_trees.specs.NewNodes.{new_node}
 use Rattle.pv_laws_trees.specs.Preserved.{EachIsNamed}
 use Rattle.pv_laws_trees.proofs.Changes.{node_at-other, directory-below, found-with, with_entry-stays, still-there}
 use Rattle.pv_laws_trees.proofs.Edits.{new_number-free}
 use Rattle.pv_laws_trees.proofs.Entries.{by_name}
 use Rattle.pv_laws_trees.proofs.Numbered.{with_number-same_within, with_number-other_within}
 use Rattle.pv_laws_trees.proofs.Trees.{IsOrdered, among-entry, entry-among}
+
+-- a new node has no entries
+pub new-entries : (k : NewNode) → entries_of (Some (new_node k)) ≡ []
+new-entries Directory = refl
+new-entries File = refl
+new-entries Executable = refl
+new-entries (Symlink text) = refl
 
 -- each node of the changed tree has a name, if each entry stays and each other node had one
 named-along : (t u : Tree) → IsOrdered t → EachIsNamed t → ((n : ℕ) → is_some (node_at u n) ≡ true → (is_some (node_at t n) ≡ true) ⊎ (among (named_numbers u) n ≡ true))

@@ -1,5 +1,7 @@
 pub mod Found
 pub mod Preserved
+pub mod ReferenceCounts
+pub mod NewNodes
 pub mod Room
 pub mod Encoded
 pub mod Tree

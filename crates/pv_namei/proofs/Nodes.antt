@@ -10,14 +10,11 @@ use Rattle.pv_model.specs.Bytes.{Bytes, is_empty}
 use Rattle.pv_model.specs.Calls.Paths.{link_text}
 use Rattle.pv_model.specs.Tree.{Node, directory_node, file_node, link_node, Tree, root, node_at, find_entry, is_directory, is_directory_at, is_link_text, IsWellFormed}
 use Rattle.pv_model.specs.Walk.{Walked, PastLink, Onward, at_node}
-use Rattle.pv_laws_trees.proofs.Places.{link-text, parent-directory}
+use Rattle.pv_laws_trees.proofs.Places.{link-text}
 use Rattle.pv_laws_trees.proofs.Trees.{sound}
 use Rattle.pv_tree.specs.Trees.{sort_of, bytes_of}
 
 -- ---- the nodes of a well-formed tree
-
-pub above-directory : (t : Tree) → IsWellFormed t → (n d : ℕ) → Rattle.pv_model.specs.Tree.parent t n ≡ Some d → is_directory_at t d ≡ true
-above-directory t well n d up = parent-directory (λ b. true) t (sound t well) n d up
 
 pub text-short : (t : Tree) → IsWellFormed t → (n : ℕ) (text : Bytes) → node_at t n ≡ Some (link_node text) → length text ≤ 1023
 text-short t well n text is =

@@ -5,7 +5,7 @@ ghost use Rattle.pv_image.specs.Migrated.{migrated};
 ghost use Rattle.pv_streams.specs.Sources.{FailsToGive};
 ghost use Rattle.pv_run.specs.Migrating.{HasMigrated, IsMigrateStop, IsMigratingStop, IsReadOrNoMemory, AppearsInOldImage, WritesNothingUnlessBroken};
 
-use pv_image::{MigratingStop, migrate};
+use pv_image::{MigratingStop, write_migrated};
 use pv_model::{MigrateFault, RunFault};
 use pv_streams::{Sink, Source, read_whole};
 use std::alloc::Global;
@@ -61,7 +61,7 @@ fn migrate_bytes<W: Sink>(
     ensures write { result ≡ Err MigrateStop.Write → Rose (W.failures out.old) (W.failures out.new) }
     ensures flushed { OnOk result (W.buffered out.new ≡ 0) }
 {
-    match migrate(alloc, bytes, blocks, inodes, out) {
+    match write_migrated(alloc, bytes, blocks, inodes, out) {
         Ok(()) => Ok(()),
         Err(MigratingStop::Refused(fault)) => Err(MigrateStop::Refused(fault)),
         Err(MigratingStop::Write) => Err(MigrateStop::Write),

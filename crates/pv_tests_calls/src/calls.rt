@@ -140,7 +140,7 @@ fn expect<L: Lookup + Drop>(
 }
 
 // Checks that a step of a process has this outcome on two kernels, with the same number of walks and the same buffer.
-fn expect_both<L: Lookup + Drop, M: Lookup + Drop>(
+pub(crate) fn expect_both<L: Lookup + Drop, M: Lookup + Drop>(
     rt: &impl Abort,
     alloc: Global,
     kernel: &mut Kernel<L>,
@@ -154,7 +154,7 @@ fn expect_both<L: Lookup + Drop, M: Lookup + Drop>(
     assert!(rt; kernel.buffer(pid) == other.buffer(pid));
 }
 
-fn value(value: u32) -> Outcome {
+pub(crate) fn value(value: u32) -> Outcome {
     Outcome::Value(value)
 }
 

@@ -1,7 +1,8 @@
 //! Tests of the kernel: calls, processes, promises and audits.
 //!
 //! `store_of` makes the tree of a manifest. The other modules are tests: `calls` boots kernels on such trees and makes
-//! each call once under two lookups, and an execve without memory; `procs` tests fork, wait, exit, execve and full
+//! each call once under two lookups, and an execve without memory; `lookups` compares runs under a cached and a plain
+//! lookup; `procs` tests fork, wait, exit, execve and full
 //! tables; `promises` tests the parsing and narrowing of promises; `reports` audits all files of a session; `verdicts`
 //! writes the line of each verdict. `streams` has sinks that fail, and `answers` compares results. `cases/command_lines/`
 //! tests audits with the program.
@@ -16,6 +17,8 @@ ghost use Rattle.pv_laws_trees.specs.Encoded.{are_bytes};
 mod answers;
 #[cfg(test)]
 mod calls;
+#[cfg(test)]
+mod lookups;
 #[cfg(test)]
 mod procs;
 #[cfg(test)]

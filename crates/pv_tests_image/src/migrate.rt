@@ -2,7 +2,7 @@
 use crate::answers::{expect_equal, expect_same};
 use crate::bytes::{expect_components, front, put_all};
 use crate::sinks::{sink_of, wide_sink};
-use pv_image::{MigratingStop, migrate};
+use pv_image::{MigratingStop, migrate, write_migrated};
 use pv_model::{ImageFault, MigrateFault};
 use std::alloc::{AllocError, Global};
 use std::process::Abort;
@@ -37,10 +37,13 @@ fn migrated<R: Abort + AllocGlobal>(
     inodes: u32,
 ) -> Result<Vec<u8>, AllocError> {
     let bytes = motd_image(rt.alloc(), &[])?;
-    let mut image = wide_sink(rt.alloc());
-    let answer = migrate(rt.alloc(), bytes, blocks, inodes, &mut image);
-    expect_same(rt, answer, Ok(()));
-    Ok(image.bytes)
+    match migrate(rt.alloc(), &bytes, blocks, inodes) {
+        Ok(image) => Ok(image),
+        Err(fault) => {
+            expect_same(rt, fault, MigrateFault::Memory);
+            Err(AllocError)
+        }
+    }
 }
 
 const SMALLEST: &[(usize, &[u8])] = &[
@@ -78,7 +81,7 @@ fn expect_fault(
     fault: MigrateFault,
 ) {
     let mut image = wide_sink(alloc);
-    let answer = migrate(alloc, bytes, sizes.0, sizes.1, &mut image);
+    let answer = write_migrated(alloc, bytes, sizes.0, sizes.1, &mut image);
     expect_same(rt, answer, Err(MigratingStop::Refused(fault)));
     expect_same(rt, image.bytes.len(), 0);
 }
@@ -141,7 +144,7 @@ fn a_sink_without_room_gets_a_prefix(rt: HostRuntime) -> Result<(), AllocError> 
     let whole = migrated(&rt, 400, 16)?;
     let bytes = motd_image(rt.alloc(), &[])?;
     let mut image = sink_of(rt.alloc(), 100_000, 1_000);
-    let answer = migrate(rt.alloc(), bytes, 400, 16, &mut image);
+    let answer = write_migrated(rt.alloc(), bytes, 400, 16, &mut image);
     expect_same(&rt, answer, Err(MigratingStop::Write));
     expect_equal(&rt, image.bytes.as_slice(), front(&whole, 100_000));
     Ok(())

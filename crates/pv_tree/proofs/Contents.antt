@@ -2,6 +2,7 @@
 use Rattle.std.proofs.Common.{◌≡◌, ◌↔◌, ℕ, ◌+◌, ◌-◌, ◌<◌, ◌≤◌, Bool, true, false, List, [], ◌∷◌, length, Option, None, Some, is_some, Result, Ok, Err, refl, ap, sym, subst, ◌∙◌, arith, length-append, length-drop, ⊎_elim}
 use Rattle.std.specs.Prelude.{slice_index, OnOk, OnErr, IfErr}
 use Rattle.std.specs.FinMap.Entries.{find}
+use Rattle.std.specs.Result.{is_err}
 use Rattle.std.proofs.lemmas.Bool.{cases_eq, cases_lt, lt-ltb}
 use Rattle.std.proofs.lemmas.List.{length-take, length-replicate}
 use Rattle.pv_inodes.specs.declared.space.Space.{Space}
@@ -14,6 +15,7 @@ use Rattle.pv_model.specs.Sealed.{is_file}
 use Rattle.pv_model.specs.Tree.{Node, directory_node, file_node, link_node, Tree, node_at, entries_of, entries_at, is_directory, find_entry, with_node}
 use Rattle.pv_dirs.specs.Trees.{written, cut, replaced, total_need, LacksRoom, bytes_of as content_of}
 use Rattle.pv_laws_trees.specs.Encoded.{are_bytes}
+use Rattle.pv_laws_trees.specs.Room.{IsNoLonger, IsNoLarger}
 use Rattle.pv_laws_trees.specs.Tree.{IsSound}
 use Rattle.pv_laws_trees.proofs.Changes.{node_at-same, node_at-other}
 use Rattle.pv_laws_trees.proofs.Edits.{sound-content}
@@ -27,9 +29,9 @@ use Rattle.pv_tree.specs.Rooms.{refusal}
 use Rattle.pv_tree.specs.Present.{stored, IsCounted, IsTied}
 use Rattle.pv_tree.proofs.Carrying.{carried}
 use Rattle.pv_tree.proofs.Keeping.{is_preserved, collected-all, all-preserved}
-use Rattle.pv_tree.proofs.Names.{name_count, names-same}
+use Rattle.pv_laws_trees.proofs.NameCounts.{name_count, names-same}
 use Rattle.pv_tree.proofs.Parents.{parent-same}
-use Rattle.pv_tree.proofs.Rooms.{refusal-fits, refusal-long, refusal-full, short-with_node, fits-from, fits-lacks}
+use Rattle.pv_tree.proofs.Rooms.{no_longer-self, smaller-allowed, refusal-fits, refusal-long, refusal-full, short-with_node, fits-from, fits-lacks}
 
 -- ---- files
 
@@ -142,7 +144,34 @@ module _ (t : Tree) (parents names holds : List ℕ) (tied : IsTied t parents na
         by (Err TooBig) at = refusal-long v (too_long (too_big.0 at))
         by (Err Full) at = let why = full.0 at in refusal-full v (not_too_long why.0) (fits-lacks v why.1)
 
+  -- fewer bytes have room
+  less : length new ≤ length old → IsNoLarger v t
+  less few = record {
+    blocks = refl;
+    inodes = refl;
+    version = refl;
+    nodes = λ n. ⊎_elim
+        (λ same. subst (λ k. IsNoLonger t.version (node_at v k) (node_at t k)) (sym same)
+        (subst (λ o. IsNoLonger t.version o (node_at t f)) (sym here) (subst (λ o. IsNoLonger t.version (Some (file_node x new)) o) (sym is) few)))
+        (λ other. subst (λ o. IsNoLonger t.version o (node_at t n)) (sym (node_at-other t f (file_node x new) n within other)) (no_longer-self t.version (node_at t n)))
+        (cases_eq n f);
+  }
+
+  pub shorter-allowed : length new ≤ length old → refusal v ≡ None
+  shorter-allowed few = smaller-allowed t v (less few) c.short c.fits
+
 -- ---- the results of the calls below
+
+-- a call that has room succeeds
+pub not-refused : (a : Result (Unit {0}) Space) (o : Option Space) → IfErr a (λ why. o ≡ Some why) → o ≡ None → is_err a ≡ false
+not-refused (Ok done) o refused room = refl
+not-refused (Err why) o refused room = let both : ◌≡◌ {A = Option Space} None (Some why) = sym room ∙ refused in cc both
+
+-- a write that succeeds ends within the maximum length
+pub write-ends : (most at : ℕ) (bytes : Bytes) (a : Result (Unit {0}) Space) → ((a ≡ Err TooBig) ↔ ((0 < length bytes) × (most < at + length bytes)))
+    → OnOk a (0 < length bytes → at + length bytes ≤ most)
+write-ends most at bytes (Err why) too_big = tt
+write-ends most at bytes (Ok done) too_big = λ some. ⊎_elim (λ past. let bad = too_big.1 (some, past) in cc bad) (λ within. omega (arith, within)) (cases_lt most (at + length bytes))
 
 -- a change of a file, as the call below states it
 pub record IsAnswer (t u after : Tree) (parents names holds : List ℕ) (a : Result (Unit {0}) Space) : Type 0 where
@@ -179,6 +208,13 @@ module _ (t u : Tree) (parents names holds : List ℕ) (tied : IsTied t parents 
         allowed = subst (λ w. OnOk a (refusal w ≡ None)) (sym after) allowed;
         refused = subst (λ w. IfErr a (λ why. refusal w ≡ Some why)) (sym after) (content-refused t parents names holds tied f x old new is encoded a big wanting);
       }
+
+  -- a truncation has room
+  pub resize-shorter : (size : ℕ) → size ≤ length (content_of (node_at t f)) → refusal (resized t f size) ≡ None
+  resize-shorter size few =
+      let new = resize old size in
+      ap (λ o. refusal (with_content_of t f o (resize (bytes_of o) size))) is
+      ∙ shorter-allowed t parents names holds tied f x old new is (bytes-resize old size old-bytes) (omega (arith, length-resize old size, few, ap (λ o. length (content_of o)) is))
 
   pub write-answer : (at : ℕ) (bytes : Bytes) → are_bytes bytes ≡ true → OnOk a (u ≡ written t f at bytes) → OnErr a (u ≡ t)
       → ((a ≡ Err TooBig) ↔ ((0 < length bytes) × (greatest_length t.version < at + length bytes)))

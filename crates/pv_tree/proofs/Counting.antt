@@ -12,6 +12,7 @@ use Rattle.pv_laws_trees.specs.Tree.{IsSound}
 use Rattle.pv_laws_trees.proofs.Changes.{some-below}
 use Rattle.pv_laws_trees.proofs.Entries.{by_name}
 use Rattle.pv_laws_trees.proofs.Numbered.{keep-some, keep-passes, length-keep}
+use Rattle.pv_laws_trees.proofs.Places.{parent-directory}
 use Rattle.pv_laws_trees.proofs.Trees.{ordered, sound, among-entry, parent-entry, parent-root}
 use Rattle.pv_laws_trees.proofs.Keeping.{only-sound, entries-only, find-only, wanted-covers, preserved_in_turn}
 use Rattle.pv_tree.specs.Changes.{settled}
@@ -20,7 +21,7 @@ use Rattle.pv_tree.specs.Present.{stored, IsCounted, IsTied}
 use Rattle.pv_laws_trees.proofs.Encoded.{bytes-preserved}
 use Rattle.pv_tree.proofs.Carrying.{carried}
 use Rattle.pv_tree.proofs.Keeping.{is_preserved, wanted-counted, collected-all, collected-one, all-preserved}
-use Rattle.pv_tree.proofs.Names.{name_count, named-is, names-same, is_positive, positive-is, is-positive, none-positive}
+use Rattle.pv_laws_trees.proofs.NameCounts.{name_count, named-is, names-same, is_positive, positive-is, is-positive, none-positive}
 use Rattle.pv_tree.proofs.Parents.{parent-same}
 use Rattle.pv_tree.proofs.Rooms.{refusal-fits, collected-allowed}
 
@@ -135,6 +136,21 @@ parent-none t u parents names holds tied same n is none = sym (by (parent t n) r
         let absent : find_entry t d found.0 ≡ None = ap (λ k. find_entry t k found.0) zero_d ∙ ap (λ o. find by_name found.0 (entries_of o)) tied.counted.well_formed.no_zero in
         cc)
         (cases_eq n root)
+
+-- a stored parent is a directory
+pub stored-directory : (t u : Tree) (parents names holds : List ℕ) → IsTied t parents names holds → t ≡ u → (n : ℕ) → is_directory_at u n ≡ true
+    → slice_index parents n ≢ 0 → is_directory_at u (slice_index parents n) ≡ true
+stored-directory t u parents names holds tied same n is other = ap (λ v. is_directory_at v (slice_index parents n)) (sym same) ∙ by (parent t n) refl
+  where
+    c : IsCounted t parents names holds
+    c = tied.counted
+
+    read : slice_index parents n ≡ stored (parent t n)
+    read = c.parents_stored n (ap (λ v. is_directory_at v n) same ∙ is)
+
+    by : (o : Option ℕ) → parent t n ≡ o → is_directory_at t (slice_index parents n) ≡ true
+    by None up = absurd (other (read ∙ ap stored up))
+    by (Some d) up = ap (is_directory_at t) (read ∙ ap stored up) ∙ parent-directory (λ b. true) t (sound t c.well_formed) n d up
 
 -- ---- nodes that a caller sees
 

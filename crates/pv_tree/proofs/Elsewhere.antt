@@ -1,6 +1,6 @@
 -- Lookups of names that a change does not affect.
-use Rattle.std.proofs.Common.{◌≡◌, ℕ, ◌<◌, true, [], ◌∷◌, List, length, None, Result, Ok, Err, refl, ap, ◌∙◌, arith}
-use Rattle.std.specs.Prelude.{OnOk, OnErr}
+use Rattle.std.proofs.Common.{◌≡◌, ℕ, ◌<◌, ◌≤◌, true, [], ◌∷◌, List, length, None, is_some, Result, Ok, Err, refl, ap, ◌∙◌, arith}
+use Rattle.std.specs.Prelude.{OnOk, OnErr, IsSome}
 use Rattle.pv_inodes.specs.declared.space.Space.{Space}
 use Rattle.pv_model.specs.declared.kind.NewNode.{NewNode}
 use Rattle.pv_model.specs.Bytes.{Bytes}
@@ -10,7 +10,7 @@ use Rattle.pv_laws_trees.specs.Found.{Alike, AlikeBut, AlikeButTwo}
 use Rattle.pv_laws_trees.proofs.Found.{alike-then, alike-without, alike-new, alike-moved, alike-preserved, alike-content}
 use Rattle.pv_tree.specs.Changes.{new_node, overwritten, resized}
 use Rattle.pv_tree.specs.Holding.{held_numbers, collected}
-use Rattle.pv_tree.proofs.Making.{new-entries}
+use Rattle.pv_laws_trees.proofs.NewNodes.{new-entries, there-new, new-same}
 
 -- ---- equal trees have the same entries
 
@@ -66,3 +66,10 @@ alike-overwritten t n at (b ∷ bytes) d q = alike-content t n (overwrite (bytes
 
 pub alike-resized : (t : Tree) (n size : ℕ) → Alike (find_entry t) (find_entry (resized t n size))
 alike-resized t n size = alike-content t n (resize (bytes_of (node_at t n)) size)
+
+-- a new node is in the tree
+pub there-made : (t : Tree) (d : ℕ) (name : Bytes) (k : NewNode) → is_directory_at t d ≡ true → find_entry t d name ≡ None → new_number t < length t.nodes
+    → IsSome (node_at (with_new_node t d name (new_node k)) (new_number t))
+there-made t d name k is free within =
+    let least : new_number t ≤ length t.nodes = omega (arith, within) in
+    there-new t d name (new_node k) is free (new-entries k) least (new_number t) (ap is_some (new-same t d name (new_node k) is free (new-entries k) least))

@@ -19,7 +19,8 @@ use Rattle.pv_laws_trees.proofs.Trees.{sound, ordered, entry-among, entry-parent
 use Rattle.pv_tree.specs.Holding.{held_numbers}
 use Rattle.pv_tree.specs.Present.{stored, IsTied}
 use Rattle.pv_tree.proofs.Prefix.{zeros-at}
-use Rattle.pv_tree.proofs.Names.{name_count, names_from, names-cons, named-is, positive-is, is-positive, entries-most}
+use Rattle.pv_laws_trees.proofs.NameCounts.{name_count, names_of_nodes, names-cons, named-is, positive-is, is-positive, entries-most}
+use Rattle.pv_tree.proofs.Names.{length-names_in}
 use Rattle.pv_tree.proofs.Counting.{read-other}
 use Rattle.pv_tree.proofs.Rooms.{fits-from}
 
@@ -33,9 +34,9 @@ before-cons o xs zero n = omega arith
 before-cons o xs (suc d) n = omega (arith, before-cons o xs d n)
 
 -- in all directories, these are all of its names
-before-all_from : (k : ℕ) (xs : Numbered Node) (n : ℕ) → before_in xs (length xs) n ≡ length (names_from n k xs)
+before-all_from : (k : ℕ) (xs : Numbered Node) (n : ℕ) → before_in xs (length xs) n ≡ length (names_of_nodes n k xs)
 before-all_from k [] n = refl
-before-all_from k (o ∷ xs) n = omega (arith, before-cons o xs (length xs) n, names-cons n k o xs, before-all_from (suc k) xs n)
+before-all_from k (o ∷ xs) n = omega (arith, before-cons o xs (length xs) n, names-cons n k o xs, length-names_in n (entries_of o) k, before-all_from (suc k) xs n)
 
 before-most : (xs : Numbered Node) (d n : ℕ) → ((e : ℕ) → count_in n (entries_of (at_number xs e)) ≤ 2540) → before_in xs d n ≤ 2540 * d
 before-most xs zero n few = omega arith

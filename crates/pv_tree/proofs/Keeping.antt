@@ -1,38 +1,17 @@
 -- The nodes that are kept, and those that the collection removes.
-use Rattle.std.proofs.Common.{◌≡◌, ◌≢◌, ℕ, zero, suc, ◌+◌, ◌<◌, Bool, true, false, ◌||◌, ◌==◌, List, [], ◌∷◌, Option, None, Some, is_some, refl, ap, ap₂, sym, ◌∙◌, arith, ⊎_elim}
+use Rattle.std.proofs.Common.{◌≡◌, ◌≢◌, ℕ, zero, suc, Bool, true, false, ◌||◌, ◌==◌, List, Option, None, Some, is_some, refl, ap, ap₂, sym, ◌∙◌, arith, ⊎_elim}
 use Rattle.std.specs.Prelude.{slice_index}
-use Rattle.std.proofs.lemmas.Bool.{eq-eqb, ne_eqb, cases_eq, or_left}
+use Rattle.std.proofs.lemmas.Bool.{ne_eqb, cases_eq}
 use Rattle.pv_model.specs.Held.{among}
 use Rattle.pv_model.specs.Numbered.{Numbered, at_number, without_number, keep, keep_if}
 use Rattle.pv_model.specs.Tree.{Node, Tree, root, node_at}
 use Rattle.pv_dirs.specs.Trees.{without_node}
 use Rattle.pv_laws_trees.specs.Preserved.{EachIsNamed, wanted}
-use Rattle.pv_laws_trees.proofs.Numbered.{same_numbered, at_number-keep, keep-some, keep-passes, keep-fails, length-keep, length-without_number, without_number-same, without_number-other}
-use Rattle.pv_laws_trees.proofs.Keeping.{only_nodes_all, wanted-is}
-use Rattle.pv_tree.specs.Holding.{held_from, held_numbers, IsUnheld, collected}
-use Rattle.pv_tree.proofs.Names.{name_count, named-is, is_positive}
-
--- ---- the numbers with references
-
-held-before : (k : ℕ) (holds : List ℕ) (m : ℕ) → m < k → among (held_from k holds) m ≡ false
-held-before k [] m below = refl
-held-before k (zero ∷ holds) m below = held-before (suc k) holds m (omega arith)
-held-before k (suc times ∷ holds) m below =
-    let other : k ≢ m = λ same. absurd (omega arith) in
-    ap (λ b. b || among (held_from (suc k) holds) m) (ne_eqb k m other) ∙ held-before (suc k) holds m (omega arith)
-
-held-at : (k : ℕ) (holds : List ℕ) (n m : ℕ) → m ≡ k + n → among (held_from k holds) m ≡ is_positive (slice_index holds n)
-held-at k [] n m at = refl
-held-at k (zero ∷ holds) zero m at = held-before (suc k) holds m (omega arith)
-held-at k (zero ∷ holds) (suc n) m at = held-at (suc k) holds n m (omega arith)
-held-at k (suc times ∷ holds) zero m at = or_left (k == m) _ (eq-eqb k m (omega arith))
-held-at k (suc times ∷ holds) (suc n) m at =
-    let other : k ≢ m = λ same. absurd (omega arith) in
-    ap (λ b. b || among (held_from (suc k) holds) m) (ne_eqb k m other) ∙ held-at (suc k) holds n m (omega arith)
-
-pub held-is : (holds : List ℕ) (n : ℕ) → among (held_numbers holds) n ≡ is_positive (slice_index holds n)
-unfolding held_numbers
-held-is holds n = held-at 0 holds n n (omega arith)
+use Rattle.pv_laws_trees.proofs.Numbered.{same_numbered, at_number-keep, keep-passes, keep-fails, length-keep, length-without_number, without_number-same, without_number-other}
+use Rattle.pv_laws_trees.proofs.Keeping.{only_nodes_all, all_only_nodes, wanted-is}
+use Rattle.pv_laws_trees.proofs.NameCounts.{name_count, named-is, is_positive}
+use Rattle.pv_laws_trees.proofs.ReferenceCounts.{held-is}
+use Rattle.pv_tree.specs.Holding.{held_numbers, IsUnheld, collected}
 
 -- ---- the nodes that are kept
 
@@ -49,16 +28,9 @@ pub collected-all : (t : Tree) (holds : List ℕ) → ((n : ℕ) → is_some (no
 collected-all t holds each =
     only_nodes_all t (wanted t (held_numbers holds)) (λ n node at. wanted-counted t holds n ∙ each n (ap is_some at))
 
-some_at : (o : Option Node) → is_some o ≡ true → (node : Node) × (o ≡ Some node)
-some_at None is = cc
-some_at (Some node) is = (node, refl)
-
 -- if none is removed, each node is kept
 pub all-preserved : (t : Tree) (holds : List ℕ) → collected t holds ≡ t → (n : ℕ) → is_some (node_at t n) ≡ true → is_preserved n (name_count t n) (slice_index holds n) ≡ true
-all-preserved t holds same n is =
-    let found = some_at (node_at t n) is in
-    sym (wanted-counted t holds n)
-    ∙ (keep-some (among (wanted t (held_numbers holds))) t.nodes n found.0 (ap (λ u. node_at u n) same ∙ found.1)).0
+all-preserved t holds same n is = sym (wanted-counted t holds n) ∙ all_only_nodes t (wanted t (held_numbers holds)) same n is
 
 -- if also nothing is referenced, each node except the root has a name
 pub unheld-named : (t : Tree) (holds : List ℕ) → collected t holds ≡ t → IsUnheld holds → EachIsNamed t

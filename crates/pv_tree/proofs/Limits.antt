@@ -14,11 +14,6 @@ pub entries_past : (v : Version) (n : ℕ) → greatest_entries v ≤ n → grea
 entries_past V1 n many = omega arith
 entries_past V2 n many = omega arith
 
--- a directory that is not too long has at most 2,540 entries
-pub entries_few : (v : Version) (n : ℕ) → entry_length v * n ≤ greatest_length v → n ≤ 2540
-entries_few V1 n within = omega arith
-entries_few V2 n within = omega arith
-
 -- the target of a symbolic link is not too long
 pub text_allowed : (v : Version) → 1023 ≤ greatest_length v
 text_allowed V1 = omega arith

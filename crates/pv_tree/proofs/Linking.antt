@@ -22,7 +22,8 @@ use Rattle.pv_tree.proofs.Carrying.{carried}
 use Rattle.pv_tree.proofs.Counting.{below, read-same, read-other, preserved-more, settled-is}
 use Rattle.pv_tree.proofs.Entries.{one_if}
 use Rattle.pv_tree.proofs.Keeping.{collected-all, all-preserved}
-use Rattle.pv_tree.proofs.Names.{name_count, names-with_entry, names-without_entry, names-most}
+use Rattle.pv_laws_trees.proofs.NameCounts.{name_count, names-most}
+use Rattle.pv_tree.proofs.Names.{names-with_entry, names-without_entry}
 use Rattle.pv_tree.proofs.Parents.{parent-same}
 use Rattle.pv_tree.proofs.Rooms.{smaller-allowed}
 

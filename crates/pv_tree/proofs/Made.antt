@@ -23,8 +23,10 @@ use Rattle.pv_tree.proofs.Carrying.{carried}
 use Rattle.pv_tree.proofs.Counting.{unnamed, directory-some, read-same, read-other, preserved-more, preserved-named}
 use Rattle.pv_tree.proofs.Keeping.{collected-all, all-preserved}
 use Rattle.pv_tree.proofs.Linking.{one_if-same, one_if-other}
-use Rattle.pv_tree.proofs.Making.{new-entries, entries-one, directory-one, absent-one}
-use Rattle.pv_tree.proofs.Names.{name_count, names-with_entry, names-same}
+use Rattle.pv_laws_trees.proofs.NewNodes.{new-entries}
+use Rattle.pv_tree.proofs.Making.{entries-one, directory-one, absent-one}
+use Rattle.pv_laws_trees.proofs.NameCounts.{name_count, names-same}
+use Rattle.pv_tree.proofs.Names.{names-with_entry}
 use Rattle.pv_tree.proofs.Parents.{parent-same}
 
 module _ (t : Tree) (parents names holds : List ℕ) (tied : IsTied t parents names holds) (d : ℕ) (name : Bytes) (k : NewNode)

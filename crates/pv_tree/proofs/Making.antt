@@ -20,6 +20,7 @@ use Rattle.pv_laws_trees.specs.Encoded.{has_bytes}
 use Rattle.pv_laws_trees.proofs.Changes.{directory-below, node_at-same, still-there}
 use Rattle.pv_laws_trees.proofs.Edits.{new_number-free}
 use Rattle.pv_laws_trees.proofs.Entries.{by_name}
+use Rattle.pv_laws_trees.proofs.NewNodes.{new-entries}
 use Rattle.pv_laws_trees.proofs.Numbered.{at_number-below, at_number-drop, length-with_number, with_number-other, with_number-same_within, with_number-other_within, without_number-same, without_number-other, length-without_number, length-drop_one, least_free-within, least_free-below, present-all, present-drop, same_numbered}
 use Rattle.pv_laws_trees.proofs.Trees.{ordered}
 use Rattle.pv_tree.specs.Changes.{new_node, sort_of}
@@ -110,12 +111,6 @@ taken_away t n node free below =
     (λ same. ap (at_number (without_number (with_number t.nodes n node) n)) same ∙ without_number-same (with_number t.nodes n node) n ∙ sym free ∙ ap (node_at t) (sym same))
     (λ other. without_number-other (with_number t.nodes n node) n m other ∙ with_number-other t.nodes n node m below other)
     (cases_eq m n)))
-
-pub new-entries : (k : NewNode) → entries_of (Some (new_node k)) ≡ []
-new-entries Directory = refl
-new-entries File = refl
-new-entries Executable = refl
-new-entries (Symlink text) = refl
 
 new-length : (v : Version) (k : NewNode) → is_node v (new_node k) ≡ true → node_length v (new_node k) ≤ 1023
 new-length v Directory good = omega arith

@@ -30,7 +30,8 @@ use Rattle.pv_tree.proofs.Entries.{one_if, put_back, put_over, none_taken}
 use Rattle.pv_tree.proofs.Keeping.{is_preserved, collected-all, all-preserved}
 use Rattle.pv_tree.proofs.Linking.{one_if-same, one_if-other}
 use Rattle.pv_tree.proofs.Making.{with_node-twice, filled}
-use Rattle.pv_tree.proofs.Names.{name_count, names-with_entry, names-without_entry}
+use Rattle.pv_laws_trees.proofs.NameCounts.{name_count}
+use Rattle.pv_tree.proofs.Names.{names-with_entry, names-without_entry}
 use Rattle.pv_tree.proofs.Parents.{parent-same}
 use Rattle.pv_tree.proofs.Rooms.{refusal-none, refusal-fits, no_longer, no_longer-self, smaller-allowed}
 

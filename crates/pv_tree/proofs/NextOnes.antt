@@ -1,13 +1,13 @@
 -- From one name to the next, from directory to directory.
 use Rattle.std.proofs.Common.{◌≡◌, ℕ, ◌+◌, ◌<◌, ◌≤◌, true, false, length, Option, None, Some, refl, ap, sym, subst, ◌∙◌, ◌⊎◌, ⊎_elim, inl, inr, arith}
-use Rattle.std.proofs.lemmas.Bool.{cases_lt}
+use Rattle.std.proofs.lemmas.Bool.{cases_lt, false_from_ne_true}
 use Rattle.pv_model.specs.Bytes.{Bytes}
 use Rattle.pv_model.specs.Calls.Descriptors.{is_past}
 use Rattle.pv_model.specs.Tree.{Tree, find_entry, is_directory_at}
 use Rattle.pv_laws_trees.proofs.Changes.{has_entry-directory, directory-below}
 use Rattle.pv_dirs.specs.Listing.{IsNextNameOf}
 use Rattle.pv_tree.specs.NodeNames.{is_after, IsNextNameOfNode}
-use Rattle.pv_tree.proofs.Rising.{Named, after-cases, after-lower, after-same, never, bool_cases}
+use Rattle.pv_tree.proofs.Rising.{Named, after-cases, after-lower, after-same, bool_cases}
 
 -- the names that follow the last one: those of greater directories, and in this one those that follow a name
 pub record IsCut (last : Option Named) (first : ℕ) (following : Option Bytes) : Type 0 where
@@ -26,7 +26,7 @@ cut-some d name = record {
 }
   where
     unless : (other : Bytes) → is_past (Some name) other ≡ false → is_after (Some (d, name)) (d, other) ≡ false
-    unless other isnt = never (is_after (Some (d, name)) (d, other))
+    unless other isnt = false_from_ne_true (is_after (Some (d, name)) (d, other))
         (λ is. ⊎_elim (λ (less : d < d). omega arith) (λ same. let both : true ≡ false = sym same.1 ∙ isnt in cc both) (after-cases (d, name) (d, other) is))
 
 -- in a directory, the names that follow a name also follow the last one
@@ -71,7 +71,7 @@ module _ (t : Tree) (n : ℕ) (last : Option Named) where
     named = next.named;
     after = is name ∙ next.following;
     least = λ x there after.
-        never (is_after (Some x) (d, name))
+        false_from_ne_true (is_after (Some x) (d, name))
         (λ before.
         ⊎_elim (λ (less : x.0 < d). let low = down.low x there after in omega arith)
         (λ same.
@@ -84,7 +84,7 @@ module _ (t : Tree) (n : ℕ) (last : Option Named) where
   -- after all directories
   pub down-all : (d : ℕ) → IsDownTo d → length t.nodes ≤ d → IsNextNameOfNode t n last None
   down-all d down all = λ x there.
-      never (is_after last x) (λ after. let low = down.low x there after in let below = directory-below t x.0 (has_entry-directory t x.0 x.1 n there) in absurd (omega arith))
+      false_from_ne_true (is_after last x) (λ after. let low = down.low x there after in let below = directory-below t x.0 (has_entry-directory t x.0 x.1 n there) in absurd (omega arith))
 
 pub from-here : (last : Option Named) (first : ℕ) (following : Option Bytes) → IsCut last first following → IsFrom last first following
 unfolding IsFrom

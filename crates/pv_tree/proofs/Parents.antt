@@ -4,9 +4,8 @@ use Rattle.std.specs.Prelude.{option_to_list}
 use Rattle.std.specs.List.{list_any}
 use Rattle.std.proofs.lemmas.Bool.{cases_eq, eq-eqb, ne_eqb, or_left}
 use Rattle.pv_model.specs.Calls.Paths.{contains_directory}
-use Rattle.pv_laws_trees.proofs.Changes.{has_entry-directory}
 use Rattle.pv_model.specs.Bytes.{Bytes}
-use Rattle.pv_model.specs.Tree.{Tree, root, is_directory_at, find_entry, parent, ancestors_within, ancestors, IsWellFormed}
+use Rattle.pv_model.specs.Tree.{Tree, root, is_directory_at, find_entry, parent, ancestors_within, ancestors}
 use Rattle.pv_laws_trees.specs.Tree.{IsSound}
 use Rattle.pv_laws_trees.proofs.Trees.{ordered, parent-entry, parent-none_named, parent-unnamed, parent-root, entry-parent}
 
@@ -27,9 +26,6 @@ parent-same t u s r n is stays was =
         let found = parent-entry t (ordered t s.each_node) n d other up in entry-parent u r n d found.0 is (stays d found.0 found.1) ∙ sym up
 
 -- ---- the ancestors of a directory
-
-pub above-directory : (t : Tree) → IsWellFormed t → (d : ℕ) → d ≢ root → (p : ℕ) → parent t d ≡ Some p → is_directory_at t p ≡ true
-above-directory t w d below p up = let found = parent-entry t (ordered t w.each_node) d p below up in has_entry-directory t p found.0 d found.1
 
 -- among the directory and its ancestors within a number of steps
 abbrev pub is_among : Tree → ℕ → ℕ → ℕ → Bool

@@ -6,7 +6,7 @@ use Rattle.std.specs.FinMap.Entries.{is_sorted, below_all}
 use Rattle.std.specs.Ordering.{is_lt, ordering_reverse}
 use Rattle.std.specs.declared.cmp.Ordering.{Ordering}
 use Rattle.std.specs.declared.cmp.Ordering.TheVariants.{Less, Equal, Greater}
-use Rattle.std.proofs.lemmas.Bool.{and_parts, and_from, or_cases, or_left, or_right, eqb-true, eq-eqb, lt-ltb, ltb-true, ltb-false}
+use Rattle.std.proofs.lemmas.Bool.{and_parts, and_from, or_cases, or_left, or_right, eqb-true, eq-eqb, lt-ltb, ltb-true, ltb-false, false_from_ne_true}
 use Rattle.std.proofs.lemmas.Cmp.{nat_list_cmp_total}
 use Rattle.std.proofs.lemmas.List.Folds.{list_all-append}
 use Rattle.pv_model.specs.Bytes.{Bytes}
@@ -15,9 +15,10 @@ use Rattle.pv_model.specs.Numbered.{Numbered, at_number, numbered_from}
 use Rattle.pv_model.specs.Tree.{Entries, Node, Tree, entries_of, names_in, names_of}
 use Rattle.pv_laws_trees.proofs.Entries.{by_name, tied-same}
 use Rattle.pv_laws_trees.proofs.Trees.{IsOrdered}
+use Rattle.pv_laws_trees.proofs.NameCounts.{names_of_nodes}
 use Rattle.pv_laws_trees.proofs.NameOrder.{not_after_itself, after_more}
 use Rattle.pv_laws_trees.proofs.Members.{In, entry-in, in-entry}
-use Rattle.pv_tree.specs.NodeNames.{is_after, first_after, IsLeastAfter, IsNextNameOfNode}
+use Rattle.pv_tree.specs.NodeNames.{is_after, first_after, names_after, names_from, IsLeastAfter, IsNextNameOfNode}
 
 -- a name with its directory
 abbrev pub Named : Type 0
@@ -53,10 +54,6 @@ pub bool_cases : (b : Bool) → (b ≡ true) ⊎ (b ≡ false)
 bool_cases true = inl refl
 bool_cases false = inr refl
 
-pub never : (b : Bool) → (b ≡ true → ⊥) → b ≡ false
-never true none = absurd (none refl)
-never false none = refl
-
 -- a name that follows one after the last name also follows the last name
 pub after-more : (last : Option Named) (x y : Named) → is_after last x ≡ true → is_after (Some x) y ≡ true → is_after last y ≡ true
 after-more None x y is more = refl
@@ -68,12 +65,12 @@ after-more (Some l) x y is more =
 
 pub not-after_itself : (x : Named) → is_after (Some x) x ≡ false
 not-after_itself x =
-    never (is_after (Some x) x)
+    false_from_ne_true (is_after (Some x) x)
     (λ is. ⊎_elim (λ (low : x.0 < x.0). omega arith) (λ same. let isnt = not_after_itself x.1 in let both : true ≡ false = sym same.1 ∙ isnt in cc both) (after-cases x x is))
 
 pub not-after_both : (x y : Named) → is_after (Some x) y ≡ true → is_after (Some y) x ≡ false
 not-after_both x y is =
-    never (is_after (Some y) x)
+    false_from_ne_true (is_after (Some y) x)
     (λ back. let both : true ≡ false = sym (after-more (Some x) y x is back) ∙ not-after_itself x in cc both)
 
 -- two names are equal if neither follows the other
@@ -81,13 +78,13 @@ pub same-named : (x y : Named) → is_after (Some x) y ≡ false → is_after (S
 same-named x y isnt other = pair level (same-name x.1 y.1 (unless x y isnt level) (unless y x other (sym level)))
   where
     not_lower : (a b : Named) → is_after (Some a) b ≡ false → b.0 ≤ a.0
-    not_lower a b is = ltb-false a.0 b.0 (never (nat_lt a.0 b.0) (λ less. let both : true ≡ false = sym (or_left (nat_lt a.0 b.0) _ less) ∙ is in cc both))
+    not_lower a b is = ltb-false a.0 b.0 (false_from_ne_true (nat_lt a.0 b.0) (λ less. let both : true ≡ false = sym (or_left (nat_lt a.0 b.0) _ less) ∙ is in cc both))
 
     level : x.0 ≡ y.0
     level = omega (arith, not_lower x y isnt, not_lower y x other)
 
     unless : (a b : Named) → is_after (Some a) b ≡ false → a.0 ≡ b.0 → is_past (Some a.1) b.1 ≡ false
-    unless a b is same = never (is_past (Some a.1) b.1) (λ following. let both : true ≡ false = sym (after-same a b same following) ∙ is in cc both)
+    unless a b is same = false_from_ne_true (is_past (Some a.1) b.1) (λ following. let both : true ≡ false = sym (after-same a b same following) ∙ is in cc both)
 
     pair : x.0 ≡ y.0 → x.1 ≡ y.1 → x ≡ y
     pair a b = λ i. (a i, b i)
@@ -100,19 +97,6 @@ all_after x ns = list_all (λ (y : Named). is_after (Some x) y) ns
 abbrev pub rises : List Named → Bool
 rises [] = true
 rises (x ∷ ns) = all_after x ns && rises ns
-
--- the names of an ascending list that follow the last one
-abbrev pub names_after : Option Named → List Named → List Named
-names_after last ns = filter (is_after last) ns
-
--- the next name, and those after it
-abbrev pub names_on : Option Named → List Named → List Named
-names_on None ns = []
-names_on (Some x) ns = x ∷ names_after (Some x) ns
-
-pub after-none : (ns : List Named) → names_after None ns ≡ ns
-after-none [] = refl
-after-none (x ∷ ns) = ap (λ (ys : List Named). x ∷ ys) (after-none ns)
 
 -- all names follow the last one if they follow one that does
 all_after_last : (last : Option Named) (x : Named) (ns : List Named) → is_after last x ≡ true → all_after x ns ≡ true → names_after last ns ≡ ns
@@ -140,11 +124,11 @@ found-passes p q (y ∷ ns) x all is =
     ] is
 
 -- the names that follow the last one are the next name and those after it
-pub after-next : (last : Option Named) (ns : List Named) → rises ns ≡ true → names_after last ns ≡ names_on (first_after last ns) ns
+pub after-next : (last : Option Named) (ns : List Named) → rises ns ≡ true → names_after last ns ≡ names_from (first_after last ns) ns
 after-next last [] up = refl
 after-next last (y ∷ ns) up =
     let parts = and_parts (all_after y ns) (rises ns) up in
-    elim (is_after last y) as (λ b. is_after last y ≡ b → cond b (y ∷ names_after last ns) (names_after last ns) ≡ names_on (cond b (Some y) (first_after last ns)) (y ∷ ns)) [
+    elim (is_after last y) as (λ b. is_after last y ≡ b → cond b (y ∷ names_after last ns) (names_after last ns) ≡ names_from (cond b (Some y) (first_after last ns)) (y ∷ ns)) [
       | true ↦ λ is.
           ap (λ (zs : List Named). y ∷ zs)
           (all_after_last last y ns is parts.0 ∙ sym (all_after_itself y ns parts.0)
@@ -152,7 +136,7 @@ after-next last (y ∷ ns) up =
       | false ↦ λ is. after-next last ns parts.1 ∙ later (first_after last ns) refl parts.0
     ] refl
   where
-    later : (o : Option Named) → first_after last ns ≡ o → all_after y ns ≡ true → names_on o ns ≡ names_on o (y ∷ ns)
+    later : (o : Option Named) → first_after last ns ≡ o → all_after y ns ≡ true → names_from o ns ≡ names_from o (y ∷ ns)
     later None found all = refl
     later (Some x) found all =
         let back = not-after_both y x (found-passes (is_after last) (λ z. is_after (Some y) z) ns x all found) in
@@ -233,9 +217,6 @@ rises_in n d (e ∷ es) rest sorted above up =
       | false ↦ later
     ]
 
-abbrev names_from : ℕ → ℕ → Numbered Node → List Named
-names_from n k xs = flat_map (λ (d : ℕ × Node). names_in n (entries_of (Some d.1)) d.0) (numbered_from k xs)
-
 above_in : (n j k : ℕ) (es : Entries) → j < k → all_above j (names_in n es k) ≡ true
 above_in n j k [] less = refl
 above_in n j k (e ∷ es) less =
@@ -244,18 +225,18 @@ above_in n j k (e ∷ es) less =
       | false ↦ above_in n j k es less
     ]
 
-above_from : (n j k : ℕ) (xs : Numbered Node) → j < k → all_above j (names_from n k xs) ≡ true
+above_from : (n j k : ℕ) (xs : Numbered Node) → j < k → all_above j (names_of_nodes n k xs) ≡ true
 above_from n j k [] less = refl
 above_from n j k (None ∷ xs) less = above_from n j (suc k) xs (omega arith)
 above_from n j k (Some node ∷ xs) less =
-    list_all-append (λ (y : Named). nat_lt j y.0) (names_in n (entries_of (Some node)) k) (names_from n (suc k) xs)
+    list_all-append (λ (y : Named). nat_lt j y.0) (names_in n (entries_of (Some node)) k) (names_of_nodes n (suc k) xs)
     ∙ and_from _ _ (above_in n j k (entries_of (Some node)) less) (above_from n j (suc k) xs (omega arith))
 
-rises_from : (n k : ℕ) (xs : Numbered Node) → ((d : ℕ) → is_sorted by_name (entries_of (at_number xs d)) ≡ true) → rises (names_from n k xs) ≡ true
+rises_from : (n k : ℕ) (xs : Numbered Node) → ((d : ℕ) → is_sorted by_name (entries_of (at_number xs d)) ≡ true) → rises (names_of_nodes n k xs) ≡ true
 rises_from n k [] sorted = refl
 rises_from n k (None ∷ xs) sorted = rises_from n (suc k) xs (λ d. sorted (suc d))
 rises_from n k (Some node ∷ xs) sorted =
-    rises_in n k (entries_of (Some node)) (names_from n (suc k) xs) (sorted 0) (above_from n k (suc k) xs (omega arith)) (rises_from n (suc k) xs (λ d. sorted (suc d)))
+    rises_in n k (entries_of (Some node)) (names_of_nodes n (suc k) xs) (sorted 0) (above_from n k (suc k) xs (omega arith)) (rises_from n (suc k) xs (λ d. sorted (suc d)))
 
 pub names-rise : (t : Tree) → IsOrdered t → (n : ℕ) → rises (names_of t n) ≡ true
 names-rise t sorted n = rises_from n 0 t.nodes sorted
@@ -289,3 +270,7 @@ module _ (t : Tree) (sorted : IsOrdered t) (n : ℕ) (last : Option Named) where
 
   pub next-found : (next : Option Named) → IsNextNameOfNode t n last next → next ≡ found
   next-found next is = by_found next found refl is
+
+  -- the names that follow the last one are the next name and those that follow it
+  pub rest-found : (next : Option Named) → IsNextNameOfNode t n last next → names_after last (names_of t n) ≡ names_from next (names_of t n)
+  rest-found next is = after-next last (names_of t n) (names-rise t sorted n) ∙ ap (λ o. names_from o (names_of t n)) (sym (next-found next is))

@@ -1,34 +1,17 @@
 -- Changes of a tree by calls.
-use Rattle.std.specs.Prelude.{ℕ, false, true, [], ◌∷◌, ◌||◌, ◌==◌, if◌then◌else◌, nat_lt, Option, None, Some}
-use Rattle.pv_model.specs.declared.kind.NewNode.{NewNode}
-use Rattle.pv_model.specs.declared.kind.NewNode.TheVariants.{Directory, File, Executable, Symlink}
-use Rattle.pv_model.specs.declared.kind.Kind.{Kind}
-use Rattle.pv_model.specs.declared.kind.Kind.TheVariants.{Directory as KindDirectory, File as KindFile, Executable as KindExecutable, Symlink as KindSymlink}
+use Rattle.std.specs.Prelude.{ℕ, [], ◌∷◌, ◌||◌, ◌==◌, if◌then◌else◌, nat_lt, Option, None, Some}
 use Rattle.pv_model.specs.declared.version.Version.{Version}
 use Rattle.pv_model.specs.Bytes.{Bytes}
 use Rattle.pv_model.specs.Calls.Descriptors.{with_content}
 use Rattle.pv_model.specs.Effect.{bytes_of, overwrite, resize}
 use Rattle.pv_model.specs.Manifest.{empty_tree}
-use Rattle.pv_model.specs.Tree.{Node, directory_node, file_node, link_node, Tree, root, node_at, find_entry, with_entry, without_entry}
+use Rattle.pv_model.specs.Tree.{Tree, root, node_at, find_entry, with_entry, without_entry}
 use Rattle.pv_dirs.specs.Trees.{without_node}
+pub use Rattle.pv_laws_trees.specs.NewNodes.{new_node, sort_of}
 
 -- a tree with only a root
 abbrev pub root_alone : Version → ℕ → ℕ → Tree
 root_alone v blocks inodes = record (empty_tree blocks inodes) { version = v }
-
--- a new node
-abbrev pub new_node : NewNode → Node
-new_node Directory = directory_node []
-new_node File = file_node false []
-new_node Executable = file_node true []
-new_node (Symlink text) = link_node text.now
-
--- the kind of a new node
-abbrev pub sort_of : NewNode → Kind
-sort_of Directory = KindDirectory
-sort_of File = KindFile
-sort_of Executable = KindExecutable
-sort_of (Symlink text) = KindSymlink
 
 abbrev pub moved_node : Tree → ℕ → Bytes → ℕ → Bytes → Option ℕ → Tree
 moved_node t d name e other None = t

@@ -1,5 +1,5 @@
 -- The names of a node, ordered by directory and then by the bytes of the name.
-use Rattle.std.specs.Prelude.{◌≡◌, ℕ, Bool, true, ◌&&◌, ◌||◌, ◌==◌, nat_lt, IsTrue, IsFalse, List, find, Option, None, Some, MatchOption}
+use Rattle.std.specs.Prelude.{◌≡◌, ℕ, Bool, true, ◌&&◌, ◌||◌, ◌==◌, nat_lt, IsTrue, IsFalse, List, [], ◌∷◌, filter, find, Option, None, Some, MatchOption}
 use Rattle.std.specs.Borrow.{Bor}
 use Rattle.pv_model.specs.Bytes.{Bytes}
 use Rattle.pv_model.specs.Calls.Descriptors.{is_past}
@@ -13,6 +13,15 @@ is_after (Some last) name = nat_lt last.0 name.0 || ((last.0 == name.0) && is_pa
 -- the first of some names that follows the last one
 abbrev pub first_after : Option (ℕ × Bytes) → List (ℕ × Bytes) → Option (ℕ × Bytes)
 first_after last names = find (is_after last) names
+
+-- the names that follow the last one
+abbrev pub names_after : Option (ℕ × Bytes) → List (ℕ × Bytes) → List (ℕ × Bytes)
+names_after last names = filter (is_after last) names
+
+-- the next name, and those that follow it
+abbrev pub names_from : Option (ℕ × Bytes) → List (ℕ × Bytes) → List (ℕ × Bytes)
+names_from None names = []
+names_from (Some next) names = next ∷ names_after (Some next) names
 
 -- a name of a node is the least that follows the last one
 pub record IsLeastAfter (t : Tree) (n : ℕ) (last : Option (ℕ × Bytes)) (name : ℕ × Bytes) : Type 0 where

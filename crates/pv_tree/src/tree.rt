@@ -192,7 +192,8 @@ impl Tree {
     /// Returns the parent of a directory. The root is its own parent, and a removed directory has none.
     pub fn parent(&self, directory: u16) -> Option<u16>
         requires { IsTrue (is_directory_at self.now.tree directory) }
-        ensures { result ≡ parent self.now.tree directory }
+        ensures value { result ≡ parent self.now.tree directory }
+        ensures directory { IfSome result (λ above. IsTrue (is_directory_at self.now.tree above)) }
     {
         let above = self.parents[directory as usize];
         if above == 0 { None } else { Some(above) }

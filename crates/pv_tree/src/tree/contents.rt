@@ -1,5 +1,8 @@
 //! Writing the contents of files.
-ghost use Rattle.std.specs.Prelude.{◌≡◌, IsTrue, None, Some, IfErr, OnOk, OnErr};
+ghost use Rattle.std.specs.Prelude.{◌≡◌, ◌+◌, ◌<◌, ◌≤◌, false, length, IsTrue, None, Some, IfErr, OnOk, OnErr};
+ghost use Rattle.std.specs.Result.{is_err};
+ghost use Rattle.pv_dirs.specs.Trees.{bytes_at};
+ghost use Rattle.pv_model.specs.Room.{greatest_length};
 ghost use Rattle.pv_model.specs.Sealed.{is_file};
 ghost use Rattle.pv_model.specs.Tree.{node_at, find_entry};
 ghost use Rattle.pv_laws_trees.specs.Found.{Alike};
@@ -24,6 +27,7 @@ impl Tree {
         ensures err { OnErr result (self.new ≡ self.old) }
         ensures allowed { OnOk result (refusal (overwritten self.old.tree node at bytes.now) ≡ None) }
         ensures refused { IfErr result (λ why. refusal (overwritten self.old.tree node at bytes.now) ≡ Some why) }
+        ensures end { OnOk result (0 < length bytes.now → at + length bytes.now ≤ greatest_length self.old.tree.version) }
         ensures found { Alike (find_entry self.old.tree) (find_entry self.new.tree) }
     {
         self.directories.write_at(node, at, bytes)
@@ -34,13 +38,14 @@ impl Tree {
     /// # Errors
     ///
     /// Returns `TooBig` if the file would exceed the maximum length. Otherwise returns `Full` if the image has too few
-    /// free blocks. If the call fails, nothing changes.
+    /// free blocks. If the call fails, nothing changes. A truncation never fails.
     pub fn cut(&mut self, node: u16, size: u32) -> Result<(), Space>
         requires { IsTrue (is_file (node_at self.old.tree node)) }
         ensures ok { OnOk result (self.new ≡ with_tree self.old (resized self.old.tree node size)) }
         ensures err { OnErr result (self.new ≡ self.old) }
         ensures allowed { OnOk result (refusal (resized self.old.tree node size) ≡ None) }
         ensures refused { IfErr result (λ why. refusal (resized self.old.tree node size) ≡ Some why) }
+        ensures shorter { size ≤ length (bytes_at self.old.tree node) → is_err result ≡ false }
         ensures found { Alike (find_entry self.old.tree) (find_entry self.new.tree) }
     {
         self.directories.cut(node, size)

@@ -1,5 +1,5 @@
 //! Creating nodes.
-ghost use Rattle.std.specs.Prelude.{◌≡◌, ◌<◌, length, IsTrue, false, None, Some, IfOk, IfErr, OnOk, OnErr};
+ghost use Rattle.std.specs.Prelude.{◌≡◌, ◌<◌, length, IsTrue, false, None, Some, IsSome, IfOk, IfErr, OnOk, OnErr};
 ghost use Rattle.pv_model.specs.Room.{greatest_entries, is_too_long};
 ghost use Rattle.pv_model.specs.Tree.{node_at, entries_at, find_entry, is_directory_at, is_name, is_node, with_node, with_entry, with_new_node, new_number, IsWellFormed};
 ghost use Rattle.pv_laws_trees.specs.Found.{AlikeBut};
@@ -155,6 +155,7 @@ impl Tree {
         ensures allowed { OnOk result (refusal (with_new_node self.old.tree directory name.now (new_node kind.entry)) ≡ None) }
         ensures refused { IfErr result (λ why. refusal (with_new_node self.old.tree directory name.now (new_node kind.entry)) ≡ Some why) }
         ensures elsewhere { AlikeBut directory name.now (find_entry self.old.tree) (find_entry self.new.tree) }
+        ensures there { IfOk result (λ n. IsSome (node_at self.new.tree n)) }
     {
         let node = add_node(&mut self.directories, directory, name, kind)?;
         self.names[node as usize] = 1;

@@ -2,7 +2,7 @@
 ghost use Rattle.std.specs.Prelude.{◌≡◌};
 ghost use Rattle.pv_model.specs.Answers.Nodes.{least_name};
 ghost use Rattle.pv_model.specs.Tree.{names_of};
-ghost use Rattle.pv_tree.specs.NodeNames.{first_after, last_of, IsNextNameOfNode};
+ghost use Rattle.pv_tree.specs.NodeNames.{first_after, names_after, names_from, last_of, IsNextNameOfNode};
 
 use super::Tree;
 use pv_model::Name;
@@ -36,6 +36,7 @@ impl Tree {
     pub fn next_name(&self, node: u16, last: Option<(u16, &[u8])>) -> Option<(u16, Name)>
         ensures value { result ≡ first_after (last_of last.entry) (names_of self.now.tree node) }
         ensures least { IsNextNameOfNode self.now.tree node (last_of last.entry) result }
+        ensures rest { names_after (last_of last.entry) (names_of self.now.tree node) ≡ names_from result (names_of self.now.tree node) }
     {
         let (first, past) = match last {
             Some((directory, name)) => (directory, Some(name)),

@@ -1,23 +1,17 @@
 use Rattle.std.proofs.Common.{◌≡◌, ◌<◌, ℕ, true, Option, None, Some, length, ap, sym, subst, ◌∙◌}
 use Rattle.pv_model.specs.Bytes.{Bytes}
-use Rattle.pv_model.specs.Tree.{Tree, names_of, IsWellFormed}
-use Rattle.pv_laws_trees.proofs.Trees.{ordered}
-use Rattle.pv_tree.specs.NodeNames.{first_after, IsNextNameOfNode}
-use Rattle.pv_audit.proofs.FoundOnes.{IsNotedTo, IsOfNode, noted-all, noted-first, noted-next, noted-fewer, of-next, of-directory}
-use Rattle.pv_tree.proofs.Rising.{Named, names_on, rises, names-rise}
+use Rattle.pv_model.specs.Tree.{Tree, names_of}
+use Rattle.pv_tree.specs.NodeNames.{names_after, names_from, IsNextNameOfNode}
+use Rattle.pv_audit.proofs.FoundOnes.{Named, IsNotedTo, IsOfNode, noted-all, noted-first, noted-next, noted-fewer, of-next, of-directory}
 use Rattle.pv_audit.proofs.suspects.note_names.Goals as goal
-
-up : (t u : Tree) (n : ℕ) → u ≡ t → IsWellFormed u → rises (names_of t n) ≡ true
-up t u n same well = names-rise t (ordered t (subst IsWellFormed same well).each_node) n
 
 pub loop-next-init : goal.loop-next-init
 loop-next-init c =
     let t = c.args.parts.now.tree in
     let n = c.args.node in
-    let rise = up t c.tree-tree.result.now.tree n c.tree-tree.ensures c.invariant.ensures.well_formed in
     record {
-      noted = noted-first c.args.parts.now (names_of t n) rise c.next_name-next.result c.args.suspects.now c.requires
-          (c.next_name-next.ensures.value ∙ ap (λ (u : Tree). first_after None (names_of u n)) c.tree-tree.ensures);
+      noted = noted-first c.args.parts.now (names_of t n) c.next_name-next.result c.args.suspects.now c.requires
+          (subst (λ (u : Tree). names_after None (names_of u n) ≡ names_from c.next_name-next.result (names_of u n)) c.tree-tree.ensures c.next_name-next.ensures.rest);
       of_node = of-next t n None c.next_name-next.result (subst (λ (u : Tree). IsNextNameOfNode u n None c.next_name-next.result) c.tree-tree.ensures c.next_name-next.ensures.least);
     }
 
@@ -31,12 +25,11 @@ loop-next-smaller c =
     let t = c.args.parts.now.tree in
     let n = c.args.node in
     let x : Named = (c.in-Some.directory, c.in-Some.name) in
-    let rise = up t c.tree-tree.result.now.tree n c.tree-tree.ensures c.invariant.ensures.well_formed in
-    let next =
-    c.next_name-next-in-Some.ensures.value ∙ ap (λ (u : Tree). first_after (Some (c.in-Some.directory, c.as_slice.result.now)) (names_of u n)) c.tree-tree.ensures
-    ∙ ap (λ (name : Bytes). first_after (Some (c.in-Some.directory, name)) (names_of t n)) c.as_slice.ensures.value in
-    let fewer = noted-fewer c.args.parts.now (names_of t n) rise x c.next_name-next-in-Some.result next in
-    subst (λ (o : Option Named). length (names_on c.next_name-next-in-Some.result (names_of t n)) < length (names_on o (names_of t n))) (sym c.in-Some.is) fewer
+    let next : names_after (Some x) (names_of t n) ≡ names_from c.next_name-next-in-Some.result (names_of t n) =
+    subst (λ (name : Bytes). names_after (Some (c.in-Some.directory, name)) (names_of t n) ≡ names_from c.next_name-next-in-Some.result (names_of t n)) c.as_slice.ensures.value
+    (subst (λ (u : Tree). names_after (Some (c.in-Some.directory, c.as_slice.result.now)) (names_of u n) ≡ names_from c.next_name-next-in-Some.result (names_of u n)) c.tree-tree.ensures c.next_name-next-in-Some.ensures.rest) in
+    let fewer = noted-fewer c.args.parts.now (names_of t n) x c.next_name-next-in-Some.result next in
+    subst (λ (o : Option Named). length (names_from c.next_name-next-in-Some.result (names_of t n)) < length (names_from o (names_of t n))) (sym c.in-Some.is) fewer
 
 pub loop-next-preserved : goal.loop-next-preserved
 loop-next-preserved c =
@@ -44,12 +37,11 @@ loop-next-preserved c =
     let t = s.tree in
     let n = c.args.node in
     let x : Named = (c.in-Some.directory, c.in-Some.name) in
-    let rise = up t c.tree-tree.result.now.tree n c.tree-tree.ensures c.invariant.ensures.well_formed in
-    let next =
-    c.next_name-next-in-Some.ensures.value ∙ ap (λ (u : Tree). first_after (Some (c.in-Some.directory, c.as_slice.result.now)) (names_of u n)) c.tree-tree.ensures
-    ∙ ap (λ (name : Bytes). first_after (Some (c.in-Some.directory, name)) (names_of t n)) c.as_slice.ensures.value in
+    let next : names_after (Some x) (names_of t n) ≡ names_from c.next_name-next-in-Some.result (names_of t n) =
+    subst (λ (name : Bytes). names_after (Some (c.in-Some.directory, name)) (names_of t n) ≡ names_from c.next_name-next-in-Some.result (names_of t n)) c.as_slice.ensures.value
+    (subst (λ (u : Tree). names_after (Some (c.in-Some.directory, c.as_slice.result.now)) (names_of u n) ≡ names_from c.next_name-next-in-Some.result (names_of u n)) c.tree-tree.ensures c.next_name-next-in-Some.ensures.rest) in
     record {
-      noted = noted-next s (names_of t n) rise x c.next_name-next-in-Some.result c.args.suspects.now c.loop-next.suspects c.note_name.new.suspects
+      noted = noted-next s (names_of t n) x c.next_name-next-in-Some.result c.args.suspects.now c.loop-next.suspects c.note_name.new.suspects
           (subst (λ (o : Option Named). IsNotedTo s (names_of t n) o c.args.suspects.now c.loop-next.suspects) c.in-Some.is c.loop-next.invariant.noted) next c.note_name.ensures;
       of_node = of-next t n (Some (c.in-Some.directory, c.as_slice.result.now)) c.next_name-next-in-Some.result
           (subst (λ (u : Tree). IsNextNameOfNode u n (Some (c.in-Some.directory, c.as_slice.result.now)) c.next_name-next-in-Some.result) c.tree-tree.ensures c.next_name-next-in-Some.ensures.least);

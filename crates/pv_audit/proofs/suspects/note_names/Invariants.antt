@@ -1,7 +1,7 @@
 use Rattle.std.proofs.Common.{length}
 use Rattle.pv_model.specs.Tree.{names_of}
 use Rattle.pv_audit.proofs.FoundOnes.{IsNotedTo, IsOfNode}
-use Rattle.pv_tree.proofs.Rising.{names_on}
+use Rattle.pv_tree.specs.NodeNames.{names_from}
 use Rattle.pv_audit.proofs.suspects.note_names.Given as goal
 
 abbrev pub invariant-loop-next : goal.invariant-loop-next
@@ -11,4 +11,4 @@ invariant-loop-next l = record {
 }
 
 abbrev pub decreases-loop-next : goal.decreases-loop-next
-decreases-loop-next l = length (names_on l.next (names_of l.fn.parts.tree l.node))
+decreases-loop-next l = length (names_from l.next (names_of l.fn.parts.tree l.node))

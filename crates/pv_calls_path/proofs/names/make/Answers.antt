@@ -6,7 +6,7 @@ use Rattle.pv_model.specs.Effect.{node_of}
 use Rattle.pv_model.specs.Tree.{find_entry}
 use Rattle.pv_model.specs.Room.{fits}
 use Rattle.pv_calls_path.proofs.NameCalls.{make_crowded, names_made}
-use Rattle.pv_tree.proofs.Making.{new-entries}
+use Rattle.pv_laws_trees.proofs.NewNodes.{new-entries}
 use Rattle.pv_tree.specs.Changes.{new_node}
 use Rattle.pv_calls_path.proofs.names.make.Goals as goal
 

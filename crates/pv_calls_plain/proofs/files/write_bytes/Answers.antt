@@ -2,8 +2,7 @@ use Rattle.std.proofs.Common.{◌≡◌, ◌∙◌, ◌+◌, ap, sym}
 use Rattle.pv_calls_state.specs.Attempts.{collected}
 use Rattle.pv_calls_plain.specs.Performed.{attempt_of}
 use Rattle.pv_model.specs.Calls.Descriptors.{is_past_greatest}
-use Rattle.pv_tree.specs.Rooms.{refusal}
-use Rattle.pv_tree.proofs.Rooms.{refusal-fits}
+use Rattle.pv_model.specs.Room.{is_too_long, fits}
 use Rattle.pv_calls_plain.proofs.FileCalls.{some-past, some-crowded, some-written}
 use Rattle.pv_calls_plain.proofs.files.write_bytes.Goals as goal
 
@@ -22,8 +21,9 @@ returns-in-Ok-clause-performed c = λ me f proc at.
     let first = c.write_place-at.result in
     let place = c.write_place-at.ensures.place c.args.pid me f at in
     let short = ap (λ t. is_past_greatest t (first + c.args.count)) (sym c.tree.ensures) ∙ sym c.is_past_greatest.ensures ∙ c.if-is_past_greatest.false in
-    let room = ap refusal (sym c.tree-in-Ok.ensures) ∙ refusal-fits c.tree-in-Ok.result.now.tree c.invariant.ensures.short c.invariant.ensures.fits in
-    some-written s c.args.pid me c.args.file f c.args.count first c.requires.some place short new (c.in-Ok.ensures.written me f proc at) room
+    let long = ap is_too_long (sym c.tree-in-Ok.ensures) ∙ c.invariant.ensures.short in
+    let fit = ap fits (sym c.tree-in-Ok.ensures) ∙ c.invariant.ensures.fits in
+    some-written s c.args.pid me c.args.file f c.args.count first c.requires.some place short new (c.in-Ok.ensures.written me f proc at) long fit
     ∙ ap (attempt_of new) (sym c.answer_of.ensures)
 
 pub returns-in-Err-clause-performed : goal.returns-in-Err-clause-performed

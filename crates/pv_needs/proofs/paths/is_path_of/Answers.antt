@@ -3,13 +3,8 @@ use Rattle.std.proofs.lemmas.Bool.{eqb-true}
 use Rattle.pv_model.specs.Answers.Nodes.{node_path}
 use Rattle.pv_model.specs.Bytes.{Bytes}
 use Rattle.pv_model.specs.Tree.{find_entry}
-use Rattle.pv_tree.proofs.Parents.{above-directory}
 use Rattle.pv_needs.proofs.KnownPaths.{found-path, root-known}
 use Rattle.pv_needs.proofs.paths.is_path_of.Goals as goal
-
-pub find-requires : goal.find-requires
-find-requires c =
-    above-directory c.args.tree.now.tree c.sizes.ensures.present.well_formed c.loop-before.reached c.if-reached-eq-ROOT.false c.in-Some-parent.above (sym c.in-Some-parent.ensures)
 
 pub loop-before-preserved : goal.loop-before-preserved
 loop-before-preserved c =
@@ -19,7 +14,7 @@ loop-before-preserved c =
     let above = c.in-Some-parent.above in
     let found : find_entry t above c.in-Some.name.now ≡ Some reached = search rules in
     record {
-      directory = above-directory t w reached c.if-reached-eq-ROOT.false above (sym c.in-Some-parent.ensures);
+      directory = c.in-Some-parent.ensures.directory;
       path = λ is.
           c.loop-before.invariant.path
           (found-path t w reached above c.in-Some.name.now c.in-Some.before.now c.if-reached-eq-ROOT.false c.loop-before.invariant.directory found is

@@ -8,8 +8,8 @@ use Rattle.pv_model.specs.declared.errno.Errno.TheVariants.{EBADF}
 use Rattle.pv_model.specs.Calls.Descriptors.{without_descriptor}
 use Rattle.pv_model.specs.Numbered.{at_number}
 use Rattle.pv_procs.specs.ProcessTable.{update}
-use Rattle.pv_tree.proofs.Entries.{one_if}
 use Rattle.pv_calls_state.specs.Changes.{with_closed_descriptor}
+use Rattle.pv_calls_state.proofs.Collecting.{one_if}
 use Rattle.pv_calls_state.proofs.Counting.{times-one}
 use Rattle.pv_calls_state.proofs.Changing.{before, started, updated}
 use Rattle.pv_calls_state.proofs.Descriptors.{ok-descriptor, times-closed, under-opened, exchanged-up, exchanged-state, close-performed, close-refused}

@@ -1,10 +1,9 @@
 -- The new node has a reference, and the open file has one user.
-use Rattle.std.proofs.Common.{ap, sym, subst, ◌∙◌, arith, rules}
-use Rattle.std.specs.Prelude.{IsSome}
+use Rattle.std.proofs.Common.{ap, sym, ◌∙◌, arith, rules}
 use Rattle.std.proofs.lemmas.Result.{IfErr-weaker}
 use Rattle.pv_model.specs.Numbered.{least_free}
 use Rattle.pv_model.specs.State.{State}
-use Rattle.pv_model.specs.Tree.{Tree, node_at, new_number, with_new_node}
+use Rattle.pv_model.specs.Tree.{Tree, new_number, with_new_node}
 use Rattle.pv_calls_state.proofs.Changing.{before, started}
 use Rattle.pv_model.specs.declared.kind.NewNode.TheVariants.{File}
 use Rattle.pv_model.specs.Calls.Descriptors.{with_open_file}
@@ -12,16 +11,8 @@ use Rattle.pv_model.specs.Held.{collect}
 use Rattle.pv_tree.specs.Changes.{new_node}
 use Rattle.pv_tree.specs.Holding.{HeldTree}
 use Rattle.pv_tree.specs.Rooms.{refusal}
-use Rattle.pv_calls_state.proofs.Opening.{made-there, made-tree, open-few, opened-up, opened-state}
+use Rattle.pv_calls_state.proofs.Opening.{made-tree, open-few, opened-up, opened-state}
 use Rattle.pv_calls_state.proofs.parts.Parts.create.Goals as goal
-
-pub open_node-number-requires-clause-there : goal.open_node-number-requires-clause-there
-open_node-number-requires-clause-there c =
-    let new : State → Tree = λ x. with_new_node x.tree c.args.directory c.args.name.now (new_node File) in
-    let there = made-there c.args.self.now c.requires.whole c.args.directory c.args.name.now c.requires.directory.0 c.requires.absent
-    (ap (λ x. refusal (new x)) (sym c.self.view_is) ∙ c.in_ok-node.ensures.allowed) in
-    subst (λ u. IsSome (node_at u c.in_ok-node.node)) (sym (ap (λ (x : HeldTree). x.tree) c.in_ok-node.ensures.ok ∙ ap new c.self.view_is))
-    (subst (λ m. IsSome (node_at (new c.args.self.now) m)) (sym (c.in_ok-node.ensures.number ∙ ap (λ (x : State). new_number x.tree) c.self.view_is)) there)
 
 pub open_node-number-requires-clause-few : goal.open_node-number-requires-clause-few
 open_node-number-requires-clause-few c =

@@ -8,10 +8,10 @@ use Rattle.pv_model.specs.declared.errno.Errno.TheVariants.{EBADF}
 use Rattle.pv_model.specs.Numbered.{Numbered, at_number, with_number, least_free}
 use Rattle.pv_model.specs.State.{Descriptor}
 use Rattle.pv_procs.specs.ProcessTable.{with_process}
-use Rattle.pv_tree.proofs.Entries.{one_if}
 use Rattle.pv_calls_state.specs.Changes.{with_opened_descriptor}
 use Rattle.pv_calls_state.specs.Counts.{times, open_nodes}
 use Rattle.pv_tree.specs.Holding.{holds_at}
+use Rattle.pv_calls_state.proofs.Collecting.{one_if}
 use Rattle.pv_calls_state.proofs.Changing.{before, started, owned, updated, few-users}
 use Rattle.pv_calls_state.proofs.Sharing.{one-more}
 use Rattle.pv_calls_state.proofs.Descriptors.{ok-descriptor, times-given, under-opened, exchanged-up, exchanged-state, dup-performed}

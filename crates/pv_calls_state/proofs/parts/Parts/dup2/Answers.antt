@@ -10,9 +10,9 @@ use Rattle.pv_model.specs.Calls.Descriptors.{within}
 use Rattle.pv_model.specs.Numbered.{Numbered, at_number, with_number}
 use Rattle.pv_model.specs.State.{Descriptor}
 use Rattle.pv_procs.specs.ProcessTable.{with_process}
-use Rattle.pv_tree.proofs.Entries.{one_if}
 use Rattle.pv_calls_state.specs.Changes.{with_descriptor_at}
 use Rattle.pv_calls_state.specs.Counts.{times, open_nodes}
+use Rattle.pv_calls_state.proofs.Collecting.{one_if}
 use Rattle.pv_calls_state.proofs.Changing.{before, started, owned, updated, few-users}
 use Rattle.pv_calls_state.proofs.Sharing.{one-more}
 use Rattle.pv_calls_state.proofs.Descriptors.{ok-descriptor, times-set, under-opened, left-opened, exchanged-up, exchanged-state, dup2-performed, other-number}

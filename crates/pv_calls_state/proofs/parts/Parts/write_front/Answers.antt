@@ -2,6 +2,7 @@ use Rattle.std.proofs.Common.{rules, ◌≡◌, ◌≤◌, ◌<◌, ◌+◌, ◌
 use Rattle.std.proofs.lemmas.List.{length-take-le}
 use Rattle.std.proofs.lemmas.Result.{IfErr-weaker}
 use Rattle.pv_files.specs.Counted.{with_file}
+use Rattle.pv_laws_states.proofs.ByFile.{greatest-low}
 use Rattle.pv_model.specs.Calls.Descriptors.{with_bytes_written}
 use Rattle.pv_model.specs.Held.{collect}
 use Rattle.pv_model.specs.Numbered.{at_number}
@@ -9,20 +10,13 @@ use Rattle.pv_calls_state.specs.Counts.{IsCountedUp}
 use Rattle.pv_tree.specs.Changes.{overwritten}
 use Rattle.pv_tree.specs.Rooms.{refusal}
 use Rattle.pv_calls_state.proofs.Alone.{counted-changed}
-use Rattle.pv_calls_state.proofs.Writing.{own-buffer, write-within, write-changed, write-refused}
+use Rattle.pv_calls_state.proofs.Writing.{own-buffer, write-changed, write-refused}
 use Rattle.pv_calls_state.proofs.parts.Parts.write_front.Goals as goal
 
 pub overflow_add-at : goal.overflow_add-at
 overflow_add-at c =
-    let i = c.self.inside in
-    let buffer = c.buffer-buffer.result.now in
-    let long = length-take-le c.args.count buffer (subst (λ n. c.args.count ≤ n) (sym c.buffer-buffer.ensures.size) c.requires.few) in
-    omega (
-      arith,
-      long,
-      write-within i.tree i.files i.processes c.args.self.now c.self.view_is c.self.invariant c.invariant-2.ensures c.invariant.ensures c.requires.whole.tree.well_formed c.args.file c.node-node.result c.args.at (take c.args.count buffer)
-          (subst (λ n. 0 < n) (sym long) c.requires.some) c.node-node.ensures c.requires.opened c.requires.there c.in_ok-write_at.ensures.allowed,
-    )
+    let long = length-take-le c.args.count c.buffer-buffer.result.now (subst (λ n. c.args.count ≤ n) (sym c.buffer-buffer.ensures.size) c.requires.few) in
+    omega (arith, long, c.in_ok-write_at.ensures.end (subst (λ n. 0 < n) (sym long) c.requires.some), greatest-low c.self.inside.tree.tree.version)
 
 pub invariant_of-self-2 : goal.invariant_of-self-2
 invariant_of-self-2 c =

@@ -1,6 +1,7 @@
-use Rattle.std.proofs.Common.{◌≡◌, ℕ, suc, ◌+◌, ◌-◌, ◌<◌, ap, sym, subst, ◌∙◌, arith}
-use Rattle.pv_model.specs.Tree.{IsWellFormed}
-use Rattle.pv_tree.proofs.Parents.{is_among, above-directory, among-all, among-itself, among-above, among-top, among-removed}
+use Rattle.std.proofs.Common.{◌≡◌, ℕ, suc, ◌+◌, ◌-◌, ◌<◌, true, ap, sym, subst, ◌∙◌, arith}
+use Rattle.std.specs.Prelude.{IfSome}
+use Rattle.pv_model.specs.Tree.{is_directory_at, IsWellFormed}
+use Rattle.pv_tree.proofs.Parents.{is_among, among-all, among-itself, among-above, among-top, among-removed}
 use Rattle.pv_tree.proofs.tree.Tree.contains.Goals as goal
 
 -- the number of steps that remain includes this one
@@ -31,7 +32,7 @@ parent-requires c = c.loop-step.invariant.0
 pub returns-in_default : goal.returns-in_default
 returns-in_default c =
     let steps = left c.args.self.now.tree.inodes c.inodes-step-end.result c.loop-step._step (c.inodes-step-end.ensures.value ∙ ap (λ h. h.tree.inodes) c.self.view_is) c.loop-step-test.true in
-    sym (among-removed c.args.self.now.tree c.args.node (c.args.self.now.tree.inodes - c.loop-step._step) c.loop-step.reached c.if-reached-node.false c.if-reached-eq-ROOT.false (sym c.parent.ensures ∙ c.in_default.is))
+    sym (among-removed c.args.self.now.tree c.args.node (c.args.self.now.tree.inodes - c.loop-step._step) c.loop-step.reached c.if-reached-node.false c.if-reached-eq-ROOT.false (sym c.parent.ensures.value ∙ c.in_default.is))
     ∙ ap (λ k. is_among c.args.self.now.tree c.args.node k c.loop-step.reached) (sym steps) ∙ c.loop-step.invariant.1
 
 pub loop-step-preserved : goal.loop-step-preserved
@@ -39,8 +40,8 @@ loop-step-preserved c =
     let w = subst IsWellFormed (ap (λ h. h.tree) c.self.view_is) c.self.invariant.counted.well_formed in
     let steps = left c.args.self.now.tree.inodes c.inodes-step-end.result c.loop-step._step (c.inodes-step-end.ensures.value ∙ ap (λ h. h.tree.inodes) c.self.view_is) c.loop-step-test.true in
     let next : c.args.self.now.tree.inodes + 1 - (c.loop-step._step + 1) ≡ c.args.self.now.tree.inodes - c.loop-step._step = omega arith in
-    let up = sym c.parent.ensures ∙ c.in-Some.is in (
-      above-directory c.args.self.now.tree w c.loop-step.reached c.if-reached-eq-ROOT.false c.in-Some.above up,
+    let up = sym c.parent.ensures.value ∙ c.in-Some.is in (
+      subst (λ o. IfSome o (λ above. is_directory_at c.args.self.now.tree above ≡ true)) c.in-Some.is c.parent.ensures.directory,
       ap (λ k. is_among c.args.self.now.tree c.args.node k c.in-Some.above) next
           ∙ sym (among-above c.args.self.now.tree c.args.node (c.args.self.now.tree.inodes - c.loop-step._step) c.loop-step.reached c.in-Some.above c.if-reached-node.false c.if-reached-eq-ROOT.false up)
           ∙ ap (λ k. is_among c.args.self.now.tree c.args.node k c.loop-step.reached) (sym steps) ∙ c.loop-step.invariant.1,

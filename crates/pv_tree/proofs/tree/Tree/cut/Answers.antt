@@ -1,10 +1,11 @@
-use Rattle.std.proofs.Common.{◌≡◌, None, Some, refl, ap, subst, ◌∙◌}
+use Rattle.std.proofs.Common.{◌≡◌, ◌≤◌, None, Some, length, refl, ap, sym, subst, ◌∙◌}
 use Rattle.std.specs.Prelude.{OnOk, IfErr}
 use Rattle.pv_model.specs.Sealed.{is_file}
 use Rattle.pv_model.specs.Tree.{Tree, node_at}
+use Rattle.pv_dirs.specs.Trees.{bytes_at}
 use Rattle.pv_tree.specs.Changes.{resized}
 use Rattle.pv_tree.specs.Rooms.{refusal}
-use Rattle.pv_tree.proofs.Contents.{IsAnswer, file-of, resize-answer}
+use Rattle.pv_tree.proofs.Contents.{IsAnswer, file-of, not-refused, resize-answer, resize-shorter}
 use Rattle.pv_tree.proofs.Elsewhere.{alike-along, alike-answered, alike-resized}
 use Rattle.pv_tree.proofs.tree.Tree.cut.Goals as goal
 use Rattle.pv_tree.proofs.tree.Tree.cut.Goals.{After-cut}
@@ -32,3 +33,11 @@ returns-clause-found c =
     let t = c.self.inside.directories in
     alike-along t c.args.self.now.tree c.cut.new.self c.cut.new.self (ap (λ h. h.tree) c.self.view_is) refl
     (alike-answered t c.cut.new.self (resized t c.args.node c.args.size) c.cut.result (answer c).ok c.cut.ensures.err (alike-resized t c.args.node c.args.size))
+
+pub returns-clause-shorter : goal.returns-clause-shorter
+returns-clause-shorter c = λ few.
+    let t = c.self.inside.directories in
+    let file = file-of (node_at t c.args.node) (ap (λ h. is_file (node_at h.tree c.args.node)) c.self.view_is ∙ c.requires) in
+    not-refused c.cut.result (refusal (resized t c.args.node c.args.size)) (answer c).refused
+    (resize-shorter t c.cut.new.self c.self.inside.parents c.self.inside.names c.self.inside.holds c.self.invariant c.args.node file.0 file.1 file.2 c.cut.result c.args.size
+    (subst (λ (u : Tree). c.args.size ≤ length (bytes_at u c.args.node)) (sym (ap (λ h. h.tree) c.self.view_is)) few))

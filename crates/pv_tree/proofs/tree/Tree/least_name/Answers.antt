@@ -1,15 +1,10 @@
 use Rattle.std.proofs.Common.{sym}
 use Rattle.pv_tree.proofs.LeastNames.{least-removed, least-above, named-above}
-use Rattle.pv_tree.proofs.Parents.{above-directory}
 use Rattle.pv_tree.proofs.tree.Tree.least_name.Goals as goal
 
 pub returns-in_default : goal.returns-in_default
 returns-in_default c =
-    least-removed c.args.self.now.tree c.invariant.ensures.well_formed c.args.node (sym c.in_default.ensures)
-
-pub next_name_of-requires : goal.next_name_of-requires
-next_name_of-requires c =
-    above-directory c.args.self.now.tree c.invariant.ensures.well_formed c.args.node c.if-node-eq-ROOT.false c.in-Some.above (sym c.in-Some.ensures)
+    least-removed c.args.self.now.tree c.invariant.ensures.well_formed c.args.node (sym c.in_default.ensures.value)
 
 pub returns-in-Some-next_name_of : goal.returns-in-Some-next_name_of
 returns-in-Some-next_name_of c =
@@ -17,4 +12,4 @@ returns-in-Some-next_name_of c =
 
 pub returns-in-None : goal.returns-in-None
 returns-in-None c =
-    absurd (named-above c.args.self.now.tree c.invariant.ensures.well_formed c.args.node c.in-Some.above c.if-node-eq-ROOT.false (sym c.in-Some.ensures) c.in-None.ensures)
+    absurd (named-above c.args.self.now.tree c.invariant.ensures.well_formed c.args.node c.in-Some.above c.if-node-eq-ROOT.false (sym c.in-Some.ensures.value) c.in-None.ensures)

@@ -1,11 +1,11 @@
 use Rattle.std.proofs.Common.{◌≡◌, ◌<◌, length, ap, subst, sym, ◌∙◌}
-use Rattle.std.specs.Prelude.{slice_set}
-use Rattle.pv_model.specs.Tree.{Tree, find_entry, is_directory_at, is_name, is_node, new_number, with_new_node}
+use Rattle.std.specs.Prelude.{slice_set, IsSome}
+use Rattle.pv_model.specs.Tree.{Tree, find_entry, is_directory_at, is_name, is_node, node_at, new_number, with_new_node}
 use Rattle.pv_laws_trees.specs.Tree.{Appears}
 use Rattle.pv_tree.specs.Changes.{new_node}
 use Rattle.pv_tree.specs.Present.{IsTied}
 use Rattle.pv_laws_trees.proofs.Encoded.{bytes-all}
-use Rattle.pv_tree.proofs.Elsewhere.{but-along, alike-made}
+use Rattle.pv_tree.proofs.Elsewhere.{but-along, alike-made, there-made}
 use Rattle.pv_tree.proofs.Made.{made-tied}
 use Rattle.pv_tree.proofs.tree.Tree.make.Goals as goal
 
@@ -30,3 +30,12 @@ returns-clause-elsewhere c =
     but-along c.args.directory c.args.name.now t c.args.self.now.tree (with_new_node t c.args.directory c.args.name.now (new_node c.args.kind)) c.add_node.new.directories view c.in_ok-node.ensures.ok
     (alike-made t c.args.directory c.args.name.now c.args.kind (ap (λ (u : Tree). is_directory_at u c.args.directory) view ∙ c.requires.directory.0)
     (ap (λ (u : Tree). find_entry u c.args.directory c.args.name.now) view ∙ c.requires.absent) (subst (λ n. n < length t.nodes) c.in_ok-node.ensures.number c.in_ok-node.ensures.within))
+
+pub returns-clause-there : goal.returns-clause-there
+returns-clause-there c =
+    let t = c.self.inside.directories in
+    let view : t ≡ c.args.self.now.tree = ap (λ h. h.tree) c.self.view_is in
+    subst (λ (u : Tree). IsSome (node_at u c.in_ok-node.node)) (sym c.in_ok-node.ensures.ok)
+    (subst (λ n. IsSome (node_at (with_new_node t c.args.directory c.args.name.now (new_node c.args.kind)) n)) (sym c.in_ok-node.ensures.number)
+    (there-made t c.args.directory c.args.name.now c.args.kind (ap (λ (u : Tree). is_directory_at u c.args.directory) view ∙ c.requires.directory.0)
+    (ap (λ (u : Tree). find_entry u c.args.directory c.args.name.now) view ∙ c.requires.absent) (subst (λ n. n < length t.nodes) c.in_ok-node.ensures.number c.in_ok-node.ensures.within)))

@@ -3,7 +3,7 @@ use Rattle.std.specs.Option.{option_copied}
 use Rattle.pv_model.specs.Bytes.{Bytes}
 use Rattle.pv_laws_trees.proofs.Trees.{ordered}
 use Rattle.pv_tree.specs.NodeNames.{last_of}
-use Rattle.pv_tree.proofs.Rising.{next-found}
+use Rattle.pv_tree.proofs.Rising.{next-found, rest-found}
 use Rattle.pv_tree.proofs.NextOnes.{IsFrom, from-of, from-higher, down-none, down-found, down-all}
 use Rattle.pv_tree.proofs.tree.Tree.next_name.Goals as goal
 use Rattle.pv_tree.proofs.tree.Tree.next_name.Goals.{then-directory-first, else-directory-first}
@@ -25,6 +25,11 @@ returns-in-Some-next_name_of-clause-least c =
 pub returns-in-Some-next_name_of-clause-value : goal.returns-in-Some-next_name_of-clause-value
 returns-in-Some-next_name_of-clause-value c =
     next-found c.args.self.now.tree (ordered c.args.self.now.tree c.sizes-directory-end.ensures.present.well_formed.each_node) c.args.node (last_of c.args.last)
+    (Some (c.loop-directory.directory, c.in-Some-next_name_of.name)) (returns-in-Some-next_name_of-clause-least c)
+
+pub returns-in-Some-next_name_of-clause-rest : goal.returns-in-Some-next_name_of-clause-rest
+returns-in-Some-next_name_of-clause-rest c =
+    rest-found c.args.self.now.tree (ordered c.args.self.now.tree c.sizes-directory-end.ensures.present.well_formed.each_node) c.args.node (last_of c.args.last)
     (Some (c.loop-directory.directory, c.in-Some-next_name_of.name)) (returns-in-Some-next_name_of-clause-least c)
 
 pub loop-directory-preserved : goal.loop-directory-preserved
@@ -53,3 +58,7 @@ returns-clause-least c =
 pub returns-clause-value : goal.returns-clause-value
 returns-clause-value c =
     next-found c.args.self.now.tree (ordered c.args.self.now.tree c.sizes-directory-end.ensures.present.well_formed.each_node) c.args.node (last_of c.args.last) None (returns-clause-least c)
+
+pub returns-clause-rest : goal.returns-clause-rest
+returns-clause-rest c =
+    rest-found c.args.self.now.tree (ordered c.args.self.now.tree c.sizes-directory-end.ensures.present.well_formed.each_node) c.args.node (last_of c.args.last) None (returns-clause-least c)

@@ -1,11 +1,12 @@
-use Rattle.std.proofs.Common.{◌≡◌, None, Some, refl, ap, subst, ◌∙◌}
+use Rattle.std.proofs.Common.{◌≡◌, ◌+◌, ◌<◌, ◌≤◌, None, Some, length, refl, ap, subst, ◌∙◌}
 use Rattle.std.specs.Prelude.{OnOk, IfErr}
+use Rattle.pv_model.specs.Room.{greatest_length}
 use Rattle.pv_model.specs.Sealed.{is_file}
 use Rattle.pv_model.specs.Tree.{Tree, node_at}
 use Rattle.pv_tree.specs.Changes.{overwritten}
 use Rattle.pv_tree.specs.Rooms.{refusal}
 use Rattle.pv_laws_trees.proofs.Encoded.{bytes-all}
-use Rattle.pv_tree.proofs.Contents.{IsAnswer, file-of, write-answer}
+use Rattle.pv_tree.proofs.Contents.{IsAnswer, file-of, write-answer, write-ends}
 use Rattle.pv_tree.proofs.Elsewhere.{alike-along, alike-answered, alike-overwritten}
 use Rattle.pv_tree.proofs.tree.Tree.write_at.Goals as goal
 use Rattle.pv_tree.proofs.tree.Tree.write_at.Goals.{After-write_at}
@@ -33,3 +34,8 @@ returns-clause-found c =
     let t = c.self.inside.directories in
     alike-along t c.args.self.now.tree c.write_at.new.self c.write_at.new.self (ap (λ h. h.tree) c.self.view_is) refl
     (alike-answered t c.write_at.new.self (overwritten t c.args.node c.args.at c.args.bytes.now) c.write_at.result (answer c).ok c.write_at.ensures.err (alike-overwritten t c.args.node c.args.at c.args.bytes.now))
+
+pub returns-clause-end : goal.returns-clause-end
+returns-clause-end c =
+    subst (λ (t : Tree). OnOk c.write_at.result (0 < length c.args.bytes.now → c.args.at + length c.args.bytes.now ≤ greatest_length t.version)) (ap (λ h. h.tree) c.self.view_is)
+    (write-ends (greatest_length c.self.inside.directories.version) c.args.at c.args.bytes.now c.write_at.result c.write_at.ensures.too_big)

@@ -6,7 +6,7 @@ use Rattle.pv_image_write.specs.declared.fault.WriteFault.TheVariants.{Write}
 use Rattle.pv_image.specs.Migrated.{has_room}
 use Rattle.pv_image.proofs.Enlarged.{roomy, named_need-needed}
 use Rattle.pv_image.proofs.Migrations.{begins-migrated, reports-migrated}
-use Rattle.pv_image.proofs.migrating.migrate.Goals as goal
+use Rattle.pv_image.proofs.migrating.write_migrated.Goals as goal
 
 -- the same for the borrowed tree
 room-of : (t old : Tree) (blocks inodes : ℕ) → t ≡ old → has_room old blocks inodes ≡ true → has_room t blocks inodes ≡ true

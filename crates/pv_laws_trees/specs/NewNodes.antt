@@ -1,0 +1,21 @@
+-- The nodes that calls create.
+use Rattle.std.specs.Prelude.{false, true, []}
+use Rattle.pv_model.specs.declared.kind.NewNode.{NewNode}
+use Rattle.pv_model.specs.declared.kind.NewNode.TheVariants.{Directory, File, Executable, Symlink}
+use Rattle.pv_model.specs.declared.kind.Kind.{Kind}
+use Rattle.pv_model.specs.declared.kind.Kind.TheVariants.{Directory as KindDirectory, File as KindFile, Executable as KindExecutable, Symlink as KindSymlink}
+use Rattle.pv_model.specs.Tree.{Node, directory_node, file_node, link_node}
+
+-- a new node
+abbrev pub new_node : NewNode → Node
+new_node Directory = directory_node []
+new_node File = file_node false []
+new_node Executable = file_node true []
+new_node (Symlink text) = link_node text.now
+
+-- the kind of a new node
+abbrev pub sort_of : NewNode → Kind
+sort_of Directory = KindDirectory
+sort_of File = KindFile
+sort_of Executable = KindExecutable
+sort_of (Symlink text) = KindSymlink
