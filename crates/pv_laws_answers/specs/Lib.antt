@@ -11,6 +11,7 @@ pub mod OverTime
 pub mod Examples
 pub mod Witnesses
 pub mod Search
+pub mod Observed
 pub mod Waits
 pub mod Unread
 pub mod Graphs

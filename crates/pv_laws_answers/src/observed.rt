@@ -1,0 +1,8 @@
+//! Laws of observations of the steps of a search.
+
+ghost use Rattle.pv_laws_answers.specs.Observed.{ExploreReportsObservations};
+
+/// The texts that `explore` reports are observations: the lines of a step, each reported with its first step.
+pub fn explore_reports_observations()
+    ensures { ExploreReportsObservations }
+{}
