@@ -4,6 +4,7 @@ use Rattle.std.specs.List.{list_any}
 use Rattle.pv_model.specs.declared.call.Call.{Call}
 use Rattle.pv_model.specs.declared.call.Call.TheVariants.{Execve, Open, OpenAt, Read, Write, Ftruncate, Mkdir, Symlink, Link, Unlink, Rmdir, Rename}
 use Rattle.pv_model.specs.declared.errno.Errno.TheVariants.{ENOEXEC}
+use Rattle.pv_model.specs.declared.open_flags.Mode.{Mode}
 use Rattle.pv_model.specs.declared.open_flags.OpenFlags.{OpenFlags}
 use Rattle.pv_model.specs.declared.outcome.Outcome.{Outcome}
 use Rattle.pv_model.specs.declared.outcome.Outcome.TheVariants.{Value, Text, Failed}
@@ -18,9 +19,27 @@ use Rattle.pv_model.specs.Calls.Paths.{same_node}
 use Rattle.pv_model.specs.Effect.{node_of, name_of, open_file}
 use Rattle.pv_model.specs.State.{Program, Process, State, process_at}
 use Rattle.pv_model.specs.Step.{Stepped}
-use Rattle.pv_model.specs.Touch.{descriptor_of, flags_of, places, reports_of_place, reports_of_descriptor, has_succeeded}
+use Rattle.pv_model.specs.Touch.{Touch, read_file, change_file, change_entry, report_node, gain_descriptor, descriptor_of, flags_of, places, reports_of_place, reports_of_descriptor, has_succeeded}
 use Rattle.pv_model.specs.Trace.{mode_text}
-use Rattle.pv_model.specs.Tree.{Tree, root, find_entry}
+use Rattle.pv_model.specs.Tree.{root, find_entry}
+
+-- an access of a call to a file, a name, a node or a new descriptor
+pub data Access : Type 0 where
+  reads : (f : ℕ) → Access
+  executes : (f : ℕ) → Access
+  writes : (f : ℕ) → Access
+  changes_name : (d : ℕ) (name : Bytes) → Access
+  reports : (n : ℕ) → Access
+  opens : (n : ℕ) (mode : Mode) → Access
+
+-- the touch that an access can be
+abbrev pub touch_of : Access → Touch
+touch_of (reads f) = read_file f
+touch_of (executes f) = read_file f
+touch_of (writes f) = change_file f
+touch_of (changes_name d name) = change_entry d name
+touch_of (reports n) = report_node n
+touch_of (opens n mode) = gain_descriptor n mode
 
 -- ---- the nodes and names of a call
 
@@ -31,7 +50,7 @@ removes_names (Rmdir path) = true
 removes_names (Rename path new) = true
 removes_names _ = false
 
--- whether a call creates the name at its path, if it succeeds and the name is absent
+-- whether a call creates the absent name at its path, if it succeeds
 abbrev pub creates_names : Call → Bool
 creates_names (Mkdir path) = true
 creates_names (Symlink text path) = true
@@ -61,21 +80,18 @@ module _ (s : State) (p : Process) where
   nodes_executed (Execve path) (Value n) = nodes_of_places (Execve path)
   nodes_executed call _ = []
 
-  -- the file that a call writes at least one byte to, or gives a new length
+  -- the file that a call writes at least one byte to, or gives a length
   abbrev pub nodes_written : Call → Outcome → List ℕ
   nodes_written (Write d n) (Value count) = if count == 0 then [] else node_of_descriptor (Write d n)
   nodes_written (Ftruncate d n) (Value count) = node_of_descriptor (Ftruncate d n)
   nodes_written call (Value n) = if_truncated (flags_of call) (nodes_of_places call)
   nodes_written call _ = []
 
-  abbrev pub names_at : List Place → List Bytes
-  names_at ends = map (λ name. name_words s.tree name.0 name.1) (filter_map name_of ends)
-
-  -- the names that a successful call changes
-  abbrev pub names_changed : Call → List Bytes
-  names_changed call =
-      if removes_names call then names_at (places s p call)
-      else if creates_names call then names_at (filter (λ place. is_none (node_of place)) (places s p call))
+  -- the places whose names a successful call changes
+  abbrev pub places_changed : Call → List Place
+  places_changed call =
+      if removes_names call then places s p call
+      else if creates_names call then filter (λ place. is_none (node_of place)) (places s p call)
       else []
 
   -- the nodes that a successful call reports
@@ -92,50 +108,68 @@ node_opened after pid _ = []
 
 -- ---- the accesses of a step
 
-abbrev pub access_of_node : ℕ → Bytes → Tree → ℕ → AnswerLine
-access_of_node pid word t n = answer_line pid word (node_brief t n)
-
-abbrev pub accesses_by_open : State → ℕ → Outcome → Option OpenFlags → List AnswerLine
+abbrev pub accesses_by_open : State → ℕ → Outcome → Option OpenFlags → List Access
 accesses_by_open after pid outcome None = []
-accesses_by_open after pid outcome (Some flags) =
-    map (λ n. answer_line pid (codes "OPEN") (mode_text flags.mode ++ codes " " ++ node_brief after.tree n)) (node_opened after pid outcome)
+accesses_by_open after pid outcome (Some flags) = map (λ n. opens n flags.mode) (node_opened after pid outcome)
 
-module _ (s : State) (pid : ℕ) (p : Process) (call : Call) where
-  -- the names and nodes of a successful call
-  abbrev pub accesses_by_success : Stepped → List AnswerLine
-  accesses_by_success now =
-      map (answer_line pid (codes "NAME")) (names_changed s p call)
-      ++ map (access_of_node pid (codes "TELL") s.tree) (nodes_reported s p call)
+module _ (s : State) (pid : ℕ) (p : Process) (call : Call) (now : Stepped) where
+  -- the names, nodes and descriptors of a successful call
+  abbrev pub accesses_by_success : List Access
+  accesses_by_success =
+      map (λ name. changes_name name.0 name.1) (filter_map name_of (places_changed s p call))
+      ++ map reports (nodes_reported s p call)
       ++ accesses_by_open now.after pid now.outcome (flags_of call)
 
-  -- the accesses of a call, each as its line
-  unfoldable pub accesses : Stepped → List AnswerLine
-  accesses now =
-      map (access_of_node pid (codes "READ") s.tree) (nodes_read s p call now.outcome)
-      ++ map (access_of_node pid (codes "EXEC") s.tree) (nodes_executed s p call now.outcome)
-      ++ map (access_of_node pid (codes "WRIT") s.tree) (nodes_written s p call now.outcome)
-      ++ (if has_succeeded now.outcome then accesses_by_success now else [])
+  -- the accesses of a call, given the result of the step
+  unfoldable pub accesses : List Access
+  accesses =
+      map reads (nodes_read s p call now.outcome)
+      ++ map executes (nodes_executed s p call now.outcome)
+      ++ map writes (nodes_written s p call now.outcome)
+      ++ (if has_succeeded now.outcome then accesses_by_success else [])
 
-  -- the files whose bytes a call depends on
-  abbrev pub files_read : Stepped → List ℕ
-  files_read now = nodes_read s p call now.outcome ++ nodes_executed s p call now.outcome
+  -- the line of an access, with the words of the state before the call, or after it for a new descriptor
+  abbrev pub access_line : Access → AnswerLine
+  access_line (reads f) = answer_line pid (codes "READ") (node_brief s.tree f)
+  access_line (executes f) = answer_line pid (codes "EXEC") (node_brief s.tree f)
+  access_line (writes f) = answer_line pid (codes "WRIT") (node_brief s.tree f)
+  access_line (changes_name d name) = answer_line pid (codes "NAME") (name_words s.tree d name)
+  access_line (reports n) = answer_line pid (codes "TELL") (node_brief s.tree n)
+  access_line (opens n mode) = answer_line pid (codes "OPEN") (mode_text mode ++ codes " " ++ node_brief now.after.tree n)
+
+  -- the accesses of a call, as lines
+  abbrev pub lines_of_accesses : List AnswerLine
+  lines_of_accesses = map access_line accesses
 
 -- ---- the lines
 
+-- the file whose bytes an access depends on
+abbrev pub file_read : Access → Option ℕ
+file_read (reads f) = Some f
+file_read (executes f) = Some f
+file_read _ = None
+
 module _ (program_of : Bytes → Option Program) (limit : ℕ) (s : State) where
-  -- the accesses, each with its first step
+  -- the accesses of all steps, each with its first step
   abbrev pub reported_accesses : List (Observation AnswerLine)
-  reported_accesses = first_observations answer_line_bytes (observations (of_calls accesses) program_of limit s)
+  reported_accesses = first_observations answer_line_bytes (observations (of_calls lines_of_accesses) program_of limit s)
+
+  -- the files that some step reads or executes
+  abbrev pub files_read : List ℕ
+  files_read = filter_map (λ o. file_read o.item) (observations (of_calls accesses) program_of limit s)
 
   abbrev pub is_unread : List ℕ → ℕ → Bool
   is_unread read n = not (same_node (find_entry s.tree root (codes "init")) n) && not (list_any (λ m. m == n) read)
 
   -- the files of the first tree, other than `init`, that no step reads or executes
   abbrev pub unread_files : List ℕ
-  unread_files = filter (is_unread (map (λ o. o.item) (observations (of_calls files_read) program_of limit s))) (named_files s.tree)
+  unread_files = filter (is_unread files_read) (named_files s.tree)
+
+  abbrev pub unread_line : ℕ → AnswerLine
+  unread_line n = answer_line 0 (codes "UNRD") (node_brief s.tree n)
 
   unfoldable pub access_lines : List AnswerLine
   access_lines =
       flat_map (observation_lines (λ l. l ∷ [])) reported_accesses
-      ++ (if is_complete program_of limit s then map (access_of_node 0 (codes "UNRD") s.tree) unread_files else [])
+      ++ (if is_complete program_of limit s then map unread_line unread_files else [])
       ++ done_line program_of limit s ∷ []
