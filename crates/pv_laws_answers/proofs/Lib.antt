@@ -5,7 +5,7 @@
 -- - `needs`: Wants (lines and walks), Listed (program images), Counted (their counts), Otherwise (other promises or another table), Pledged
 --   (runs with other promises).
 -- - The search: Lists, New, Reading (decoding of states), Witnesses (their order), LiveOnes, Searching (step by step),
---   Sound, Complete, Least. The graph: Marks, Marked, Along, ExplainedWitnesses.
+--   Sound, Complete, Least, Observations, Observing. The graph: Marks, Marked, Along, ExplainedWitnesses.
 -- - Files that are not read: Answering, NotRead (one step), Beside (runs). Deadlocks: Older, Waiting.
 -- - Examples by computation: Worked, ExampleRuns.
 pub mod Remarks
@@ -38,6 +38,8 @@ pub mod Marked
 pub mod Marks
 pub mod New
 pub mod NotRead
+pub mod Observations
+pub mod Observing
 pub mod Reading
 pub mod Searching
 pub mod Sound

@@ -11,6 +11,8 @@ pub mod OverTime
 pub mod Examples
 pub mod Witnesses
 pub mod Search
+pub mod Observed
+pub mod Accesses
 pub mod Waits
 pub mod Unread
 pub mod Graphs

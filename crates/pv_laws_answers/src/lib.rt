@@ -6,8 +6,8 @@
 //! - One state: `reach` (names, and permissions at each place), `over_time` (their changes), `levels` (decisions of a table).
 //! - A run: `explained` (its text), `settings` (where entries were set), `wanted` (the lines PLDG and UNVL),
 //!   `process_images`, `counts` and `begun` (what a program needs).
-//! - All schedules: `search` (states and texts), `graph` (its paths are the runs), `unread` (files that no step reads),
-//!   `waits` (no deadlocks). The modules `*examples` have worked runs.
+//! - All schedules: `search` (states and texts), `observed` (what is reported of steps), `graph` (its paths are the runs),
+//!   `unread` (files that no step reads), `waits` (no deadlocks). The modules `*examples` have worked runs.
 #![tactic(auto)]
 
 pub mod begun;
@@ -16,6 +16,7 @@ pub mod examples;
 pub mod explained;
 pub mod graph;
 pub mod levels;
+pub mod observed;
 pub mod over_time;
 pub mod process_images;
 pub mod reach;

@@ -1,8 +1,11 @@
 -- The record of all worked examples.
+use Rattle.pv_laws_worked.specs.Accessed
 use Rattle.pv_laws_worked.specs.Audits
+use Rattle.pv_laws_worked.specs.Compared
 use Rattle.pv_laws_worked.specs.Errors
 use Rattle.pv_laws_worked.specs.Execve
 use Rattle.pv_laws_worked.specs.Explored
+use Rattle.pv_laws_worked.specs.Exposures
 use Rattle.pv_laws_worked.specs.Files
 use Rattle.pv_laws_worked.specs.Grammars
 use Rattle.pv_laws_worked.specs.Images
@@ -10,6 +13,7 @@ use Rattle.pv_laws_worked.specs.Limits
 use Rattle.pv_laws_worked.specs.LongDirectory
 use Rattle.pv_laws_worked.specs.Mounts
 use Rattle.pv_laws_worked.specs.Openat
+use Rattle.pv_laws_worked.specs.Policies
 use Rattle.pv_laws_worked.specs.Processes
 use Rattle.pv_laws_worked.specs.Promises
 use Rattle.pv_laws_worked.specs.Questions
@@ -23,6 +27,19 @@ use Rattle.pv_laws_worked.specs.Walks
 -- the statement of a theorem
 abbrev pub Stated : {A : Type 0} → A → Type 0
 Stated {A} theorem = A
+
+pub record AllAccessed : Type 0 where
+  pub truncation_and_creation : Stated Accessed.truncation_and_creation
+  pub refused_programs_are_read : Stated Accessed.refused_programs_are_read
+  pub no_bytes_no_access : Stated Accessed.no_bytes_no_access
+  pub numbers_are_used_again : Stated Accessed.numbers_are_used_again
+  pub both_names_of_rename : Stated Accessed.both_names_of_rename
+  pub second_name_of_link : Stated Accessed.second_name_of_link
+  pub nodes_of_descriptors : Stated Accessed.nodes_of_descriptors
+  pub nodes_without_paths : Stated Accessed.nodes_without_paths
+  pub files_of_two_names : Stated Accessed.files_of_two_names
+  pub each_process_has_its_own : Stated Accessed.each_process_has_its_own
+  pub unread_if_complete : Stated Accessed.unread_if_complete
 
 pub record AllAudits : Type 0 where
   pub audit_absent : Stated Audits.audit_absent
@@ -42,6 +59,18 @@ pub record AllAudits : Type 0 where
   pub exposed_two_above : Stated Audits.exposed_two_above
   pub sealed_without_lock : Stated Audits.sealed_without_lock
   pub all_reported : Stated Audits.all_reported
+
+pub record AllCompared : Type 0 where
+  pub an_entry_with_fewer_permissions : Stated Compared.an_entry_with_fewer_permissions
+  pub calls_of_setup_are_not_compared : Stated Compared.calls_of_setup_are_not_compared
+  pub refused_calls_of_setup : Stated Compared.refused_calls_of_setup
+  pub other_calls_are_compared : Stated Compared.other_calls_are_compared
+  pub one_state_has_ended : Stated Compared.one_state_has_ended
+  pub live_in_one_state_only : Stated Compared.live_in_one_state_only
+  pub programs_are_files : Stated Compared.programs_are_files
+  pub not_all_pairs : Stated Compared.not_all_pairs
+  pub an_empty_pledge : Stated Compared.an_empty_pledge
+  pub an_image_beside_itself : Stated Compared.an_image_beside_itself
 
 pub record AllErrors : Type 0 where
   pub of_pledge : Stated Errors.of_pledge
@@ -74,6 +103,18 @@ pub record AllExplored : Type 0 where
   pub each_text_has_its_witness : Stated Explored.each_text_has_its_witness
   pub a_state_is_left_out : Stated Explored.a_state_is_left_out
   pub two_orders_end_apart : Stated Explored.two_orders_end_apart
+
+pub record AllExposures : Type 0 where
+  pub lines_of_a_state : Stated Exposures.lines_of_a_state
+  pub ranges_of_lines : Stated Exposures.ranges_of_lines
+  pub safe_files : Stated Exposures.safe_files
+  pub safe_if_complete : Stated Exposures.safe_if_complete
+  pub numbers_are_used_again : Stated Exposures.numbers_are_used_again
+  pub entries_above : Stated Exposures.entries_above
+  pub execve_without_restraints : Stated Exposures.execve_without_restraints
+  pub no_first_program : Stated Exposures.no_first_program
+  pub one_visited_state : Stated Exposures.one_visited_state
+  pub two_processes : Stated Exposures.two_processes
 
 pub record AllFiles : Type 0 where
   pub shared_offset : Stated Files.shared_offset
@@ -183,6 +224,21 @@ pub record AllOpenat : Type 0 where
   pub openat_judged : Stated Openat.openat_judged
   pub openat_removed : Stated Openat.openat_removed
 
+pub record AllPolicies : Type 0 where
+  pub letters_that_are_new : Stated Policies.letters_that_are_new
+  pub either_of_two : Stated Policies.either_of_two
+  pub either_beside_wpath : Stated Policies.either_beside_wpath
+  pub rpath_itself : Stated Policies.rpath_itself
+  pub idle_promises : Stated Policies.idle_promises
+  pub idle_permissions : Stated Policies.idle_permissions
+  pub refused_permissions_are_idle : Stated Policies.refused_permissions_are_idle
+  pub idle_by_words : Stated Policies.idle_by_words
+  pub programs_of_execve : Stated Policies.programs_of_execve
+  pub program_without_file : Stated Policies.program_without_file
+  pub files_of_one_program : Stated Policies.files_of_one_program
+  pub programs_without_calls : Stated Policies.programs_without_calls
+  pub idle_if_complete : Stated Policies.idle_if_complete
+
 pub record AllProcesses : Type 0 where
   pub ends : Stated Processes.ends
   pub least_is_waited_for : Stated Processes.least_is_waited_for
@@ -279,10 +335,13 @@ pub record AllWalks : Type 0 where
   pub weight_above : Stated Walks.weight_above
 
 pub record AllWorked : Type 0 where
+  pub accessed : AllAccessed
   pub audits : AllAudits
+  pub compared : AllCompared
   pub errors : AllErrors
   pub execve : AllExecve
   pub explored : AllExplored
+  pub exposures : AllExposures
   pub files : AllFiles
   pub grammars : AllGrammars
   pub images : AllImages
@@ -290,6 +349,7 @@ pub record AllWorked : Type 0 where
   pub long_directory : AllLongDirectory
   pub mounts : AllMounts
   pub openat : AllOpenat
+  pub policies : AllPolicies
   pub processes : AllProcesses
   pub promises : AllPromises
   pub questions : AllQuestions

@@ -1,9 +1,12 @@
+pub mod Accessed
 pub mod AllWorked
 pub mod Audits
 pub mod Bundles
+pub mod Compared
 pub mod Errors
 pub mod Execve
 pub mod Explored
+pub mod Exposures
 pub mod Files
 pub mod Grammars
 pub mod Images
@@ -11,6 +14,7 @@ pub mod Limits
 pub mod LongDirectory
 pub mod Mounts
 pub mod Openat
+pub mod Policies
 pub mod Processes
 pub mod Promises
 pub mod Questions

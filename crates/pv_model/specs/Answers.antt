@@ -1,14 +1,22 @@
 -- Answers to questions about a state or a run, as lines.
+pub mod Access
+pub mod Compare
 pub mod Explain
 pub mod Explore
+pub mod Exposure
+pub mod Files
 pub mod Graph
 pub mod Levels
 pub mod Lines
 pub mod Needs
 pub mod Nodes
 pub mod Numbers
+pub mod Observed
 pub mod OnLiterals
-pub mod Reach
+pub mod Policy
 pub mod ProcessRecord
+pub mod ProgramNames
+pub mod Reach
+pub mod Search
 pub mod Settings
 pub mod Turns

@@ -1,8 +1,11 @@
 -- All worked examples are proved.
+use Rattle.pv_laws_worked.specs.Accessed
 use Rattle.pv_laws_worked.specs.Audits
+use Rattle.pv_laws_worked.specs.Compared
 use Rattle.pv_laws_worked.specs.Errors
 use Rattle.pv_laws_worked.specs.Execve
 use Rattle.pv_laws_worked.specs.Explored
+use Rattle.pv_laws_worked.specs.Exposures
 use Rattle.pv_laws_worked.specs.Files
 use Rattle.pv_laws_worked.specs.Grammars
 use Rattle.pv_laws_worked.specs.Images
@@ -10,6 +13,7 @@ use Rattle.pv_laws_worked.specs.Limits
 use Rattle.pv_laws_worked.specs.LongDirectory
 use Rattle.pv_laws_worked.specs.Mounts
 use Rattle.pv_laws_worked.specs.Openat
+use Rattle.pv_laws_worked.specs.Policies
 use Rattle.pv_laws_worked.specs.Processes
 use Rattle.pv_laws_worked.specs.Promises
 use Rattle.pv_laws_worked.specs.Questions
@@ -23,6 +27,19 @@ use Rattle.pv_laws_worked.proofs.worked_runs_are_as_they_are_written.Goals as go
 
 pub returns : goal.returns
 returns c = record {
+  accessed = record {
+    truncation_and_creation = Accessed.truncation_and_creation;
+    refused_programs_are_read = Accessed.refused_programs_are_read;
+    no_bytes_no_access = Accessed.no_bytes_no_access;
+    numbers_are_used_again = Accessed.numbers_are_used_again;
+    both_names_of_rename = Accessed.both_names_of_rename;
+    second_name_of_link = Accessed.second_name_of_link;
+    nodes_of_descriptors = Accessed.nodes_of_descriptors;
+    nodes_without_paths = Accessed.nodes_without_paths;
+    files_of_two_names = Accessed.files_of_two_names;
+    each_process_has_its_own = Accessed.each_process_has_its_own;
+    unread_if_complete = Accessed.unread_if_complete;
+  };
   audits = record {
     audit_absent = Audits.audit_absent;
     audit_directory = Audits.audit_directory;
@@ -41,6 +58,18 @@ returns c = record {
     exposed_two_above = Audits.exposed_two_above;
     sealed_without_lock = Audits.sealed_without_lock;
     all_reported = Audits.all_reported;
+  };
+  compared = record {
+    an_entry_with_fewer_permissions = Compared.an_entry_with_fewer_permissions;
+    calls_of_setup_are_not_compared = Compared.calls_of_setup_are_not_compared;
+    refused_calls_of_setup = Compared.refused_calls_of_setup;
+    other_calls_are_compared = Compared.other_calls_are_compared;
+    one_state_has_ended = Compared.one_state_has_ended;
+    live_in_one_state_only = Compared.live_in_one_state_only;
+    programs_are_files = Compared.programs_are_files;
+    not_all_pairs = Compared.not_all_pairs;
+    an_empty_pledge = Compared.an_empty_pledge;
+    an_image_beside_itself = Compared.an_image_beside_itself;
   };
   errors = record {
     of_pledge = Errors.of_pledge;
@@ -73,6 +102,18 @@ returns c = record {
     each_text_has_its_witness = Explored.each_text_has_its_witness;
     a_state_is_left_out = Explored.a_state_is_left_out;
     two_orders_end_apart = Explored.two_orders_end_apart;
+  };
+  exposures = record {
+    lines_of_a_state = Exposures.lines_of_a_state;
+    ranges_of_lines = Exposures.ranges_of_lines;
+    safe_files = Exposures.safe_files;
+    safe_if_complete = Exposures.safe_if_complete;
+    numbers_are_used_again = Exposures.numbers_are_used_again;
+    entries_above = Exposures.entries_above;
+    execve_without_restraints = Exposures.execve_without_restraints;
+    no_first_program = Exposures.no_first_program;
+    one_visited_state = Exposures.one_visited_state;
+    two_processes = Exposures.two_processes;
   };
   files = record {
     shared_offset = Files.shared_offset;
@@ -181,6 +222,21 @@ returns c = record {
     openat_paths = Openat.openat_paths;
     openat_judged = Openat.openat_judged;
     openat_removed = Openat.openat_removed;
+  };
+  policies = record {
+    letters_that_are_new = Policies.letters_that_are_new;
+    either_of_two = Policies.either_of_two;
+    either_beside_wpath = Policies.either_beside_wpath;
+    rpath_itself = Policies.rpath_itself;
+    idle_promises = Policies.idle_promises;
+    idle_permissions = Policies.idle_permissions;
+    refused_permissions_are_idle = Policies.refused_permissions_are_idle;
+    idle_by_words = Policies.idle_by_words;
+    programs_of_execve = Policies.programs_of_execve;
+    program_without_file = Policies.program_without_file;
+    files_of_one_program = Policies.files_of_one_program;
+    programs_without_calls = Policies.programs_without_calls;
+    idle_if_complete = Policies.idle_if_complete;
   };
   processes = record {
     ends = Processes.ends;

@@ -1,9 +1,10 @@
 -- The text of `explore`: the states that any schedule can reach, in breadth-first order, and the texts of their steps.
-use Rattle.std.specs.Prelude.{ℕ, zero, suc, Bool, true, false, ◌||◌, if◌then◌else◌, ◌==◌, nat_le, List, [], ◌∷◌, ◌++◌, length, map, flat_map, filter, fold, codes, bytes_eq, slice_get, Option, None, Some}
+use Rattle.std.specs.Prelude.{ℕ, suc, Bool, true, false, if◌then◌else◌, ◌==◌, List, [], ◌∷◌, ◌++◌, length, map, flat_map, filter, codes, bytes_eq, Option}
 use Rattle.std.specs.Fmt.{decimal}
 use Rattle.std.specs.List.{join_by, list_any, list_all}
 use Rattle.pv_model.specs.Answers.Lines.{AnswerLine, answer_line, of_trace}
 use Rattle.pv_model.specs.Answers.Numbers.{Numbers, same_state, tree_numbers}
+use Rattle.pv_model.specs.Answers.Search
 use Rattle.pv_model.specs.Bytes.{Bytes, is_empty}
 use Rattle.pv_model.specs.Held.{live_processes, named_tree}
 use Rattle.pv_model.specs.State.{Program, State}
@@ -30,6 +31,10 @@ is_found s found = list_any (λ f. same_state f.state s) found
 abbrev pub found_by : Move → Found
 found_by m = record { witness = m.witness; state = m.stepped.after }
 
+-- whether a step leads to a visited state
+abbrev pub leads_back : Move → List Found → Bool
+leads_back m found = is_found m.stepped.after found
+
 module _ (program_of : Bytes → Option Program) where
   abbrev pub move : Found → ℕ → Move
   move f pid = record { witness = f.witness ++ pid ∷ []; pid = pid; stepped = step program_of f.state pid }
@@ -41,16 +46,14 @@ module _ (program_of : Bytes → Option Program) where
   module _ (limit : ℕ) where
     -- the visited states after a step, which adds its next state if that is new and the limit is not reached
     abbrev pub with_move : List Found → Move → List Found
-    with_move found m = if is_found m.stepped.after found || nat_le limit (length found) then found else found ++ found_by m ∷ []
+    with_move found m = Search.with_move moves_of found_by leads_back limit found m
 
     abbrev pub found_after : (List Found → List Found) → List Found → Option Found → List Found
-    found_after rest found None = found
-    found_after rest found (Some f) = rest (fold with_move found (moves_of f))
+    found_after rest found f = Search.found_after moves_of found_by leads_back limit rest found f
 
     -- the visited states after the steps from `states` more of them, beginning with number k
     abbrev pub found_from : ℕ → ℕ → List Found → List Found
-    found_from zero k found = found
-    found_from (suc states) k found = found_after (found_from states (suc k)) found (slice_get found k)
+    found_from states k found = Search.found_from moves_of found_by leads_back limit states k found
 
     -- the states that steps reach from a state, each once, in breadth-first order, up to the limit
     unfoldable pub states_found : State → List Found
@@ -95,9 +98,13 @@ turn_text (pid, count) = decimal pid ++ codes " " ++ decimal count
 abbrev pub witness_text : List ℕ → Bytes
 witness_text witness = join_by turn_text (codes ", ") (in_turns witness)
 
+-- the line of the witness of a step
+abbrev pub by_line : Move → AnswerLine
+by_line m = answer_line m.pid (codes "BY") (witness_text m.witness)
+
 -- a step with its witness
 abbrev pub move_lines : Move → List AnswerLine
-move_lines m = answer_line m.pid (codes "BY") (witness_text m.witness) ∷ map of_trace m.stepped.lines
+move_lines m = by_line m ∷ map of_trace m.stepped.lines
 
 -- ---- the endings
 
