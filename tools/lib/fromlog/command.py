@@ -68,7 +68,7 @@ def run(name, log_name, act):
     try:
         return act(lines_of(log_name))
     except OSError as error:
-        print(f"{name}: {log_name}: {error.strerror}", file=sys.stderr)
+        print(f"{name}: {error.filename or log_name}: {error.strerror}", file=sys.stderr)
         return STATUS_READ
     except LogError as error:
         print(f"{name}: {log_name}: {error}", file=sys.stderr)

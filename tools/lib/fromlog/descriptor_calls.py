@@ -61,11 +61,17 @@ def do_fcntl(source, process, call):
     if command.startswith("F_DUPFD"):
         do_dup(source, process, call)
     elif not held or not call.has_succeeded():
-        process.program.lack(call.name) if call.name == "ioctl" else None
+        lack_command(process, call)
     elif command in ("F_SETFD", "FIOCLEX", "FIONCLEX"):
         mark(source, process, held, command == "FIOCLEX" or "FD_CLOEXEC" in call.argument(2) or call.number(2) == 1)
     elif command not in ("F_GETFD", "F_GETFL", "F_ISATTY"):
         source.drop(process, call, f"{call.name} {command}")
+
+
+def lack_command(process, call):
+    """Notes an ioctl(2); a fcntl(2) that fails, or of what was open before, changes nothing that the machine has."""
+    if call.name == "ioctl":
+        process.program.lack(call.name)
 
 
 def mark(source, process, held, is_closed):

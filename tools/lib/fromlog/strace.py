@@ -47,6 +47,7 @@ class Reader:
             raise LogError("calls follow the end of the process, as if the files of strace -ff were joined: use strace -f, or strace-log-merge(1)")
         value = None if found[3] == "?" else int(found[3], 0)
         shown = unescape(found[4]) if found[4] else None
+        self.ended |= {pid} if found[1] == "exit_group" else set()
         self.calls.append(Call(pid, found[1], split_arguments(found[2]), value, found[5], shown=shown))
         return True
 
