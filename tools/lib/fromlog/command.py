@@ -4,13 +4,13 @@ import itertools
 import subprocess
 import sys
 
-from .logs import LogError
+from .logs import LogError, NotRecovered
 from .translate import source_of
 
 STATUS_FAILED, STATUS_INCOMPLETE, STATUS_READ = 1, 3, 4
 OPENS = {"open", "openat", "openat2", "creat"}
 EPILOG = (
-    "Exit status: 0; 1 if the text is not such a log; 2 for an error in the command line; 3 if an open is not in the source, or its trace differs; "
+    "Exit status: 0; 1 if the text is not such a log; 2 for an error in the command line; 3 if an open is not in the source, or a trace is not recovered; "
     "4 if the log cannot be read."
 )
 
@@ -70,6 +70,9 @@ def run(name, log_name, act):
     except OSError as error:
         print(f"{name}: {error.filename or log_name}: {error.strerror}", file=sys.stderr)
         return STATUS_READ
+    except NotRecovered as error:
+        print(f"{name}: the trace does not show all that the run depends on (see --manifest): {error}", file=sys.stderr)
+        return STATUS_INCOMPLETE
     except LogError as error:
         print(f"{name}: {log_name}: {error}", file=sys.stderr)
         return STATUS_FAILED

@@ -3,6 +3,7 @@ from . import manifests, schedules
 from .assumed_tree import lines_of
 from .assumptions import assume
 from .assemble import program_of
+from .logs import LogError, NotRecovered
 from .padding import padded
 from .points import Runs
 from .rooms import Rooms
@@ -23,8 +24,16 @@ def with_manifest(steps, name):
     return [*(it.decode("latin-1") for it in manifest), "schedule", *schedules.schedule_of(steps, entries)]
 
 
-def bundle_of(steps):
+def alone(steps):
     """Returns the lines of a bundle whose run has these steps, unless the tree has more than the trace shows."""
+    try:
+        return bundle_of(steps)
+    except LogError as error:
+        raise NotRecovered(str(error)) from error
+
+
+def bundle_of(steps):
+    """Returns the lines of the bundle of a trace."""
     replay, executed = assume(steps)
     tree = replay.tree
     init = tree.before[0][2]

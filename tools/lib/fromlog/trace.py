@@ -13,7 +13,7 @@ CALL = re.compile(r"(\w+)\((.*)\)")
 
 @dataclass
 class Step:
-    """A step of a process that writes lines: its call with the arguments, the value in r0 and the error number in r1, the bytes that it copies to the buffer and
+    """A step of a process that writes lines: its call with the arguments, the value in r0 and the error number in r1, the bytes that it copies to the buffer,
     those that it takes from there, the words of its lines PLDG and UNVL, and the number of its walks.
 
     `outcome` is `answer`, `ended`, `killed`, `blocked`, or `gone` for a step of a process that is not live."""
