@@ -10,7 +10,7 @@ from .translate import source_of
 STATUS_FAILED, STATUS_INCOMPLETE, STATUS_READ = 1, 3, 4
 OPENS = {"open", "openat", "openat2", "creat"}
 EPILOG = (
-    "Exit status: 0; 1 if the text is not such a log; 2 for an error in the command line; 3 if an open is not in the source, or a trace is not recovered; "
+    "Exit status: 0; 1 if the text is not such a log; 2 for an error in the command line; 3 if an open is not in the source, a program is too long, or a trace is not recovered; "
     "4 if the log cannot be read."
 )
 
@@ -40,7 +40,7 @@ def report(name, log, source):
         kinds = ", ".join(f"{count} {kind}" for kind, count in sorted(source.dropped.items()))
         total = sum(source.dropped.values())
         print(f"{name}: {total} call{'s' * (total > 1)} on files {'are' if total > 1 else 'is'} not in the source: {kinds}", file=sys.stderr)
-    return STATUS_INCOMPLETE if OPENS & set(source.dropped) else 0
+    return STATUS_INCOMPLETE if OPENS & set(source.dropped) or source.is_too_long else 0
 
 
 def translate(name, log, keep_loader):

@@ -15,12 +15,13 @@ PRESENT = ("EACCES", "EPERM", "EISDIR", "EEXIST", "ENOTEMPTY", "ELOOP", "EINVAL"
 
 
 class Source:
-    """The tree, the programs and the steps of a log. `dropped` counts the calls on files that are not in the source, by name."""
+    """The tree, the programs and the steps of a log. `dropped` counts the calls on files that are not in the source, by name, and
+    `is_too_long` says whether a program has more lines than it may have."""
 
     def __init__(self, keep_loader=False, directory=None):
         self.tree, self.processes, self.programs, self.steps = Tree(), {}, [], []
         self.keep_loader, self.directory, self.last_number = keep_loader, directory, 0
-        self.dropped, self.notes = collections.Counter(), []
+        self.dropped, self.notes, self.is_too_long = collections.Counter(), [], False
 
     # ---- processes and actions
 
@@ -159,6 +160,7 @@ class Source:
         if left_out:
             self.note(f"{name}: {left_out} calls are left out, each like several before it")
         if program.size() > LINES:
+            self.is_too_long = True
             self.note(f"{name}: {program.size()} instructions, and a program has at most {LINES}: shorten it by hand")
         return [f"# left out: {left_out} calls, each like several before it"] * bool(left_out) + program.body()
 
