@@ -10,8 +10,8 @@ from .translate import source_of
 STATUS_FAILED, STATUS_INCOMPLETE, STATUS_READ = 1, 3, 4
 OPENS = {"open", "openat", "openat2", "creat"}
 EPILOG = (
-    "Exit status: 0; 1 if the text is not such a log; 2 for an error in the command line; 3 if an open is not in the source, a program is too long, or a trace is not recovered; "
-    "4 if the log cannot be read."
+    "Exit status: 0; 1 if the text is not such a log; 2 for an error in the command line; 3 if an open is not in the source, a program is too long, or a "
+    "trace is not recovered; 4 if the log cannot be read."
 )
 
 
