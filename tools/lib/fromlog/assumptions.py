@@ -18,6 +18,7 @@ class Assumptions(Answers, Errors, Replay):
         self.present, self.made_by, self.step, self.numbers = present, {}, None, Numbers(tree)
 
     def apply(self, step):
+        """Notes what a step shows, and applies it."""
         self.step = step
         process = self.processes.get(step.pid)
         if step.outcome == "answer" and process:

@@ -154,6 +154,7 @@ def move(source, process, call, read_from, write_to, count):
 
 
 def do_lseek(source, process, call):
+    """lseek(2) within the machine's offsets."""
     held, whence, by = held_by(source, process, call), WHENCE.get(call.argument(2)), call.number(1)
     if held and whence and by is not None and abs(by) < 2**31:
         held.is_at_start = whence == "set" and by == 0
@@ -180,6 +181,7 @@ def do_ftruncate(source, process, call):
 
 
 def do_fchdir(source, process, call):
+    """fchdir(2): to a descriptor that the machine does not have, only the working directory of the log changes."""
     number, shown = call.descriptor(0)
     held = held_by(source, process, call)
     path = shown or (held and held.path)

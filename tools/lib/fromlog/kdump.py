@@ -57,6 +57,7 @@ class Reader:
             self.complete(call, "\n".join([text, *more]))
 
     def begin(self, pid, text):
+        """Begins a call; an exit does not return."""
         found = CALL.match(text)
         call = Call(pid, found[1], split_arguments(found[2])) if found else None
         if call and call.name == "exit":

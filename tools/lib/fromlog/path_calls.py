@@ -111,6 +111,7 @@ def do_two_paths(source, process, call):
 
 
 def do_symlink(source, process, call):
+    """symlink(2); a log of kdump(1) does not have the text."""
     start, at = (1, 2) if call.name == "symlinkat" else (None, 1)
     text, place = call.text(0), source.located(process, call, at, start)
     if place is None or not text or len(text) > 1023 or b"\0" in text:

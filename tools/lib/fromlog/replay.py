@@ -139,6 +139,7 @@ class Replay:
     do_rmdir = do_unlink
 
     def do_rename(self, process, step):
+        """Moves a node, unless both paths are names of it."""
         old, new = [self.tree.walk(process.directory, step.text(at), False) for at in (0, 1)]
         if old.node is not new.node and isinstance(old, Place):
             del old.directory.entries[old.name]

@@ -85,6 +85,7 @@ class Scheduler:
     """Follows a trace through the programs of a manifest."""
 
     def __init__(self, entries, rooms=None):
+        """Begins with the tree of these entries of a manifest."""
         tree = Tree()
         tree.build(entries)
         self.replay = Replay(tree)

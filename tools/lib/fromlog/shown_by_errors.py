@@ -29,6 +29,7 @@ class Errors:
             held[0].node.kind = "file" if step.name == "getdents" else "dir"
 
     def error_of_open(self, process, step):
+        """Notes what an open finds."""
         at = 1 if step.name == "openat" else 0
         start, path, words = process.directory, step.text(at), step.args[at + 1].split("+")
         if at and step.args[0] != "cwd" and not path.startswith(b"/"):

@@ -49,6 +49,7 @@ class Tree:
         return [self.entry(path) for path in paths if path not in programs]
 
     def entry(self, path):
+        """Returns the line of a path; a link whose text the log does not show is a file."""
         node = self.nodes[path]
         if node.kind == "dir":
             return f"dir {text_of(path)}"
