@@ -1,6 +1,6 @@
 """Replays the successful calls of a trace on a tree."""
 from .logs import LogError
-from .replayed_tree import Node, Place
+from .replayed_tree import Node
 
 
 class OpenFile:
@@ -141,7 +141,7 @@ class Replay:
     def do_rename(self, process, step):
         """Moves a node, unless both paths are names of it."""
         old, new = [self.tree.walk(process.directory, step.text(at), False) for at in (0, 1)]
-        if old.node is not new.node and isinstance(old, Place):
+        if old.node is not new.node:
             del old.directory.entries[old.name]
             new.directory.put(new.name, old.node)
             if old.node.kind == "dir":
