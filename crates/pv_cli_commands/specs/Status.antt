@@ -1,5 +1,5 @@
 -- The exit status of a command: 0 for success, 1 for invalid input, 3 for out of memory, 4 for a failed read or write.
-use Rattle.std.specs.Prelude.{◌≡◌, ◌≢◌, ℕ, Bool, true, false, Result, Ok, Err}
+use Rattle.std.specs.Prelude.{◌≡◌, ⊤, ℕ, Bool, true, false, Result, Ok, Err}
 use Rattle.pv_host_copy.specs.declared.image.ImportStop.{ImportStop}
 use Rattle.pv_host_copy.specs.declared.image.ImportStop.TheVariants as unimported
 use Rattle.pv_host_copy.specs.declared.unpacking.ExportFault.{ExportFault}
@@ -12,8 +12,12 @@ use Rattle.pv_model.specs.declared.store_fault.ListFault.{ListFault}
 use Rattle.pv_model.specs.declared.store_fault.ListFault.TheVariants.{Read as ListRead, Image as ListedImage, Memory as ListMemory, Write as ListWrite}
 use Rattle.pv_model.specs.declared.store_fault.MigrateFault.TheVariants.{Image as MigratedImage, Small, Memory as MigrateMemory}
 use Rattle.pv_model.specs.declared.stream.Sink.{Ghosts as Writing}
+use Rattle.pv_questions.specs.Asking.{BufferedOnlyIfUnwritten as BufferedOnlyIfUnanswered}
 use Rattle.pv_questions.specs.declared.stop.AskStop.{AskStop}
 use Rattle.pv_questions.specs.declared.stop.AskStop.TheVariants.{Machine as AskedMachine, NoProcess, Audited, File, Write as AnswerWrite}
+use Rattle.pv_run.specs.Auditing.{BufferedOnlyIfUnwritten as BufferedOnlyIfUnaudited}
+use Rattle.pv_run.specs.Listings.{BufferedOnlyIfUnlisted}
+use Rattle.pv_run.specs.Run.{BufferedOnlyIfCut}
 use Rattle.pv_run.specs.declared.auditing.AuditStop.{AuditStop}
 use Rattle.pv_run.specs.declared.auditing.AuditStop.TheVariants.{Machine, Path, Write as AuditWrite}
 use Rattle.pv_run.specs.declared.migrating.MigrateStop.{MigrateStop}
@@ -103,11 +107,15 @@ is_reported (Importing unimported.Refused) = true
 is_reported (Exporting unexported.Make) = true
 is_reported fault = false
 
--- the exit status of a command
-abbrev pub status_of_answer : Answer → ℕ
-status_of_answer (Ok done) = 0
-status_of_answer (Err fault) = status_of fault
+-- everything that was written to the output is flushed, unless a write to it failed
+abbrev pub FlushedUnlessCut : Answer → ℕ → Type 0
+FlushedUnlessCut (Err (Run fault)) waiting = BufferedOnlyIfCut fault waiting
+FlushedUnlessCut (Err (Listing fault)) waiting = BufferedOnlyIfUnlisted fault waiting
+FlushedUnlessCut (Err (Auditing stop)) waiting = BufferedOnlyIfUnaudited stop waiting
+FlushedUnlessCut (Err (Asking stop)) waiting = BufferedOnlyIfUnanswered stop waiting
+FlushedUnlessCut (Err (Source unwritten.Write)) waiting = ⊤
+FlushedUnlessCut answer waiting = waiting ≡ 0
 
--- if a sink had no buffered bytes and no read or write failed, it has none afterwards
+-- if the output had no buffered bytes and no write to it failed, it has none afterwards
 abbrev pub Flushes : {W : Type 0} → Writing W → W → W → Answer → Type 0
-Flushes writing before after answer = writing.buffered before ≡ 0 → status_of_answer answer ≢ 4 → writing.buffered after ≡ 0
+Flushes writing before after answer = writing.buffered before ≡ 0 → FlushedUnlessCut answer (writing.buffered after)

@@ -48,7 +48,7 @@ use std::alloc::Global;
 /// - `AskTree` writes the answer to a question about a tree to the standard output: the tree of the image in a file, of
 ///   the manifest in a file, or of the manifest on the standard input for `-`.
 ///
-/// Everything that was written is flushed, unless a read or a write failed. A search of states reports to `progress`.
+/// Everything that was written to the standard output is flushed, unless a write to it failed. A search of states reports to `progress`.
 ///
 /// # Errors
 ///
