@@ -1,18 +1,20 @@
 -- The steps of an export, and its errors.
-use Rattle.std.proofs.Common.{◌≡◌, ◌≢◌, ◌∙◌, ap, ℕ, zero, suc, ◌-◌, ◌<◌, true, false, List, [], ◌∷◌, ◌++◌, length, codes, Option, None, Some, Result, Ok, Err, refl, sym, subst, arith, append_assoc}
+use Rattle.std.proofs.Common.{◌≡◌, ◌≢◌, ◌∙◌, ap, ℕ, zero, suc, ◌-◌, ◌<◌, true, false, List, [], ◌∷◌, ◌++◌, length, codes, Option, None, Some, Result, Ok, Err, refl, sym, subst, arith, append_assoc, inl}
 use Rattle.std.specs.Prelude.{map, fold, ◌==◌, IsErrAnd}
 use Rattle.std.proofs.lemmas.Bool.{eq-eqb, ne_eqb}
 use Rattle.std.proofs.lemmas.List.{append-nil}
 use Rattle.pv_listing.proofs.Entries.{no-entries}
 use Rattle.pv_model.specs.Bytes.{Bytes}
+use Rattle.pv_model.specs.Grammar.Manifests.{path_of}
 use Rattle.pv_model.specs.Manifest.{Entry, make, further_name}
 use Rattle.pv_model.specs.Tree.{Entries, Node, directory_node, file_node, link_node, Tree, root, node_at, entries_at, is_directory_at}
 use Rattle.pv_host_copy.specs.declared.exporting.FirstPath.{FirstPath}
 use Rattle.pv_host_copy.specs.declared.target.TargetFault.{TargetFault}
 use Rattle.pv_host_copy.specs.declared.target.TargetFault.TheVariants.{Make, Memory}
-use Rattle.pv_host_copy.specs.Exported.{path_pair, IsMade, IsMadeNew, Makes, MakesNew, Encodes, Stops, StopsAt}
+use Rattle.pv_host_copy.specs.Exported.{path_pair, CreatesNode, IsMade, Makes, MakesNew, Encodes, Stops, StopsAt}
+use Rattle.pv_host_copy.specs.Created.{Creates, LeavesHalf, LeavesNext}
 use Rattle.pv_host_copy.specs.Paths.{below}
-use Rattle.pv_host_copy.specs.Encoded.{Encoded, and_made, and_all_made, first_path, encodes_again, encodes_node, encodes_within, encoded_entries}
+use Rattle.pv_host_copy.specs.Encoded.{Encoded, and_made, and_all_made, first_path, encodes_first, encodes_again, encodes_node, encodes_within, encoded_entries}
 
 -- ---- entries after the existing ones
 
@@ -49,6 +51,15 @@ grows-within t (suc depth) path n s =
     (grows-within t depth (below path e.0) e.1 (encodes_node (below path e.0) e.1 (node_at t e.1) so_far)))
     (entries_at t n) s
 
+-- at most a half of the next entry of a manifest was created, and so of an extension of it
+leaves-same : (later : List Entry) (before after : Option (List Entry)) → after ≡ before → LeavesNext later before after
+leaves-same [] before after same = same
+leaves-same (entry ∷ later) before after same = inl same
+
+leaves-longer : (later more : List Entry) (before after : Option (List Entry)) → LeavesNext later before after → LeavesNext (later ++ more) before after
+leaves-longer [] more before after same = leaves-same more before after same
+leaves-longer (entry ∷ later) more before after left = left
+
 -- if an export stopped in a manifest, it stopped in the same way in an extension of it
 stops-later : (s later : Encoded) (start made : Option (List Entry)) (path : Bytes) (fault : TargetFault) → Grows s later → StopsAt s.entries start made path fault
     → StopsAt later.entries start made path fault
@@ -64,7 +75,7 @@ stops-later s later start made path Memory more h = record {
   done = h.done;
   later = h.later ++ more.0;
   appears = more.1 ∙ ap (λ es. es ++ more.0) h.appears ∙ append_assoc h.done h.later more.0;
-  are_made = h.are_made;
+  are_made = leaves-longer h.later more.0 (and_all_made start h.done) made h.are_made;
 }
 
 -- ---- one entry
@@ -74,14 +85,37 @@ made-more None made made' es e was is = is ∙ ap (λ m. and_made m e) was
 made-more (Some xs) made made' es e was is = is ∙ ap (λ m. and_made m e) was ∙ ap Some (append_assoc xs es (e ∷ []))
 
 module _ (firsts firsts' : List FirstPath) (made made' : Option (List Entry)) where
+  -- at most a half of the next entry was created
+  entry-stops : (next : Encoded → Encoded) (path : Bytes) (e : Entry) (fault : TargetFault) → path_of e ≡ path → ((s : Encoded) → (next s).entries ≡ s.entries ++ e ∷ [])
+      → LeavesHalf e made made' → Stops next firsts made made' path fault
+  entry-stops next path e Make at is left = λ start s h. record {
+    done = s.entries;
+    entry = e;
+    later = [];
+    appears = is s;
+    is_path = at;
+    are_made = subst (λ m. LeavesHalf e m made') h.entries left;
+  }
+  entry-stops next path e Memory at is left = λ start s h. record {
+    done = s.entries;
+    later = e ∷ [];
+    appears = is s;
+    are_made = subst (λ m. LeavesHalf e m made') h.entries left;
+  }
+
+  -- a node was not created at its first path, or at most a half of it
+  pub new-stops : (path : Bytes) (n : ℕ) (o : Option Node) (fault : TargetFault) → CreatesNode path o made (Err fault) made' → MakesNew path n o firsts made (Err fault) firsts' made'
+  new-stops path n None fault left = tt
+  new-stops path n (Some node) fault left = entry-stops (encodes_first path n node) path (make path node) fault refl (λ s. refl) left
+
   -- a node was created at its first path, but the path was not recorded
-  pub new-unpreserved : (path : Bytes) (n : ℕ) (o : Option Node) → IsMadeNew path o made made' → MakesNew path n o firsts made (Err Memory) firsts' made'
-  new-unpreserved path n None is = tt
-  new-unpreserved path n (Some node) is = λ start s h. record {
+  pub new-unpreserved : (path : Bytes) (n : ℕ) (o : Option Node) (done : Unit {0}) → CreatesNode path o made (Ok done) made' → MakesNew path n o firsts made (Err Memory) firsts' made'
+  new-unpreserved path n None done created = tt
+  new-unpreserved path n (Some node) done created = λ start s h. record {
     done = s.entries ++ make path node ∷ [];
     later = [];
     appears = sym (append-nil (s.entries ++ make path node ∷ []));
-    are_made = made-more start made made' s.entries (make path node) h.entries is;
+    are_made = made-more start made made' s.entries (make path node) h.entries created.1;
   }
 
   -- the same with another result that has this error
@@ -147,7 +181,7 @@ encodes_on-memory t depth path n left firsts firsts' made made' at some on = λ 
       done = so_far.0.entries;
       later = more.0;
       appears = ap (λ (k : Encoded). k.entries) (within-is t depth path n s some ∙ sym so_far.2) ∙ more.1;
-      are_made = so_far.1.entries;
+      are_made = leaves-same more.0 (and_all_made start so_far.0.entries) made' so_far.1.entries;
     }
 
 module _ (t : Tree) (depth : ℕ) (directory path name : Bytes) (child : ℕ) (left after all : Entries) (firsts firsts1 firsts2 firsts3 : List FirstPath) (made made1 made2 made3 : Option (List Entry))

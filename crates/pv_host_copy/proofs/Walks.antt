@@ -1,7 +1,6 @@
--- The recursion into host directories, name by name.
-use Rattle.std.proofs.Common.{◌≡◌, ◌≢◌, ◌∙◌, ap, arith, ℕ, ◌+◌, ◌*◌, ◌<◌, true, false, List, [], ◌∷◌, ◌++◌, take, length, Option, None, Some, Result, Ok, Err, refl, sym, subst, append_assoc}
-use Rattle.std.specs.Prelude.{Bool, IfSome, IsSome, if◌then◌else◌}
-use Rattle.std.proofs.Math.Seq.{take-append_seam}
+-- The descent into host directories, name by name.
+use Rattle.std.proofs.Common.{◌≡◌, ◌≢◌, ◌∙◌, ap, arith, ℕ, ◌+◌, ◌*◌, ◌<◌, true, false, List, [], ◌∷◌, ◌++◌, length, Option, None, Some, Result, Ok, Err, refl, sym, subst, append_assoc}
+use Rattle.std.specs.Prelude.{Bool, ⊤, IfSome, IsSome, if◌then◌else◌}
 use Rattle.std.proofs.lemmas.List.{append-nil}
 use Rattle.pv_model.specs.declared.version.Version.{Version}
 use Rattle.pv_model.specs.Bytes.{Bytes}
@@ -19,14 +18,15 @@ use Rattle.pv_host_copy.specs.declared.fault.HostFault.TheVariants as host
 use Rattle.pv_host_copy.specs.declared.fault.SkipReason.{SkipReason}
 use Rattle.pv_host_copy.specs.declared.fault.SkipReason.TheVariants.{Name, Kind}
 use Rattle.pv_host_copy.specs.declared.importing.Importing.{Importing}
+use Rattle.pv_host_copy.specs.declared.walking.OpenDirectory.{OpenDirectory}
 use Rattle.pv_host_copy.specs.Gathered.{Gathered, and_entry, and_first_entry, and_skipped, and_node, and_linked, and_directory, and_file, and_link, first_of, gather}
 use Rattle.pv_host_copy.specs.Hosts.{HostEntries, no_more, a_directory, a_file, a_link, an_other}
 use Rattle.pv_host_copy.specs.Importing.{Holds, Steps, Stops, StopsIf, Goes, GoesIf, Keeps}
 use Rattle.pv_host_copy.specs.Paths.{is_path, below}
 use Rattle.pv_host_copy.specs.Stopped.{IsRefused, refused_pair, stop_of}
-use Rattle.pv_host_copy.specs.Reporting.{IsDirectory, IsFile, IsLink, IsNodeBelow, IsOther, Reports}
-use Rattle.pv_host_copy.specs.Walking.{GoesByNode}
-use Rattle.pv_host_copy.proofs.Stepping.{Continues, goes-if, goes-known, goes-on, steps-if, stops-if, stops-on}
+use Rattle.pv_host_copy.specs.Reporting.{IsDirectory, IsFile, IsLink, IsFewer, IsOther, Reports, left_below}
+use Rattle.pv_host_copy.specs.Walking.{OpensNone, Takes, and_opened}
+use Rattle.pv_host_copy.proofs.Stepping.{Continues, goes-known, steps-if, stops-if, stops-on}
 
 -- ---- entries after the existing ones
 
@@ -127,33 +127,16 @@ module _ (v : Version) (before : Importing) (path : Bytes) (known : Option HostE
           stops-on (and_directory v path (gather v path entries)) (and_skipped path Name) before before s (λ start g h. (g, h, rw at refl))
           (stops-both (λ g. g) (and_skipped path Name) before s (reported-extends path Name) stops)
 
-  -- a directory that was added, and then its entries
-  pub directory-preserved : {X : Type 0} (mid after : Importing) (w : Version) (r : Result X CopyStop) → w ≡ v → Keeps path before (Ok true) mid → GoesIf known (gather w path) mid r after
-      → GoesIf known (λ entries. and_directory v path (gather v path entries)) before r after
-  directory-preserved mid after w r other preserved goes = goes-if known (λ entries. and_directory v path (gather v path entries)) before r after (λ entries is.
-      goes-on (and_directory v path (gather v path entries)) (gather v path entries) before mid after r
-      (λ start g h.
-      let named : is_path v path ≡ true = ap (λ u. is_path u path) same ∙ preserved.0 in
-      (and_entry (make path (directory_node [])) g, preserved.1 start g h, rw named refl))
-      (subst (λ u. Goes (gather u path entries) mid r after) other (goes-known known entries (gather w path) mid r after is goes)))
+-- ---- the next name of a directory
 
--- ---- the entries of a directory, name by name
-
--- gathering the remaining entries from the state now is gathering all entries from the initial state
-abbrev pub GoesOn : Version → Bytes → Option HostEntries → Option HostEntries → Importing → Importing → Type 0
-GoesOn v path None left before now = Unit {0}
-GoesOn v path (Some all) left before now = (rest : HostEntries) × (left ≡ Some rest) × Continues (gather v path all) before (gather v path rest) now
-
-pub continues-start : (v : Version) (path : Bytes) (all : Option HostEntries) (i : Importing) → GoesOn v path all all i i
-continues-start v path None i = tt
-continues-start v path (Some all) i = (all, refl, λ start g h. (g, h, refl))
-
--- the host failed to return the next name
-pub continues-unread : {Y : Type 0} (v : Version) (path : Bytes) (all left : Option HostEntries) (before now : Importing) (fault : HostFault) (read : Result Y HostFault)
-    → GoesOn v path all left before now → read ≡ Err fault → (IsSome left → read ≢ Err host.Read) → StopsIf all (gather v path) before (stop_of fault)
-continues-unread v path all left before now host.Memory read goes is never = tt
-continues-unread v path None left before now host.Read read goes is never = refl
-continues-unread v path (Some all) left before now host.Read read goes is never = absurd (never (subst (λ o. IsSome o) (sym goes.1) refl) is)
+-- the node at a path is added or skipped, or stops the import; a directory is its remaining entries, and a file is the
+-- remaining bytes of its reader
+abbrev pub GoesByNode : {D R X : Type 0} → (D → Option HostEntries) → (R → Option Bytes) → Version → Bytes → HostNode D R → Importing → Result X CopyStop → Importing
+    → Type 0
+GoesByNode entries_of bytes_of v path (Directory d) before result after = GoesIf (entries_of d) (λ inside. and_directory v path (gather v path inside)) before result after
+GoesByNode entries_of bytes_of v path (File identity executable r) before result after = GoesIf (bytes_of r) (and_file v path identity executable) before result after
+GoesByNode entries_of bytes_of v path (Link identity text) before result after = Goes (and_link v path identity text.items) before result after
+GoesByNode entries_of bytes_of v path Other before result after = Goes (and_skipped path Kind) before result after
 
 module _ {D R : Type 0} (entries_of : D → Option HostEntries) (bytes_of : R → Option Bytes) (v : Version) {X : Type 0} (now next : Importing) (r : Result X CopyStop) where
   abbrev GoesBy : Bytes → HostNode D R → Type 0
@@ -210,77 +193,285 @@ module _ {D R : Type 0} (entries_of : D → Option HostEntries) (bytes_of : R �
     first-goes (an_other name rest) reported goes =
         (rest, reported.2, (and_skipped (below path name) Kind, other-goes (below path name) e.node reported.1 (subst GoesHere reported.0 goes), λ g. refl))
 
-    reported-first : (all : HostEntries) (left : Option HostEntries) (before : Importing) (goes : GoesOn v path (Some all) left before now)
-        → IfSome left (λ entries. Reports entries_of bytes_of entries (Some e) after) → GoesHere e.name.items → GoesFirst goes.0
-    reported-first all left before goes reported here = first-goes goes.0 (subst (λ o. IfSome o (λ entries. Reports entries_of bytes_of entries (Some e) after)) goes.1 reported) here
+-- ---- the directories that are being read, the current one last
 
-module _ {D R : Type 0} (entries_of : D → Option HostEntries) (bytes_of : R → Option Bytes) (v : Version) (path : Bytes) (e : HostEntry D R) (after : Option HostEntries)
-    (now next : Importing) where
-  -- one more name
-  pub continues-step : {X : Type 0} (x : X) (all left : Option HostEntries) (before : Importing) → GoesOn v path all left before now
-      → IfSome left (λ entries. Reports entries_of bytes_of entries (Some e) after) → GoesByNode {X = X} entries_of bytes_of v (below path e.name.items) e.node now (Ok x) next
-      → GoesOn v path all after before next
-  continues-step x None left before goes reported here = tt
-  continues-step x (Some all) left before goes reported here =
-      let first = reported-first entries_of bytes_of v now next (Ok x) path e after all left before goes reported here in (
-        first.0,
-        first.1,
-        λ start g h.
-            let held = goes.2 start g h in
-            (first.2.0 held.0, first.2.1 start held.0 held.1, first.2.2 held.0 ∙ held.2),
-      )
+module _ {D : Type 0} (entries_of : D → Option HostEntries) where
+  -- their paths and entries, which are known
+  abbrev pub AreKnown : List (OpenDirectory D) → List (Bytes × HostEntries) → Type 0
+  AreKnown [] [] = ⊤
+  AreKnown [] (k ∷ ks) = ⊥
+  AreKnown (o ∷ os) [] = ⊥
+  AreKnown (o ∷ os) (k ∷ ks) = (o.path.items ≡ k.0) × (entries_of o.directory ≡ Some k.1) × AreKnown os ks
 
-  -- a name that stopped the import
-  pub continues-stops : (X : Type 0) (s : CopyStop) (all left : Option HostEntries) (before : Importing) → GoesOn v path all left before now
-      → IfSome left (λ entries. Reports entries_of bytes_of entries (Some e) after) → GoesByNode {X = X} entries_of bytes_of v (below path e.name.items) e.node now (Err s) next
-      → StopsIf all (gather v path) before s
-  continues-stops X stop.Read None left before goes reported here = refl
-  continues-stops X stop.Memory None left before goes reported here = tt
-  continues-stops X (stop.Entry refused) None left before goes reported here = tt
-  continues-stops X s (Some all) left before goes reported here =
-      let r : Result X CopyStop = Err s in
-      let first = reported-first entries_of bytes_of v now next r path e after all left before goes reported here in
-      stops-if (Some all) (gather v path) before s (λ host is.
-      let same : all ≡ host = cc in
-      subst (λ k. Stops (gather v path k) before s) same
-      (stops-on (gather v path all) (λ g. gather v path first.0 (first.2.0 g)) before now s
-      (λ start g h. let held = goes.2 start g h in (held.0, held.1, first.2.2 held.0 ∙ held.2))
-      (stops-both first.2.0 (gather v path first.0) now s (gather-extends v path first.0) first.2.1)))
+  known-last : (os : List (OpenDirectory D)) (ks : List (Bytes × HostEntries)) (o : OpenDirectory D) (k : Bytes × HostEntries) → AreKnown os ks
+      → o.path.items ≡ k.0 → entries_of o.directory ≡ Some k.1 → AreKnown (os ++ o ∷ []) (ks ++ k ∷ [])
+  known-last [] [] o k are path is = (path, is, tt)
+  known-last [] (x ∷ ks) o k are path is = absurd are
+  known-last (y ∷ os) [] o k are path is = absurd are
+  known-last (y ∷ os) (x ∷ ks) o k are path is = (are.0, are.1, known-last os ks o k are.2 path is)
+
+  record LastKnown (os : List (OpenDirectory D)) (o : OpenDirectory D) (ks : List (Bytes × HostEntries)) : Type 0 where
+    front : List (Bytes × HostEntries)
+    last : Bytes × HostEntries
+    splits : ks ≡ front ++ last ∷ []
+    are : AreKnown os front
+    path : o.path.items ≡ last.0
+    is : entries_of o.directory ≡ Some last.1
+
+  last-known : (os : List (OpenDirectory D)) (o : OpenDirectory D) (ks : List (Bytes × HostEntries)) → AreKnown (os ++ o ∷ []) ks → LastKnown os o ks
+  last-known [] o [] are = absurd are
+  last-known [] o (k ∷ []) are = record { front = []; last = k; splits = refl; are = tt; path = are.0; is = are.1 }
+  last-known [] o (k ∷ x ∷ ks) are = absurd are.2
+  last-known (y ∷ os) o [] are = absurd are
+  last-known (y ∷ os) o (k ∷ ks) are =
+      let l = last-known os o ks are.2 in
+      record { front = k ∷ l.front; last = l.last; splits = ap (λ xs. k ∷ xs) l.splits; are = (are.0, are.1, l.are); path = l.path; is = l.is }
+
+  known-none : (ks : List (Bytes × HostEntries)) → AreKnown [] ks → ks ≡ []
+  known-none [] are = refl
+  known-none (k ∷ ks) are = absurd are
+
+module _ (v : Version) where
+  -- with what remains of these directories, the last one first
+  abbrev pub gather_all : List (Bytes × HostEntries) → Gathered → Gathered
+  gather_all [] g = g
+  gather_all (k ∷ ks) g = gather v k.0 k.1 (gather_all ks g)
+
+  gather_all-last : (ks : List (Bytes × HostEntries)) (k : Bytes × HostEntries) (g : Gathered) → gather_all (ks ++ k ∷ []) g ≡ gather_all ks (gather v k.0 k.1 g)
+  gather_all-last [] k g = refl
+  gather_all-last (x ∷ ks) k g = ap (gather v x.0 x.1) (gather_all-last ks k g)
+
+  gather_all-extends : (ks : List (Bytes × HostEntries)) → Extends (gather_all ks)
+  gather_all-extends [] = λ g. ([], sym (append-nil g.entries))
+  gather_all-extends (k ∷ ks) = both-extend (gather_all ks) (gather v k.0 k.1) (gather_all-extends ks) (gather-extends v k.0 k.1)
+
+-- gathering what remains from the state now is gathering all entries from the initial state
+abbrev pub GoesOn : {D : Type 0} → (D → Option HostEntries) → Version → Option HostEntries → List (OpenDirectory D) → Importing → Importing → Type 0
+GoesOn entries_of v None ds before now = Unit {0}
+GoesOn entries_of v (Some host) ds before now = (ks : List (Bytes × HostEntries)) × AreKnown entries_of ds ks × Continues (gather v [] host) before (gather_all v ks) now
+
+-- the same with the current directory apart
+record Parted {D : Type 0} (entries_of : D → Option HostEntries) (v : Version) (host : HostEntries) (os : List (OpenDirectory D)) (path : Bytes) (left : Option HostEntries) (before now : Importing) : Type 0 where
+  front : List (Bytes × HostEntries)
+  are : AreKnown entries_of os front
+  entries : HostEntries
+  is : left ≡ Some entries
+  on : Continues (gather v [] host) before (λ g. gather_all v front (gather v path entries g)) now
+
+module _ {D : Type 0} (entries_of : D → Option HostEntries) (v : Version) (before now : Importing) where
+  pub goes_on-start : (all : Option HostEntries) (none ds : List (OpenDirectory D)) (o : OpenDirectory D) → none ≡ [] → ds ≡ none ++ o ∷ [] → o.path.items ≡ []
+      → entries_of o.directory ≡ all → now ≡ before → GoesOn entries_of v all ds before now
+  goes_on-start None none ds o empty only path is same = tt
+  goes_on-start (Some host) none ds o empty only path is same = (
+    ([], host) ∷ [],
+    subst (λ os. AreKnown entries_of os (([], host) ∷ [])) (sym (only ∙ ap (λ os. os ++ o ∷ []) empty)) (path, is, tt),
+    λ start g h. (g, subst (Holds start g) (sym same) h, refl),
+  )
+
+  part : (host : HostEntries) (os : List (OpenDirectory D)) (o : OpenDirectory D) (ds : List (OpenDirectory D)) → ds ≡ os ++ o ∷ [] → GoesOn entries_of v (Some host) ds before now
+      → Parted entries_of v host os o.path.items (entries_of o.directory) before now
+  part host os o ds splits goes =
+      let l = last-known entries_of os o goes.0 (subst (λ xs. AreKnown entries_of xs goes.0) splits goes.1) in
+      record {
+        front = l.front;
+        are = l.are;
+        entries = l.last.1;
+        is = l.is;
+        on = λ start g h.
+            let held = goes.2 start g h in (
+              held.0,
+              held.1,
+              ap (λ (p : Bytes). gather_all v l.front (gather v p l.last.1 held.0)) l.path
+                  ∙ sym (gather_all-last v l.front l.last held.0) ∙ sym (ap (λ (xs : List (Bytes × HostEntries)). gather_all v xs held.0) l.splits) ∙ held.2,
+            );
+      }
 
   -- at the end, everything was gathered
-  pub continues-end : (all left : Option HostEntries) (before : Importing) → GoesOn v path all left before now
-      → IfSome left (λ entries. Reports entries_of bytes_of entries None after) → IfSome all (λ entries. Steps (gather v path entries) before now)
-  continues-end None left before goes reported = tt
-  continues-end (Some all) left before goes reported =
-      ended goes.0 (subst (λ o. IfSome o (λ entries. Reports entries_of bytes_of entries None after)) goes.1 reported) goes.2
-    where
-      ended : (rest : HostEntries) → Reports entries_of bytes_of rest None after → Continues (gather v path all) before (gather v path rest) now → Steps (gather v path all) before now
-      ended no_more reported on = λ start g h. let held = on start g h in subst (λ k. Holds start k now) held.2 held.1
-      ended (a_directory name inside rest) reported on = absurd reported
-      ended (a_file name identity executable bytes rest) reported on = absurd reported
-      ended (a_link name identity text rest) reported on = absurd reported
-      ended (an_other name rest) reported on = absurd reported
+  pub goes_on-done : (all : Option HostEntries) (ds : List (OpenDirectory D)) → ds ≡ [] → GoesOn entries_of v all ds before now
+      → IfSome all (λ host. Steps (gather v [] host) before now)
+  goes_on-done None ds none goes = tt
+  goes_on-done (Some host) ds none goes = λ start g h.
+      let held = goes.2 start g h in
+      let ks = known-none entries_of goes.0 (subst (λ xs. AreKnown entries_of xs goes.0) none goes.1) in
+      subst (λ (k : Gathered). Holds start k now) (sym (ap (λ (xs : List (Bytes × HostEntries)). gather_all v xs held.0) ks) ∙ held.2) held.1
 
--- ---- termination of the recursion
+  module _ (os : List (OpenDirectory D)) (o : OpenDirectory D) (ds : List (OpenDirectory D)) (splits : ds ≡ os ++ o ∷ []) where
+    -- the host failed to return the next name
+    pub goes_on-unread : {Y : Type 0} (all : Option HostEntries) (fault : HostFault) (read : Result Y HostFault) → GoesOn entries_of v all ds before now → read ≡ Err fault
+        → (IsSome (entries_of o.directory) → read ≢ Err host.Read) → StopsIf all (gather v []) before (stop_of fault)
+    goes_on-unread all host.Memory read goes is never = tt
+    goes_on-unread None host.Read read goes is never = refl
+    goes_on-unread (Some all) host.Read read goes is never =
+        let p = part all os o ds splits goes in absurd (never (subst (λ x. IsSome x) (sym p.is) refl) is)
 
--- the number of levels below the node of a name
-abbrev pub steps_below : {D R : Type 0} → (D → ℕ) → HostNode D R → ℕ
-steps_below height (Directory d) = 2 * height d + 2
-steps_below height _ = 0
+    module _ {R : Type 0} (bytes_of : R → Option Bytes) where
+      no-more : (entries : HostEntries) (after : Option HostEntries) → Reports entries_of bytes_of entries None after → entries ≡ no_more
+      no-more no_more after reported = refl
+      no-more (a_directory name inside rest) after reported = absurd reported
+      no-more (a_file name identity executable bytes rest) after reported = absurd reported
+      no-more (a_link name identity text rest) after reported = absurd reported
+      no-more (an_other name rest) after reported = absurd reported
 
-pub steps-fewer : {D R : Type 0} (height : D → ℕ) (levels : ℕ) (node : HostNode D R) → IsNodeBelow height levels node → steps_below height node < 2 * levels + 1
-steps-fewer height levels (Directory d) below = omega (arith, below)
-steps-fewer height levels (File i x f) below = omega arith
-steps-fewer height levels (Link i t) below = omega arith
-steps-fewer height levels Other below = omega arith
+      -- the current directory has no more names
+      pub goes_on-end : (all : Option HostEntries) (after : Option HostEntries) → GoesOn entries_of v all ds before now
+          → IfSome (entries_of o.directory) (λ entries. Reports entries_of bytes_of entries None after) → GoesOn entries_of v all os before now
+      goes_on-end None after goes reported = tt
+      goes_on-end (Some host) after goes reported =
+          let p = part host os o ds splits goes in
+          let none : p.entries ≡ no_more = no-more p.entries after (subst (λ x. IfSome x (λ entries. Reports entries_of bytes_of entries None after)) p.is reported) in (
+            p.front,
+            p.are,
+            λ start g h. let held = p.on start g h in (held.0, held.1, ap (λ (es : HostEntries). gather_all v p.front (gather v o.path.items es held.0)) (sym none) ∙ held.2),
+          )
 
--- ---- paths
+      module _ (next : Importing) (same : v ≡ now.version) (e : HostEntry D R) (after : OpenDirectory D) (stays : after.path.items ≡ o.path.items)
+          (reported : IfSome (entries_of o.directory) (λ entries. Reports entries_of bytes_of entries (Some e) (entries_of after.directory))) where
+        abbrev place : Bytes
+        place = below o.path.items e.name.items
 
--- a slash and a name at the end of a path
-pub path_at : (path now pushed extended name bytes : Bytes) → now ≡ path → pushed ≡ now ++ 47 ∷ [] → extended ≡ pushed ++ bytes → bytes ≡ name → extended ≡ below path name
-path_at path now pushed extended name bytes was slash named is =
-    named ∙ ap (λ p. p ++ bytes) slash ∙ ap (λ p. (p ++ 47 ∷ []) ++ bytes) was ∙ ap (λ bs. (path ++ 47 ∷ []) ++ bs) is ∙ append_assoc path (47 ∷ []) name
+        reports : (entries : HostEntries) → entries_of o.directory ≡ Some entries → Reports entries_of bytes_of entries (Some e) (entries_of after.directory)
+        reports entries is = subst (λ x. IfSome x (λ known. Reports entries_of bytes_of known (Some e) (entries_of after.directory))) is reported
 
--- and the path before them
-pub front_at : (path name extended : Bytes) (base : ℕ) → base ≡ length path → extended ≡ below path name → take base extended ≡ path
-front_at path name extended base long is = ap (take base) is ∙ ap (λ k. take k (below path name)) long ∙ take-append_seam path (47 ∷ name)
+        -- if no directory is to be read, the node was added or skipped with everything below it
+        takes-goes : (node : HostNode D R) (r : Result (Option (OpenDirectory D)) CopyStop) → OpensNone r → Takes bytes_of place node now r next
+            → GoesByNode entries_of bytes_of v place node now r next
+        takes-goes (Directory d) (Ok None) none takes = directory-reported v now place (entries_of d) same next takes
+        takes-goes (Directory d) (Ok (Some opened)) none takes = absurd none
+        takes-goes (Directory d) (Err s) none takes = directory-stops v now place (entries_of d) same s takes
+        takes-goes (File i x f) r none takes = subst (λ w. GoesIf (bytes_of f) (and_file w place i x) now r next) (sym same) takes.1
+        takes-goes (Link i t) r none takes = subst (λ w. Goes (and_link w place i t.items) now r next) (sym same) takes.1
+        takes-goes Other r none takes = takes.1
+
+        goes_on-settled : (host : HostEntries) → GoesOn entries_of v (Some host) ds before now → Takes bytes_of place e.node now (Ok None) next
+            → GoesOn entries_of v (Some host) (os ++ after ∷ []) before next
+        goes_on-settled host goes takes =
+            let p = part host os o ds splits goes in
+            let r : Result (Option (OpenDirectory D)) CopyStop = Ok None in
+            let first = first-goes entries_of bytes_of v now next r o.path.items e (entries_of after.directory) p.entries (reports p.entries p.is) (takes-goes e.node r tt takes) in (
+              p.front ++ (o.path.items, first.0) ∷ [],
+              known-last entries_of os p.front after (o.path.items, first.0) p.are stays first.1,
+              λ start g h.
+                  let held = p.on start g h in (
+                    first.2.0 held.0,
+                    first.2.1 start held.0 held.1,
+                    gather_all-last v p.front (o.path.items, first.0) (first.2.0 held.0) ∙ ap (gather_all v p.front) (first.2.2 held.0) ∙ held.2,
+                  ),
+            )
+
+        -- the node of a directory that is to be read
+        record IsOpened (node : HostNode D R) (opened : OpenDirectory D) : Type 0 where
+          is : node ≡ Directory opened.directory
+          path : opened.path.items ≡ place
+          added : Keeps place now (Ok true) next
+
+        opened-node : (node : HostNode D R) (opened : OpenDirectory D) → Takes bytes_of place node now (Ok (Some opened)) next → IsOpened node opened
+        opened-node (Directory d) opened takes = record { is = ap Directory (sym takes.0); path = takes.1; added = takes.2 }
+        opened-node (File i x f) opened takes = absurd takes.0
+        opened-node (Link i t) opened takes = absurd takes.0
+        opened-node Other opened takes = absurd takes.0
+
+        record FirstOpened (rest : HostEntries) (d : D) : Type 0 where
+          inside : HostEntries
+          left : HostEntries
+          known : entries_of d ≡ Some inside
+          remains : entries_of after.directory ≡ Some left
+          is : (g : Gathered) → gather v o.path.items left (and_directory v place (gather v place inside) g) ≡ gather v o.path.items rest g
+
+        first-opened : (rest : HostEntries) (d : D) → Reports entries_of bytes_of rest (Some e) (entries_of after.directory) → e.node ≡ Directory d → FirstOpened rest d
+        first-opened no_more d reported is = absurd reported
+        first-opened (a_directory name inside left) d reported is = record {
+          inside = inside;
+          left = left;
+          known = subst (λ n. IsDirectory entries_of bytes_of inside n) is reported.1;
+          remains = reported.2;
+          is = λ g. ap (λ (n : Bytes). gather v o.path.items left (and_directory v (below o.path.items n) (gather v (below o.path.items n) inside) g)) reported.0;
+        }
+        first-opened (a_file name identity executable bytes left) d reported is = absurd (subst (λ n. IsFile entries_of bytes_of identity executable bytes n) is reported.1)
+        first-opened (a_link name identity text left) d reported is = absurd (subst (λ n. IsLink entries_of bytes_of identity text n) is reported.1)
+        first-opened (an_other name left) d reported is = absurd (subst (λ n. IsOther entries_of bytes_of n) is reported.1)
+
+        goes_on-opened : (host : HostEntries) (opened : OpenDirectory D) → GoesOn entries_of v (Some host) ds before now → Takes bytes_of place e.node now (Ok (Some opened)) next
+            → GoesOn entries_of v (Some host) ((os ++ after ∷ []) ++ opened ∷ []) before next
+        goes_on-opened host opened goes takes =
+            let p = part host os o ds splits goes in
+            let node = opened-node e.node opened takes in
+            let first = first-opened p.entries opened.directory (reports p.entries p.is) node.is in
+            let named : is_path v place ≡ true = ap (λ w. is_path w place) same ∙ node.added.0 in (
+              (p.front ++ (o.path.items, first.left) ∷ []) ++ (place, first.inside) ∷ [],
+              known-last entries_of (os ++ after ∷ []) (p.front ++ (o.path.items, first.left) ∷ []) opened (place, first.inside)
+                  (known-last entries_of os p.front after (o.path.items, first.left) p.are stays first.remains) node.path first.known,
+              λ start g h.
+                  let held = p.on start g h in
+                  let added = and_entry (make place (directory_node [])) held.0 in
+                  let into : and_directory v place (gather v place first.inside) held.0 ≡ gather v place first.inside added = rw named refl in (
+                    added,
+                    node.added.1 start held.0 held.1,
+                    gather_all-last v (p.front ++ (o.path.items, first.left) ∷ []) (place, first.inside) added
+                        ∙ gather_all-last v p.front (o.path.items, first.left) (gather v place first.inside added)
+                        ∙ ap (gather_all v p.front) (ap (gather v o.path.items first.left) (sym into) ∙ first.is held.0) ∙ held.2,
+                  ),
+            )
+
+        -- one more name
+        pub goes_on-next : (all : Option HostEntries) (opened : Option (OpenDirectory D)) → GoesOn entries_of v all ds before now → Takes bytes_of place e.node now (Ok opened) next
+            → GoesOn entries_of v all (and_opened os after opened) before next
+        goes_on-next None opened goes takes = tt
+        goes_on-next (Some host) None goes takes = goes_on-settled host goes takes
+        goes_on-next (Some host) (Some opened) goes takes = goes_on-opened host opened goes takes
+
+        -- a name that stopped the import
+        pub goes_on-stops : (all : Option HostEntries) (s : CopyStop) → GoesOn entries_of v all ds before now → Takes bytes_of place e.node now (Err s) next → StopsIf all (gather v []) before s
+        goes_on-stops None stop.Read goes takes = refl
+        goes_on-stops None stop.Memory goes takes = tt
+        goes_on-stops None (stop.Entry refused) goes takes = tt
+        goes_on-stops (Some host) s goes takes =
+            let p = part host os o ds splits goes in
+            let r : Result (Option (OpenDirectory D)) CopyStop = Err s in
+            let first = first-goes entries_of bytes_of v now next r o.path.items e (entries_of after.directory) p.entries (reports p.entries p.is) (takes-goes e.node r tt takes) in
+            stops-if (Some host) (gather v []) before s (λ known is.
+            let equal : host ≡ known = cc in
+            subst (λ k. Stops (gather v [] k) before s) equal
+            (stops-on (gather v [] host) (λ g. gather_all v p.front (gather v o.path.items first.0 (first.2.0 g))) before now s
+            (λ start g h. let held = p.on start g h in (held.0, held.1, ap (gather_all v p.front) (first.2.2 held.0) ∙ held.2))
+            (stops-both first.2.0 (λ g. gather_all v p.front (gather v o.path.items first.0 g)) now s
+            (both-extend (gather v o.path.items first.0) (gather_all v p.front) (gather-extends v o.path.items first.0) (gather_all-extends v p.front)) first.2.1)))
+
+-- ---- termination
+
+-- a bound of the number of steps that remain
+abbrev pub steps_left : {D : Type 0} → (D → ℕ) → List (OpenDirectory D) → ℕ
+steps_left left [] = 0
+steps_left left (o ∷ os) = 2 * left o.directory + 1 + steps_left left os
+
+steps-last : {D : Type 0} (left : D → ℕ) (os : List (OpenDirectory D)) (o : OpenDirectory D) → steps_left left (os ++ o ∷ []) ≡ steps_left left os + (2 * left o.directory + 1)
+steps-last left [] o = omega arith
+steps-last left (x ∷ os) o = let rest = steps-last left os o in omega (arith, rest)
+
+module _ {D : Type 0} (left : D → ℕ) (os : List (OpenDirectory D)) (o : OpenDirectory D) (ds : List (OpenDirectory D)) (splits : ds ≡ os ++ o ∷ []) where
+  steps-open : steps_left left ds ≡ steps_left left os + (2 * left o.directory + 1)
+  steps-open = ap (steps_left left) splits ∙ steps-last left os o
+
+  pub steps-end : steps_left left os < steps_left left ds
+  steps-end = let is = steps-open in omega (arith, is)
+
+  module _ {R : Type 0} (bytes_of : R → Option Bytes) (path : Bytes) (now next : Importing) (after : OpenDirectory D) where
+    steps-opened : (opened : OpenDirectory D) (node : HostNode D R) → left after.directory + left_below left node < left o.directory
+        → Takes bytes_of path node now (Ok (Some opened)) next → steps_left left ((os ++ after ∷ []) ++ opened ∷ []) < steps_left left ds
+    steps-opened opened (Directory d) less takes =
+        let is = steps-open in
+        let last = steps-last left (os ++ after ∷ []) opened in
+        let before = steps-last left os after in
+        let same : left opened.directory ≡ left d = ap left takes.0 in
+        omega (arith, is, last, before, same, less)
+    steps-opened opened (File i x f) less takes = absurd takes.0
+    steps-opened opened (Link i t) less takes = absurd takes.0
+    steps-opened opened Other less takes = absurd takes.0
+
+    pub steps-next : (e : HostEntry D R) (opened : Option (OpenDirectory D)) → IsFewer left (left o.directory) (Some e) (left after.directory)
+        → Takes bytes_of path e.node now (Ok opened) next → steps_left left (and_opened os after opened) < steps_left left ds
+    steps-next e None fewer takes =
+        let is = steps-open in
+        let last = steps-last left os after in
+        let less : left after.directory < left o.directory = omega (arith, fewer) in
+        omega (arith, is, last, less)
+    steps-next e (Some opened) fewer takes = steps-opened opened e.node fewer takes

@@ -9,25 +9,26 @@ use Rattle.pv_host_copy.specs.declared.exporting.ExportStop.TheVariants as stop
 use Rattle.pv_host_copy.specs.declared.exporting.FirstPath.{FirstPath}
 use Rattle.pv_host_copy.specs.declared.target.TargetFault.{TargetFault}
 use Rattle.pv_host_copy.specs.declared.target.TargetFault.TheVariants.{Make, Memory}
-use Rattle.pv_host_copy.specs.Encoded.{Encoded, and_made, and_all_made, encodes_first}
+use Rattle.pv_host_copy.specs.Created.{Creates, LeavesHalf, LeavesNext}
+use Rattle.pv_host_copy.specs.Encoded.{Encoded, and_all_made, encodes_first}
 
--- a prefix of these entries was created, after the previous ones
+-- a prefix of these entries was created after the previous ones, and at most a half of the next one
 pub record MakesPrefix (entries : List Entry) (before after : Option (List Entry)) : Type 0 where
   pub done : List Entry
   pub later : List Entry
   pub appears : entries ≡ done ++ later
-  pub are_made : after ≡ and_all_made before done
+  pub are_made : LeavesNext later (and_all_made before done) after
 
--- all of these entries before one with this path were created
+-- all of these entries before one with this path were created, and at most a half of that one
 pub record MakesUpTo (path : Bytes) (entries : List Entry) (before after : Option (List Entry)) : Type 0 where
   pub done : List Entry
   pub entry : Entry
   pub later : List Entry
   pub appears : entries ≡ done ++ entry ∷ later
   pub is_path : path_of entry ≡ path
-  pub are_made : after ≡ and_all_made before done
+  pub are_made : LeavesHalf entry (and_all_made before done) after
 
--- all of these entries were created, or the export stopped
+-- a directory has exactly these entries after the previous ones, or the export stopped
 abbrev pub Exports : List Entry → (before : Option (List Entry)) → Result (Unit {0}) ExportStop → (after : Option (List Entry)) → Type 0
 Exports entries before (Ok done) after = after ≡ and_all_made before entries
 Exports entries before (Err (stop.Make path)) after = MakesUpTo path.items entries before after
@@ -61,10 +62,10 @@ abbrev pub Makes : (Encoded → Encoded) → List FirstPath → Option (List Ent
 Makes change firsts made (Ok done) firsts' made' path = Encodes change firsts made firsts' made'
 Makes change firsts made (Err fault) firsts' made' path = Stops change firsts made made' path fault
 
--- a node is created at a path
-abbrev pub IsMadeNew : Bytes → Option Node → Option (List Entry) → Option (List Entry) → Type 0
-IsMadeNew path None made made' = Unit {0}
-IsMadeNew path (Some node) made made' = made' ≡ and_made made (make path node)
+-- a node is created at a path, or at most a half of it
+abbrev pub CreatesNode : Bytes → Option Node → Option (List Entry) → Result (Unit {0}) TargetFault → Option (List Entry) → Type 0
+CreatesNode path None made result made' = Unit {0}
+CreatesNode path (Some node) made result made' = Creates (make path node) made result made'
 
 -- a node was created at its first path, which was recorded; or that stopped
 abbrev pub MakesNew : Bytes → ℕ → Option Node → List FirstPath → Option (List Entry) → Result (Unit {0}) TargetFault → List FirstPath → Option (List Entry) → Type 0

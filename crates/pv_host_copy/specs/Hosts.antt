@@ -1,6 +1,7 @@
 -- Host directories: names in byte order, with the object that each refers to.
-use Rattle.std.specs.Prelude.{Bool, ◌&&◌, ◌==◌}
+use Rattle.std.specs.Prelude.{Bool, true, ◌&&◌, ◌==◌, Option, None, Some}
 use Rattle.pv_model.specs.Bytes.{Bytes}
+use Rattle.pv_model.specs.Calls.Descriptors.{is_past}
 use Rattle.pv_host_copy.specs.declared.entry.Identity.{Identity}
 
 -- the entries of a directory: a directory with its own entries, a file, a symbolic link, or something else
@@ -14,3 +15,12 @@ pub data HostEntries : Type 0 where
 -- whether two names refer to one file or symbolic link
 abbrev pub is_same : Identity → Identity → Bool
 is_same a b = (a.device == b.device) && (a.inode == b.inode)
+
+-- whether the names of a directory, and of each directory in it, ascend in the order of bytes; these are the names after
+-- the last one
+abbrev pub is_ordered : Option Bytes → HostEntries → Bool
+is_ordered last no_more = true
+is_ordered last (a_directory name inside rest) = is_past last name && is_ordered None inside && is_ordered (Some name) rest
+is_ordered last (a_file name identity executable bytes rest) = is_past last name && is_ordered (Some name) rest
+is_ordered last (a_link name identity text rest) = is_past last name && is_ordered (Some name) rest
+is_ordered last (an_other name rest) = is_past last name && is_ordered (Some name) rest

@@ -1,4 +1,5 @@
 pub mod Adding
+pub mod Created
 pub mod Entries
 pub mod Exported
 pub mod Firsts
@@ -12,6 +13,7 @@ pub mod Reading
 pub mod Encoded
 pub mod Stopped
 pub mod Reporting
+pub mod Shown
 pub mod Unpacked
 pub mod Walking
 pub mod Written

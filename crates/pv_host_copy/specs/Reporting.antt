@@ -1,6 +1,7 @@
 -- The next entry of a host directory.
-use Rattle.std.specs.Prelude.{◌≡◌, ⊤, ℕ, ◌<◌, Bool, Option, None, Some}
+use Rattle.std.specs.Prelude.{◌≡◌, ⊤, ℕ, ◌+◌, ◌<◌, Bool, Option, None, Some, IsTrue}
 use Rattle.pv_model.specs.Bytes.{Bytes}
+use Rattle.pv_model.specs.Calls.Descriptors.{is_past}
 use Rattle.pv_host_copy.specs.declared.entry.Identity.{Identity}
 use Rattle.pv_host_copy.specs.declared.entry.HostEntry.{HostEntry}
 use Rattle.pv_host_copy.specs.declared.entry.HostNode.{HostNode}
@@ -38,11 +39,17 @@ module _ {D R : Type 0} (entries_of : D → Option HostEntries) (bytes_of : R �
   Reports (an_other name rest) (Some e) after = (e.name.items ≡ name) × IsOther e.node × (after ≡ Some rest)
   Reports _ _ after = ⊥
 
--- a reported directory has fewer levels below it than this
-abbrev pub IsNodeBelow : {D R : Type 0} → (D → ℕ) → ℕ → HostNode D R → Type 0
-IsNodeBelow height levels (Directory d) = height d < levels
-IsNodeBelow height levels _ = ⊤
+-- the number of entries in a reported directory is at most this
+abbrev pub left_below : {D R : Type 0} → (D → ℕ) → HostNode D R → ℕ
+left_below left (Directory d) = left d
+left_below left _ = 0
 
-abbrev pub IsBelow : {D R : Type 0} → (D → ℕ) → ℕ → Option (HostEntry D R) → Type 0
-IsBelow height levels None = ⊤
-IsBelow height levels (Some e) = IsNodeBelow height levels e.node
+-- fewer entries remain, with those of the reported directory
+abbrev pub IsFewer : {D R : Type 0} → (D → ℕ) → ℕ → Option (HostEntry D R) → ℕ → Type 0
+IsFewer left before None after = ⊤
+IsFewer left before (Some e) after = after + left_below left e.node < before
+
+-- the reported name comes after the previous one, in the order of bytes, and is the last one now
+abbrev pub IsNextName : {D R : Type 0} → Option Bytes → Option (HostEntry D R) → Option Bytes → Type 0
+IsNextName last None now = now ≡ last
+IsNextName last (Some e) now = IsTrue (is_past last e.name.items) × (now ≡ Some e.name.items)

@@ -1,21 +1,36 @@
 -- The import of one name.
-use Rattle.std.specs.Prelude.{Option, Result}
-use Rattle.pv_model.specs.declared.version.Version.{Version}
+use Rattle.std.specs.Prelude.{◌≡◌, ⊤, true, false, List, [], ◌∷◌, ◌++◌, Option, None, Some, Result, Ok, Err}
 use Rattle.pv_model.specs.Bytes.{Bytes}
 use Rattle.pv_host_copy.specs.declared.entry.HostNode.{HostNode}
 use Rattle.pv_host_copy.specs.declared.entry.HostNode.TheVariants.{Directory, File, Link, Other}
 use Rattle.pv_host_copy.specs.declared.fault.CopyStop.{CopyStop}
 use Rattle.pv_host_copy.specs.declared.fault.SkipReason.TheVariants.{Kind}
 use Rattle.pv_host_copy.specs.declared.importing.Importing.{Importing}
-use Rattle.pv_host_copy.specs.Gathered.{gather, and_directory, and_file, and_link, and_skipped}
-use Rattle.pv_host_copy.specs.Hosts.{HostEntries}
-use Rattle.pv_host_copy.specs.Importing.{Goes, GoesIf}
+use Rattle.pv_host_copy.specs.declared.walking.OpenDirectory.{OpenDirectory}
+use Rattle.pv_host_copy.specs.Gathered.{and_file, and_link, and_skipped}
+use Rattle.pv_host_copy.specs.Importing.{Goes, GoesIf, Keeps}
 
--- the node at a path is added or skipped, or stops the import; a directory is its remaining entries, and a file is the
+-- a directory is added without its entries and is to be read; or it is skipped, or stops the import
+abbrev pub TakesDirectory : {D : Type 0} → Bytes → D → Importing → Result (Option (OpenDirectory D)) CopyStop → Importing → Type 0
+TakesDirectory path d before (Ok (Some opened)) after = (opened.directory ≡ d) × (opened.path.items ≡ path) × Keeps path before (Ok true) after
+TakesDirectory path d before (Ok None) after = Keeps path before (Ok false) after
+TakesDirectory path d before (Err s) after = Keeps path before (Err s) after
+
+-- no directory is to be read
+abbrev pub OpensNone : {D : Type 0} → Result (Option (OpenDirectory D)) CopyStop → Type 0
+OpensNone (Ok (Some opened)) = ⊥
+OpensNone (Ok None) = ⊤
+OpensNone (Err s) = ⊤
+
+-- the node at a path is added, a directory without its entries, or it is skipped, or stops the import; a file is the
 -- remaining bytes of its reader
-abbrev pub GoesByNode : {D R X : Type 0} → (D → Option HostEntries) → (R → Option Bytes) → Version → Bytes → HostNode D R → Importing → Result X CopyStop → Importing
-    → Type 0
-GoesByNode entries_of bytes_of v path (Directory d) before result after = GoesIf (entries_of d) (λ inside. and_directory v path (gather v path inside)) before result after
-GoesByNode entries_of bytes_of v path (File identity executable r) before result after = GoesIf (bytes_of r) (and_file v path identity executable) before result after
-GoesByNode entries_of bytes_of v path (Link identity text) before result after = Goes (and_link v path identity text.items) before result after
-GoesByNode entries_of bytes_of v path Other before result after = Goes (and_skipped path Kind) before result after
+abbrev pub Takes : {D R : Type 0} → (R → Option Bytes) → Bytes → HostNode D R → Importing → Result (Option (OpenDirectory D)) CopyStop → Importing → Type 0
+Takes bytes_of path (Directory d) before result after = TakesDirectory path d before result after
+Takes bytes_of path (File identity executable r) before result after = OpensNone result × GoesIf (bytes_of r) (and_file before.version path identity executable) before result after
+Takes bytes_of path (Link identity text) before result after = OpensNone result × Goes (and_link before.version path identity text.items) before result after
+Takes bytes_of path Other before result after = OpensNone result × Goes (and_skipped path Kind) before result after
+
+-- the directories that are being read, with one more, and the one that was opened below it
+abbrev pub and_opened : {D : Type 0} → List (OpenDirectory D) → OpenDirectory D → Option (OpenDirectory D) → List (OpenDirectory D)
+and_opened ds directory None = ds ++ directory ∷ []
+and_opened ds directory (Some opened) = (ds ++ directory ∷ []) ++ opened ∷ []

@@ -1,10 +1,10 @@
 //! Exporting the tree of an image to a host directory.
-ghost use Rattle.std.specs.Prelude.{◌≡◌, ◌≤◌, false, map, drop, take, vec_len, IsTrue, IsSome, IfOk, OnOk, OnErr};
+ghost use Rattle.std.specs.Prelude.{◌≡◌, ◌≤◌, false, map, drop, take, vec_len, IsTrue, IsSome, IfOk, OnOk};
 ghost use Rattle.std.specs.Option.{option_copied};
 ghost use Rattle.pv_dirs.specs.Trees.{bytes_at};
 ghost use Rattle.pv_listing.specs.Lines.{IsNextChild, last_name};
 ghost use Rattle.pv_model.specs.Tree.{Node, entries_at, is_directory_at, node_at, IsWellFormed};
-ghost use Rattle.pv_host_copy.specs.Exported.{path_pair, Exports, IsMadeNew, Makes, MakesNew};
+ghost use Rattle.pv_host_copy.specs.Exported.{path_pair, CreatesNode, Exports, Makes, MakesNew};
 ghost use Rattle.pv_host_copy.specs.Encoded.{first_path, encoded_entries, encodes_node, encodes_within};
 
 use crate::target::{HostTarget, TargetFault};
@@ -62,8 +62,7 @@ fn make_new<T: HostTarget>(
 ) -> Result<(), TargetFault>
     requires used { IsSome (node_at tree.now.tree node) }
     requires other { is_directory_at tree.now.tree node ≡ false }
-    ensures made { OnOk result (IsMadeNew path.now (node_at tree.now.tree node) (T.made target.old) (T.made target.new)) }
-    ensures unmade { OnErr result (T.made target.new ≡ T.made target.old) }
+    ensures { CreatesNode path.now (node_at tree.now.tree node) (T.made target.old) result (T.made target.new) }
 {
     let bytes = content(alloc, tree, node)?;
     match tree.kind(node) {
@@ -171,14 +170,16 @@ fn export_within<T: HostTarget>(
     Ok(())
 }
 
-/// Creates the tree of an image in an empty host directory, in the order of the listing. Each directory is created
-/// before its entries. A file or symbolic link is created at its first name, and its other names become hard links to
-/// it.
+/// Creates the tree of an image in a host directory, in the order of the listing. Each directory is created before its
+/// entries. A file or symbolic link is created at its first name, and its other names become hard links to it. An empty
+/// directory then has exactly the entries of the tree.
 ///
 /// # Errors
 ///
-/// - `Make`: the node at that path was not created, or not completely. All nodes before it were created.
-/// - `Memory`: memory cannot be allocated. The nodes before some path were created.
+/// - `Make`: the node at that path was not created, or not completely. All nodes before it were created, and no other
+///   node.
+/// - `Memory`: memory cannot be allocated. The nodes before some path were created, and no other node, but for a part
+///   of the next one.
 pub fn export<T: HostTarget>(alloc: Global, tree: &Tree, target: &mut T) -> Result<(), ExportStop>
     ensures { Exports (encoded_entries tree.now.tree) (T.made target.old) result (T.made target.new) }
 {

@@ -78,8 +78,7 @@ pub fn import_tree<D: HostDirectory>(
     ensures stopped { IfErr result (StopsCopy version (D.rest directory)) }
 {
     let mut importing = empty(alloc, version)?;
-    let mut path = Vec::new(alloc);
-    import_directory(alloc, &mut importing, &mut path, directory)?;
+    import_directory(alloc, &mut importing, directory)?;
     let Importing {
         mut tree,
         version: _,

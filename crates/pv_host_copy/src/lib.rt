@@ -3,9 +3,10 @@
 //! `directory`, `entry` and `file` define the traits and types of a host directory, and `fault` the errors. For
 //! imports, `adding` adds an entry of a manifest to a tree, and `paths` checks its path. `importing` has the tree so
 //! far, with the first paths of its files (`first`) and the skipped entries (`skipped`, with their lines in `lines`).
-//! `reading` reads the bytes of a file, `walking` recurses into directories, `import` imports a directory, and `image`
+//! `reading` reads the bytes of a file, `walking` descends into directories, `import` imports a directory, and `image`
 //! writes the image. For exports, `target` defines the trait of a directory in which a tree is created, `exporting`
-//! creates the tree, and `unpacking` reads it from an image and reports errors.
+//! creates the tree, and `unpacking` reads it from an image and reports errors. `laws` states what an import makes of an
+//! export.
 #![tactic(auto)]
 
 mod adding;
@@ -19,6 +20,7 @@ mod first;
 mod image;
 mod import;
 mod importing;
+mod laws;
 mod lines;
 mod paths;
 mod reading;
@@ -34,6 +36,7 @@ pub use fault::{CopyStop, EntryFault, HostFault, Refused, SkipReason};
 pub use file::HostFile;
 pub use image::{ImportStop, import_image};
 pub use import::{Imported, import_tree};
+pub use laws::export_is_imported;
 pub use lines::{write_refused, write_skipped, write_unmade};
 pub use skipped::Skipped;
 pub use target::{HostTarget, TargetFault};

@@ -1,6 +1,6 @@
 //! The host directory in which a tree is created.
-ghost use Rattle.std.specs.Prelude.{◌≡◌, [], List, Option, OnOk, OnErr};
-ghost use Rattle.pv_host_copy.specs.Encoded.{and_made};
+ghost use Rattle.std.specs.Prelude.{◌≡◌, [], List, Option};
+ghost use Rattle.pv_host_copy.specs.Created.{Creates};
 ghost use Rattle.pv_host_copy.specs.declared.target.TargetFault.TheVariants.{Memory as NoMemory};
 ghost use Rattle.pv_model.specs.Manifest.{Entry, make, further_name};
 ghost use Rattle.pv_model.specs.Tree.{directory_node, file_node, link_node};
@@ -32,14 +32,15 @@ impl<T: Drop> From<AllocFailed<T>> for TargetFault {
     }
 }
 
-/// An empty host directory in which directories, files and symbolic links are created at paths. A path has a slash
-/// before each name.
+/// A host directory in which directories, files and symbolic links are created at paths. A path has a slash before each
+/// name.
 ///
-/// Each is created at a path that does not exist. If something exists at the path, even a symbolic link, it is not
-/// followed, and nothing is created. Contracts see the entries that were created completely, if they are known. Those
-/// of a directory of the real system are unknown.
+/// Each is created at a path at which nothing exists. If something exists there, even a symbolic link, it is not
+/// followed, and the call fails. A call changes nothing else. After an error at most a file is left with a part of its
+/// bytes. Contracts see the entries of the directory, if they are known. Those of a directory of the real system are
+/// unknown.
 pub trait HostTarget {
-    /// The entries that were created completely, in order, if they are known.
+    /// The entries of the directory in the order of their creation, if they are known.
     ghost made: { Self → Option (List Entry) };
 
     /// Creates an empty directory at a path.
@@ -48,8 +49,7 @@ pub trait HostTarget {
     ///
     /// Returns `Make` if it was not created. Returns `Memory` if memory cannot be allocated.
     fn make_directory(&mut self, alloc: Global, path: &[u8]) -> Result<(), TargetFault>
-        ensures ok { OnOk result (made self.new ≡ and_made (made self.old) (make path.now (directory_node []))) }
-        ensures err { OnErr result (made self.new ≡ made self.old) };
+        ensures { Creates (make path.now (directory_node [])) (made self.old) result (made self.new) };
 
     /// Creates a file with its bytes, which may be executable.
     ///
@@ -63,8 +63,7 @@ pub trait HostTarget {
         executable: bool,
         bytes: &[u8],
     ) -> Result<(), TargetFault>
-        ensures ok { OnOk result (made self.new ≡ and_made (made self.old) (make path.now (file_node executable bytes.now))) }
-        ensures err { OnErr result (made self.new ≡ made self.old) };
+        ensures { Creates (make path.now (file_node executable bytes.now)) (made self.old) result (made self.new) };
 
     /// Creates a symbolic link with its target.
     ///
@@ -72,8 +71,7 @@ pub trait HostTarget {
     ///
     /// Returns `Make` if it was not created. Returns `Memory` if memory cannot be allocated.
     fn make_link(&mut self, alloc: Global, path: &[u8], text: &[u8]) -> Result<(), TargetFault>
-        ensures ok { OnOk result (made self.new ≡ and_made (made self.old) (make path.now (link_node text.now))) }
-        ensures err { OnErr result (made self.new ≡ made self.old) };
+        ensures { Creates (make path.now (link_node text.now)) (made self.old) result (made self.new) };
 
     /// Adds a name to the file or symbolic link that was created at `source`. A symbolic link is not followed.
     ///
@@ -81,6 +79,5 @@ pub trait HostTarget {
     ///
     /// Returns `Make` if the name was not added. Returns `Memory` if memory cannot be allocated.
     fn make_name(&mut self, alloc: Global, path: &[u8], source: &[u8]) -> Result<(), TargetFault>
-        ensures ok { OnOk result (made self.new ≡ and_made (made self.old) (further_name path.now source.now)) }
-        ensures err { OnErr result (made self.new ≡ made self.old) };
+        ensures { Creates (further_name path.now source.now) (made self.old) result (made self.new) };
 }

@@ -1,72 +1,112 @@
-//! Recursion into the directories of a host.
-ghost use Rattle.std.specs.Prelude.{◌≡◌, OnOk};
+//! The descent into the directories of a host.
+ghost use Rattle.std.specs.Prelude.{◌≡◌, [], IfOk, OnOk};
 ghost use Rattle.pv_host_copy.specs.Gathered.{gather};
 ghost use Rattle.pv_host_copy.specs.Importing.{GoesIf};
-ghost use Rattle.pv_host_copy.specs.Walking.{GoesByNode};
+ghost use Rattle.pv_host_copy.specs.Paths.{below};
+ghost use Rattle.pv_host_copy.specs.Walking.{Takes, and_opened};
 
 use crate::directory::HostDirectory;
 use crate::entry::{HostEntry, HostNode};
 use crate::fault::{CopyStop, SkipReason};
 use crate::importing::Importing;
-use std::alloc::Global;
+use std::alloc::{AllocError, Global};
 
-// Adds a node at a path, a directory with everything below it.
-#[cycle(walking)]
+/// A directory of a host whose entries are being read.
+#[derive(Drop)]
+pub(crate) struct OpenDirectory<D: Drop> {
+    /// The directory.
+    pub(crate) directory: D,
+    /// Its path relative to the imported directory, with a slash before each name.
+    pub(crate) path: Vec<u8>,
+}
+
+// Returns the path of a name in a directory.
+fn path_below(alloc: Global, directory: &[u8], name: &[u8]) -> Result<Vec<u8>, AllocError>
+    ensures { IfOk result (λ path. path.items ≡ below directory.now name.now) }
+{
+    let mut path = Vec::from_slice(alloc, directory)?;
+    path.push(b'/')?;
+    path.extend_from_slice(name)?;
+    Ok(path)
+}
+
+// Adds a node at a path, a directory without its entries. Returns the directory if it was added.
 fn take<D: HostDirectory>(
     alloc: Global,
     importing: &mut Importing,
-    path: &mut Vec<u8>,
+    path: Vec<u8>,
     node: HostNode<D, D::Reader>,
-) -> Result<(), CopyStop>
-    ensures goes { GoesByNode D.rest D.Reader.bytes importing.old.version path.old.items node importing.old result importing.new }
+) -> Result<Option<OpenDirectory<D>>, CopyStop>
+    ensures takes { Takes D.Reader.bytes path.items node importing.old result importing.new }
     ensures version { importing.new.version ≡ importing.old.version }
-    ensures path { OnOk result (path.new.items ≡ path.old.items) }
 {
     match node {
-        HostNode::Directory(inside) => {
-            if !importing.keep_directory(alloc, path)? {
-                return Ok(());
+        HostNode::Directory(directory) => {
+            if !importing.keep_directory(alloc, &path)? {
+                return Ok(None);
             }
-            import_directory(alloc, importing, path, inside)
+            Ok(Some(OpenDirectory { directory, path }))
         }
         HostNode::File {
             identity,
             executable,
             mut reader,
-        } => importing.keep_file(alloc, path, identity, executable, &mut reader),
-        HostNode::Link { identity, text } => importing.keep_link(alloc, path, identity, &text),
+        } => {
+            importing.keep_file(alloc, &path, identity, executable, &mut reader)?;
+            Ok(None)
+        }
+        HostNode::Link { identity, text } => {
+            importing.keep_link(alloc, &path, identity, &text)?;
+            Ok(None)
+        }
         HostNode::Other => {
-            importing.report(alloc, path, SkipReason::Kind)?;
-            Ok(())
+            importing.report(alloc, &path, SkipReason::Kind)?;
+            Ok(None)
         }
     }
 }
 
-/// Adds all entries of the directory at a path.
+// Appends a directory, and the one that was opened below it.
+fn push_opened<D: HostDirectory>(
+    reading: &mut Vec<OpenDirectory<D>>,
+    directory: OpenDirectory<D>,
+    opened: Option<OpenDirectory<D>>,
+) -> Result<(), AllocError>
+    ensures { OnOk result (reading.new.items ≡ and_opened reading.old.items directory opened) }
+{
+    reading.push(directory)?;
+    if let Some(inside) = opened {
+        reading.push(inside)?;
+    }
+    Ok(())
+}
+
+/// Adds all entries of a directory, and of the directories below it. The directories from this one to the current one
+/// are a list on the heap, so that their number is not limited by the stack.
 ///
 /// # Errors
 ///
 /// Returns `Read` if a part of the directory cannot be read, `Memory` if memory cannot be allocated, and `Entry` if an
 /// entry cannot be added.
-#[cycle(walking)]
 pub(crate) fn import_directory<D: HostDirectory>(
     alloc: Global,
     importing: &mut Importing,
-    path: &mut Vec<u8>,
     directory: D,
 ) -> Result<(), CopyStop>
-    ensures goes { GoesIf (D.rest directory) (gather importing.old.version path.old.items) importing.old result importing.new }
+    ensures goes { GoesIf (D.rest directory) (gather importing.old.version []) importing.old result importing.new }
     ensures version { importing.new.version ≡ importing.old.version }
-    ensures path { OnOk result (path.new.items ≡ path.old.items) }
 {
-    let mut directory = directory;
-    let base = path.len();
-    while let Some(entry) = directory.next(alloc)? {
+    let mut reading = Vec::new(alloc);
+    let path = Vec::new(alloc);
+    reading.push(OpenDirectory { directory, path })?;
+    while let Some(mut current) = reading.pop() {
+        let Some(entry) = current.directory.next(alloc)? else {
+            continue;
+        };
         let HostEntry { name, node } = entry;
-        path.push(b'/')?;
-        path.extend_from_slice(&name)?;
-        take(alloc, importing, path, node)?;
-        path.truncate(base);
+        let path = path_below(alloc, &current.path, &name)?;
+        let opened = take(alloc, importing, path, node)?;
+        push_opened(&mut reading, current, opened)?;
     }
     Ok(())
 }

@@ -1,0 +1,2 @@
+-- Lemmas: Bounds (the number of entries in and below a directory).
+pub mod Bounds

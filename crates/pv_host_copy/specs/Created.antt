@@ -1,0 +1,37 @@
+-- The entries of a host directory, and the creation of one.
+use Rattle.std.specs.Prelude.{◌≡◌, ◌≢◌, ◌⊎◌, not, Bool, bytes_eq, List, [], ◌∷◌, ◌++◌, Option, Result, Ok, Err, IsTrue, IfSome}
+use Rattle.std.specs.List.{list_all}
+use Rattle.pv_model.specs.Bytes.{Bytes}
+use Rattle.pv_model.specs.Grammar.Manifests.{path_of}
+use Rattle.pv_model.specs.Manifest.{Entry, make}
+use Rattle.pv_model.specs.Tree.{file_node}
+use Rattle.pv_host_copy.specs.declared.target.TargetFault.{TargetFault}
+use Rattle.pv_host_copy.specs.Encoded.{and_made}
+
+-- whether a directory with these entries has nothing at a path
+abbrev pub is_absent : Bytes → List Entry → Bool
+is_absent path entries = list_all (λ e. not (bytes_eq (path_of e) path)) entries
+
+-- a directory that had nothing at the path of an entry has this entry too, and nothing else changed
+abbrev pub HasCreated : Entry → (before after : Option (List Entry)) → Type 0
+HasCreated entry before after = IfSome before (λ entries. IsTrue (is_absent (path_of entry) entries)) × (after ≡ and_made before entry)
+
+-- an entry is a file with only a proper prefix of the bytes of another
+abbrev pub IsHalfOf : Entry → Entry → Type 0
+IsHalfOf (make path (file_node executable bytes)) half =
+    (written missing : Bytes) × (bytes ≡ written ++ missing) × (missing ≢ []) × (half ≡ make path (file_node executable written))
+IsHalfOf entry half = ⊥
+
+-- a directory did not change; or it had nothing at the path of a file, and has a half of the file too
+abbrev pub LeavesHalf : Entry → (before after : Option (List Entry)) → Type 0
+LeavesHalf entry before after = (after ≡ before) ⊎ ((half : Entry) × IsHalfOf entry half × HasCreated half before after)
+
+-- an entry was created, or at most a half of it
+abbrev pub Creates : Entry → (before : Option (List Entry)) → Result (Unit {0}) TargetFault → (after : Option (List Entry)) → Type 0
+Creates entry before (Ok done) after = HasCreated entry before after
+Creates entry before (Err fault) after = LeavesHalf entry before after
+
+-- at most a half of the next entry was created
+abbrev pub LeavesNext : (later : List Entry) → (before after : Option (List Entry)) → Type 0
+LeavesNext [] before after = after ≡ before
+LeavesNext (entry ∷ later) before after = LeavesHalf entry before after
