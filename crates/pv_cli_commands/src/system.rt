@@ -46,8 +46,7 @@ pub trait Files {
         ensures { IsSome (bytes self.now name.now) → result ≡ None };
 
     /// Returns the reason why the file with a name cannot be opened for writing, in the words of the operating system,
-    /// or `None` if it can or the reason is not known. It may create an empty file, and leaves an existing file
-    /// unchanged.
+    /// or `None` if it can or the reason is not known. It creates no file, and leaves an existing file unchanged.
     fn write_reason(&self, alloc: Global, name: &str) -> Option<String>;
 }
 

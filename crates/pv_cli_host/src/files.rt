@@ -7,7 +7,7 @@ use pv_streams::{Failed, Sink, Source};
 use std::alloc::{AllocError, Global};
 use std::fs;
 use std::fs::File;
-use std::io::{Read, Write};
+use std::io::{ErrorKind, Read, Write};
 
 /// The files of the operating system. Their contracts do not know their bytes.
 #[derive(Clone, Copy)]
@@ -69,11 +69,24 @@ impl<'a> Files for HostFiles<'a> {
     }
 
     fn write_reason(&self, alloc: Global, name: &str) -> Option<String> {
-        match File::options().write(true).create(true).open(self.rt, name) {
+        match File::options().write(true).open(self.rt, name) {
             Ok(_) => None,
+            Err(error) if error.kind() == ErrorKind::NotFound && has_directory(self.rt, name) => {
+                None
+            }
             Err(error) => format!(in alloc; "{error}").ok(),
         }
     }
+}
+
+// Returns whether the directory that would contain the file with a name can be inspected.
+fn has_directory(rt: &HostRuntime, name: &str) -> bool {
+    let directory = match name.rsplit_once('/') {
+        None => ".",
+        Some(("", _)) => "/",
+        Some((directory, _)) => directory,
+    };
+    fs::metadata(rt, directory).is_ok()
 }
 
 /// A sink over a file that is created or truncated at the first write. Its contract does not know the bytes that it
