@@ -1,2 +1,2 @@
--- Outcomes: a command that fails has another status than one that succeeds.
+-- Outcomes: a command that fails has another status than one that succeeds, and what it leaves unflushed.
 pub mod Outcomes

@@ -1,5 +1,5 @@
 -- A command that fails has another status than one that succeeds.
-use Rattle.std.proofs.Common.{◌≢◌, Ok, Err}
+use Rattle.std.proofs.Common.{◌≡◌, ◌≢◌, ℕ, Ok, Err, refl}
 use Rattle.std.specs.Prelude.{IfErr}
 use Rattle.pv_host_copy.specs.declared.image.ImportStop.{ImportStop}
 use Rattle.pv_host_copy.specs.declared.image.ImportStop.TheVariants as unimported
@@ -8,14 +8,15 @@ use Rattle.pv_host_copy.specs.declared.unpacking.ExportFault.TheVariants as unex
 use Rattle.pv_model.specs.declared.fault.ImageFault.TheVariants.{Memory as ImageMemory}
 use Rattle.pv_model.specs.declared.fault.ManifestFault.TheVariants.{Memory as ManifestMemory}
 use Rattle.pv_model.specs.declared.run_fault.RunFault.{RunFault}
-use Rattle.pv_model.specs.declared.run_fault.RunFault.TheVariants.{Image, Manifest}
+use Rattle.pv_model.specs.declared.run_fault.RunFault.TheVariants.{Read, Image, Manifest, Schedule, Init, Memory, WriteTrace, WriteImage}
 use Rattle.pv_model.specs.declared.store_fault.ListFault.{ListFault}
 use Rattle.pv_model.specs.declared.store_fault.ListFault.TheVariants.{Image as ListedImage}
+use Rattle.pv_model.specs.declared.store_fault.ListFault.TheVariants as listed
 use Rattle.pv_model.specs.declared.store_fault.MigrateFault.TheVariants.{Image as MigratedImage}
 use Rattle.pv_questions.specs.declared.stop.AskStop.{AskStop}
-use Rattle.pv_questions.specs.declared.stop.AskStop.TheVariants.{Machine as AskedMachine}
+use Rattle.pv_questions.specs.declared.stop.AskStop.TheVariants.{Machine as AskedMachine, NoProcess, Audited, File, Write as AnswerWrite}
 use Rattle.pv_run.specs.declared.auditing.AuditStop.{AuditStop}
-use Rattle.pv_run.specs.declared.auditing.AuditStop.TheVariants.{Machine}
+use Rattle.pv_run.specs.declared.auditing.AuditStop.TheVariants.{Machine, Path, Write as AuditWrite}
 use Rattle.pv_run.specs.declared.migrating.MigrateStop.{MigrateStop}
 use Rattle.pv_run.specs.declared.migrating.MigrateStop.TheVariants.{Refused}
 use Rattle.pv_source.specs.declared.source.SourceStop.{SourceStop}
@@ -23,7 +24,7 @@ use Rattle.pv_source.specs.declared.source.SourceStop.TheVariants as unwritten
 use Rattle.pv_cli_commands.specs.declared.fault.Fault.{Fault}
 use Rattle.pv_cli_commands.specs.declared.fault.Fault.TheVariants.{Run, Listing, Migrating, Auditing, Asking, Source, Importing, Exporting}
 use Rattle.pv_cli_commands.specs.Faults.{Answer}
-use Rattle.pv_cli_commands.specs.Status.{ask_status_of, audit_status_of, export_status_of, import_status_of, list_status_of, migrate_status_of, run_status_of, source_status_of, status_of}
+use Rattle.pv_cli_commands.specs.Status.{FlushedUnlessCut, ask_status_of, audit_status_of, export_status_of, import_status_of, list_status_of, migrate_status_of, run_status_of, source_status_of, status_of}
 
 run_status-not_zero : (fault : RunFault) → run_status_of fault ≢ 0
 run_status-not_zero (Image ImageMemory) h = cc
@@ -87,3 +88,64 @@ status-not_zero (Exporting fault) = export_status-not_zero fault
 pub failed_with_status : (answer : Answer) → IfErr answer (λ fault. status_of fault ≢ 0)
 failed_with_status (Ok done) = tt
 failed_with_status (Err fault) = status-not_zero fault
+
+-- if nothing is unflushed, the answer does not matter
+pub flushed_unwritten : (answer : Answer) (waiting : ℕ) → waiting ≡ 0 → FlushedUnlessCut answer waiting
+flushed_unwritten (Ok done) waiting h = h
+flushed_unwritten (Err (Run Read)) waiting h = h
+flushed_unwritten (Err (Run (Image fault))) waiting h = h
+flushed_unwritten (Err (Run (Manifest fault))) waiting h = h
+flushed_unwritten (Err (Run (Schedule n))) waiting h = h
+flushed_unwritten (Err (Run (Init n))) waiting h = h
+flushed_unwritten (Err (Run Memory)) waiting h = h
+flushed_unwritten (Err (Run WriteTrace)) waiting h = tt
+flushed_unwritten (Err (Run WriteImage)) waiting h = h
+flushed_unwritten (Err (Listing listed.Read)) waiting h = h
+flushed_unwritten (Err (Listing (listed.Image fault))) waiting h = h
+flushed_unwritten (Err (Listing listed.Memory)) waiting h = h
+flushed_unwritten (Err (Listing listed.Write)) waiting h = tt
+flushed_unwritten (Err (Migrating stop)) waiting h = h
+flushed_unwritten (Err (Auditing (Machine fault))) waiting h = h
+flushed_unwritten (Err (Auditing (Path fault))) waiting h = h
+flushed_unwritten (Err (Auditing AuditWrite)) waiting h = tt
+flushed_unwritten (Err (Asking (AskedMachine fault))) waiting h = h
+flushed_unwritten (Err (Asking NoProcess)) waiting h = h
+flushed_unwritten (Err (Asking (Audited fault))) waiting h = h
+flushed_unwritten (Err (Asking (File fault))) waiting h = h
+flushed_unwritten (Err (Asking AnswerWrite)) waiting h = tt
+flushed_unwritten (Err (Source unwritten.Read)) waiting h = h
+flushed_unwritten (Err (Source unwritten.Memory)) waiting h = h
+flushed_unwritten (Err (Source unwritten.Refused)) waiting h = h
+flushed_unwritten (Err (Source unwritten.Write)) waiting h = tt
+flushed_unwritten (Err (Importing stop)) waiting h = h
+flushed_unwritten (Err (Exporting fault)) waiting h = h
+
+-- if a status is not that of a failed write, everything is flushed
+pub flushed_by_status : (fault : Fault) (waiting : ℕ) → FlushedUnlessCut (Err fault) waiting → status_of fault ≢ 4 → waiting ≡ 0
+flushed_by_status (Run Read) waiting h other = h
+flushed_by_status (Run (Image fault)) waiting h other = h
+flushed_by_status (Run (Manifest fault)) waiting h other = h
+flushed_by_status (Run (Schedule n)) waiting h other = h
+flushed_by_status (Run (Init n)) waiting h other = h
+flushed_by_status (Run Memory) waiting h other = h
+flushed_by_status (Run WriteTrace) waiting h other = absurd (other refl)
+flushed_by_status (Run WriteImage) waiting h other = h
+flushed_by_status (Listing listed.Read) waiting h other = h
+flushed_by_status (Listing (listed.Image fault)) waiting h other = h
+flushed_by_status (Listing listed.Memory) waiting h other = h
+flushed_by_status (Listing listed.Write) waiting h other = absurd (other refl)
+flushed_by_status (Migrating stop) waiting h other = h
+flushed_by_status (Auditing (Machine fault)) waiting h other = h
+flushed_by_status (Auditing (Path fault)) waiting h other = h
+flushed_by_status (Auditing AuditWrite) waiting h other = absurd (other refl)
+flushed_by_status (Asking (AskedMachine fault)) waiting h other = h
+flushed_by_status (Asking NoProcess) waiting h other = h
+flushed_by_status (Asking (Audited fault)) waiting h other = h
+flushed_by_status (Asking (File fault)) waiting h other = h
+flushed_by_status (Asking AnswerWrite) waiting h other = absurd (other refl)
+flushed_by_status (Source unwritten.Read) waiting h other = h
+flushed_by_status (Source unwritten.Memory) waiting h other = h
+flushed_by_status (Source unwritten.Refused) waiting h other = h
+flushed_by_status (Source unwritten.Write) waiting h other = absurd (other refl)
+flushed_by_status (Importing stop) waiting h other = h
+flushed_by_status (Exporting fault) waiting h other = h

@@ -56,7 +56,7 @@ use std::alloc::Global;
 /// input is invalid, nothing was written. The variant is `Listing` for `ListImage`, `Migrating` for `MigrateImage`,
 /// `Importing` for `ImportDirectory`, `Exporting` for `ExportImage`, `Auditing` for `AuditImage`, `Source` for
 /// `WriteSource`, `Asking` for `Ask` and `AskTree`, and `Run` for the others.
-#[tactic(auto, using(crate::proofs::Outcomes::failed_with_status))]
+#[tactic(auto, using(crate::proofs::Outcomes::failed_with_status, crate::proofs::Outcomes::flushed_unwritten))]
 pub fn perform<
     F: Files + Directories + Drop,
     I: Source + Drop,
