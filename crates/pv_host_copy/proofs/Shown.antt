@@ -59,7 +59,7 @@ split-append (b ∷ bs) name = by (b == 47) (split-append bs name)
   where
     by : (c : Bool) → split_slashes (bs ++ 47 ∷ name) ≡ split_slashes bs ++ split_slashes name
         → (if c then [] ∷ split_slashes (bs ++ 47 ∷ name) else onto_first b (split_slashes (bs ++ 47 ∷ name)))
-          ≡ (if c then [] ∷ split_slashes bs else onto_first b (split_slashes bs)) ++ split_slashes name
+        ≡ (if c then [] ∷ split_slashes bs else onto_first b (split_slashes bs)) ++ split_slashes name
     by true rest = ap (λ ps. [] ∷ ps) rest
     by false rest = ap (onto_first b) rest ∙ onto-append b (split_slashes bs) (split_slashes name) (split-some bs)
 
@@ -182,7 +182,7 @@ module _ (v : Version) where
             → ((s' : Encoded) (g' : Gathered) → IsSame s' g' → IsSame (fold with_entry s' es) (gather v path (shown_entries identity t (shown_within identity t depth) es) g'))
             → (o : Option Node) → node_at t n ≡ o
             → IsSame (fold with_entry (encodes_within t depth (below path name) n (encodes_node (below path name) n o s)) es)
-              (gather v path (and_shown identity t name n o (shown_within identity t depth n) (shown_entries identity t (shown_within identity t depth) es)) g)
+            (gather v path (and_shown identity t name n o (shown_within identity t depth n) (shown_entries identity t (shown_within identity t depth) es)) g)
         name-same name n es s g named h onward None is =
             onward (encodes_within t depth (below path name) n s) g (leaf-same (below path name) n s g (ap is_directory is) h)
         name-same name n es s g named h onward (Some (directory_node xs)) is =
