@@ -48,7 +48,7 @@ pub fn init(alloc: Global, tree: &Tree) -> Result<Program, BootFault>
 {
     tree.invariant();
     let Some(node) = tree.find(ROOT, b"init") else {
-        return Ok(Program::empty(alloc));
+        return Ok(Program::empty(alloc)?);
     };
     if tree.kind(node) != Kind::Executable {
         return Err(BootFault::Init(0));
