@@ -224,7 +224,7 @@ fn expect_step<R: Abort + AllocGlobal>(rt: &R, processes: &mut Processes, step: 
 
 // Takes steps in order. At first there is only process 1, with an empty program.
 fn expect_steps<R: Abort + AllocGlobal>(rt: &R, steps: &[Step]) {
-    let program = Program::empty(rt.alloc());
+    let program = Program::empty(rt.alloc()).expect(rt, "memory");
     let mut processes = Processes::new(rt.alloc(), program).expect(rt, "memory");
     for &step in steps {
         expect_step(rt, &mut processes, step);
