@@ -3,6 +3,8 @@ import collections
 
 from .logs import LogError
 
+MOST_LINKS = 32
+
 
 class Node:
     """A directory, file, executable file or link. `kind` is None while nothing shows it.
@@ -53,6 +55,8 @@ class Tree:
         """Adds the entries of a manifest."""
         for kind, path, data in entries:
             place = self.walk(self.root, path, False)
+            if place.directory is None:
+                raise LogError(f"an entry cannot have the path {path!r}")
             if kind == "name":
                 place.directory.put(place.name, self.walk(self.root, data, False).node)
                 continue
@@ -73,7 +77,7 @@ class Tree:
     def walk(self, start, path, follows=True):
         """Returns where a path leads. A place without a name has only a node."""
         follows, directory = follows or path.endswith(b"/"), self.root if path.startswith(b"/") else start
-        pending = [it for it in path.split(b"/") if it not in (b"", b".")]
+        pending, links = [it for it in path.split(b"/") if it not in (b"", b".")], 0
         while pending:
             name = pending.pop(0)
             if name == b"..":
@@ -81,6 +85,9 @@ class Tree:
                 continue
             node = directory.entries.get(name) or self.missing(directory, name, not pending)
             if node and node.kind == "link" and (pending or follows):
+                links += 1
+                if links > MOST_LINKS:
+                    raise LogError(f"{path!r} leads through more than {MOST_LINKS} links")
                 pending = [it for it in node.text.split(b"/") if it not in (b"", b".")] + pending
                 directory = self.root if node.text.startswith(b"/") else directory
             elif not pending:
