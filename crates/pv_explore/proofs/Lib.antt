@@ -3,8 +3,7 @@
 -- numbers of live processes, and the tree without live processes), Along (states along a schedule), Booting (the
 -- rebuilt machine), Finding (the search, step by step), Graphed (the state graph), Explained (the lines of its steps),
 -- Rows (states as rows of small numbers), VisitedStates (the data stored with visited states), Followed (steps from the
--- cache, and the states at the ends of witnesses), LastSteps (witnesses stored as their last steps), Sizes (a step
--- changes no size of the image).
+-- cache, and the states at the ends of witnesses), LastSteps (witnesses stored as their last steps).
 pub mod Planned
 pub mod Turns
 pub mod KeyLists
@@ -19,4 +18,3 @@ pub mod Explained
 pub mod Rows
 pub mod VisitedStates
 pub mod LastSteps
-pub mod Sizes
