@@ -77,9 +77,11 @@ impl HostDirectory for Empty {
 
     ghost rest = { λ _. None };
 
+    ghost last = { λ _. None };
+
     ghost left = { λ _. 0 };
 
-    ghost height = { λ _. 0 };
+    ghost ascends = { λ _. tt };
 
     fn next(&mut self, _alloc: Global) -> Result<Option<HostEntry<Empty, Broken>>, HostFault> {
         Ok(None)

@@ -1,9 +1,10 @@
 -- The entries that remain of a synthetic directory, and those created in a directory in memory.
-use Rattle.std.specs.Prelude.{ℕ, true, false, [], codes}
+use Rattle.std.specs.Prelude.{ℕ, true, false, [], codes, refl, Option, None, Some, IsTrue}
+use Rattle.pv_model.specs.Bytes.{Bytes}
 use Rattle.pv_model.specs.Manifest.{Entry, make, further_name}
 use Rattle.pv_model.specs.Tree.{directory_node, file_node, link_node}
 use Rattle.pv_host_copy.specs.declared.entry.Identity.{Identity}
-use Rattle.pv_host_copy.specs.Hosts.{HostEntries, no_more, a_directory, a_file, a_link}
+use Rattle.pv_host_copy.specs.Hosts.{HostEntries, no_more, a_directory, a_file, a_link, is_ordered}
 use Rattle.pv_tests_image.specs.declared.directory.MadeUp.{MadeUp}
 use Rattle.pv_tests_image.specs.declared.directory.MadeUp.TheVariants.{Upper, AfterDirectory, AfterLink, AfterAll, Lower, AfterFirst, AfterBoth}
 use Rattle.pv_tests_image.specs.declared.target.Made.{Made}
@@ -24,22 +25,35 @@ rest_of AfterBoth = no_more
 rest_of AfterFirst = a_file (codes "two") (node 5) false (codes "abc") no_more
 rest_of Lower = a_file (codes "one") (node 5) false (codes "abc") (a_file (codes "two") (node 5) false (codes "abc") no_more)
 
--- the number of these names
+-- the last name that was returned
+abbrev pub last_of : MadeUp → Option Bytes
+last_of Upper = None
+last_of AfterDirectory = Some (codes "a")
+last_of AfterLink = Some (codes "l")
+last_of AfterAll = Some (codes "x")
+last_of Lower = None
+last_of AfterFirst = Some (codes "one")
+last_of AfterBoth = Some (codes "two")
+
+-- the names that remain ascend
+pub ascends_from : (d : MadeUp) → IsTrue (is_ordered (last_of d) (rest_of d))
+ascends_from Upper = refl
+ascends_from AfterDirectory = refl
+ascends_from AfterLink = refl
+ascends_from AfterAll = refl
+ascends_from Lower = refl
+ascends_from AfterFirst = refl
+ascends_from AfterBoth = refl
+
+-- the number of these names, with those in the directory among them
 abbrev pub left_of : MadeUp → ℕ
-left_of Upper = 3
+left_of Upper = 5
 left_of AfterDirectory = 2
 left_of AfterLink = 1
 left_of AfterAll = 0
 left_of Lower = 2
 left_of AfterFirst = 1
 left_of AfterBoth = 0
-
--- the number of levels of directories below it
-abbrev pub height_of : MadeUp → ℕ
-height_of Lower = 0
-height_of AfterFirst = 0
-height_of AfterBoth = 0
-height_of whole = 1
 
 -- the entry that was created
 abbrev pub entry_made : Made → Entry

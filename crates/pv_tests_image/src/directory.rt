@@ -71,15 +71,17 @@ fn file(inode: u64, executable: bool, bytes: &'static [u8]) -> HostNode<MadeUp, 
 }
 
 impl HostDirectory for MadeUp {
-    ghost use Rattle.pv_tests_image.specs.Memory.{left_of, height_of};
+    ghost use Rattle.pv_tests_image.specs.Memory.{ascends_from, last_of, left_of};
 
     type Reader = MemoryFile;
 
     ghost rest = { λ d. Some (rest_of d) };
 
+    ghost last = { λ d. last_of d };
+
     ghost left = { λ d. left_of d };
 
-    ghost height = { λ d. height_of d };
+    ghost ascends = { λ d. ascends_from d };
 
     fn next(&mut self, alloc: Global) -> Result<Option<HostEntry<MadeUp, MemoryFile>>, HostFault> {
         match *self {

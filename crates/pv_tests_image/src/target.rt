@@ -1,5 +1,7 @@
 //! A host directory in memory, in which a tree is created.
 ghost use Rattle.std.specs.Prelude.{◌≡◌, [], map, Some};
+ghost use Rattle.pv_host_copy.specs.Created.{Creates, is_absent};
+ghost use Rattle.pv_model.specs.Grammar.Manifests.{path_of};
 ghost use Rattle.pv_tests_image.specs.Memory.{entry_made};
 
 use pv_host_copy::{HostTarget, TargetFault};
@@ -28,6 +30,20 @@ pub enum Made {
     },
 }
 
+impl Made {
+    // Returns the path of the node or name.
+    fn path(&self) -> &[u8]
+        ensures { result.now ≡ path_of (entry_made self.now) }
+    {
+        match self {
+            Made::Directory(path)
+            | Made::File { path, .. }
+            | Made::Link { path, .. }
+            | Made::Name { path, .. } => path.as_slice(),
+        }
+    }
+}
+
 /// A directory in memory: the nodes that were created in it, in order.
 #[derive(Drop)]
 pub struct MemoryTarget {
@@ -44,6 +60,29 @@ impl MemoryTarget {
             made: Vec::new(alloc),
         }
     }
+
+    // Returns whether nothing was created at a path.
+    fn is_absent(&self, path: &[u8]) -> bool
+        ensures { result ≡ is_absent path.now (map entry_made self.now.made.items) }
+    {
+        for one in &self.made {
+            if one.path() == path {
+                return false;
+            }
+        }
+        true
+    }
+
+    // Adds a node or name, if nothing was created at its path.
+    fn add(&mut self, node: Made) -> Result<(), TargetFault>
+        ensures { Creates (entry_made node) (Some (map entry_made self.old.made.items)) result (Some (map entry_made self.new.made.items)) }
+    {
+        if !self.is_absent(node.path()) {
+            return Err(TargetFault::Make);
+        }
+        self.made.push(node)?;
+        Ok(())
+    }
 }
 
 impl HostTarget for MemoryTarget {
@@ -51,8 +90,7 @@ impl HostTarget for MemoryTarget {
 
     fn make_directory(&mut self, alloc: Global, path: &[u8]) -> Result<(), TargetFault> {
         let path = Vec::from_slice(alloc, path)?;
-        self.made.push(Made::Directory(path))?;
-        Ok(())
+        self.add(Made::Directory(path))
     }
 
     fn make_file(
@@ -64,25 +102,22 @@ impl HostTarget for MemoryTarget {
     ) -> Result<(), TargetFault> {
         let path = Vec::from_slice(alloc, path)?;
         let bytes = Vec::from_slice(alloc, bytes)?;
-        self.made.push(Made::File {
+        self.add(Made::File {
             path,
             executable,
             bytes,
-        })?;
-        Ok(())
+        })
     }
 
     fn make_link(&mut self, alloc: Global, path: &[u8], text: &[u8]) -> Result<(), TargetFault> {
         let path = Vec::from_slice(alloc, path)?;
         let text = Vec::from_slice(alloc, text)?;
-        self.made.push(Made::Link { path, text })?;
-        Ok(())
+        self.add(Made::Link { path, text })
     }
 
     fn make_name(&mut self, alloc: Global, path: &[u8], source: &[u8]) -> Result<(), TargetFault> {
         let path = Vec::from_slice(alloc, path)?;
         let source = Vec::from_slice(alloc, source)?;
-        self.made.push(Made::Name { path, source })?;
-        Ok(())
+        self.add(Made::Name { path, source })
     }
 }
