@@ -1,9 +1,10 @@
 -- Lemmas about the search: Planned (the search visits the states and writes the lines of the definitions), Turns
--- (witnesses as turns), KeyLists (byte strings in tables), LastNumbers (the last process number given), LiveOnes (the
--- numbers of live processes, and the tree without live processes), Along (states along a schedule), Booting (the
--- rebuilt machine), Finding (the search, step by step), Graphed (the state graph), Explained (the lines of its steps),
--- Rows (states as rows of small numbers), VisitedStates (the data stored with visited states), Followed (steps from the
--- cache, and the states at the ends of witnesses), LastSteps (witnesses stored as their last steps).
+-- (witnesses as turns), KeyLists (byte strings in tables), LastNumbers (the last process number given), LiveOnes
+-- (the numbers of live processes, and the tree without live processes), Along (states along a schedule, and
+-- checkpoints), Booting (the rebuilt machine), Finding (the search, step by step), Graphed (the state graph),
+-- Explained (the lines of its steps), Rows (states as rows of small numbers), VisitedStates (the data stored with
+-- visited states), Followed (steps from the cache, and the states at the ends of witnesses), LastSteps (witnesses
+-- stored as their last steps).
 pub mod Planned
 pub mod Turns
 pub mod KeyLists

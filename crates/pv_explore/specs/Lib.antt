@@ -1,3 +1,4 @@
+pub mod Checkpoints
 pub mod FirstMachines
 pub mod Plan
 pub mod Rows

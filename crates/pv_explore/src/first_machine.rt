@@ -5,6 +5,7 @@ ghost use Rattle.pv_laws_states.specs.States.{IsFirstTree};
 ghost use Rattle.pv_model.specs.Mount.{mounted};
 ghost use Rattle.pv_model.specs.Start.{booted};
 
+use crate::position::Position;
 use pv_image::to_bytes;
 use pv_image_mount::mount;
 use pv_laws_trees::image_bytes::images_mount;
@@ -19,18 +20,20 @@ use std::marker::Model;
 pub struct FirstMachine {
     // An image of its tree.
     image: Vec<u8>,
+    machine: Position,
 }
 
 impl Model for FirstMachine {
+    ghost use Rattle.std.specs.Prelude.{◌≡◌};
     ghost use Rattle.pv_laws_trees.specs.Mounts.{Boots};
     ghost use Rattle.pv_model.specs.State.{State};
     ghost use Rattle.pv_explore.specs.FirstMachines.{first_of};
 
     ghost Value = { State };
 
-    ghost view = { λ b. first_of b.image.items };
+    ghost view = { λ b. b.machine };
 
-    ghost invariant = { λ b. Boots b.image.items };
+    ghost invariant = { λ b. Boots b.image.items × (b.machine ≡ first_of b.image.items) };
 }
 
 // Returns a copy of bytes.
@@ -84,22 +87,28 @@ impl FirstMachine {
         let Ok(image) = to_bytes(alloc, store.tree()) else {
             return Err(BootFault::Memory);
         };
-        let _ = Session::new(alloc, store)?;
-        Ok(FirstMachine { image })
+        let machine = Position::first(Session::new(alloc, store)?);
+        Ok(FirstMachine { image, machine })
     }
 
-    /// Rebuilds the machine.
+    /// Returns the machine.
+    pub(crate) fn machine(&self) -> &Position
+        ensures { result.now ≡ self.now }
+    {
+        &self.machine
+    }
+
+    /// Rebuilds the machine from the image.
     ///
     /// # Errors
     ///
     /// `NoMemory`, if there is no memory.
-    pub(crate) fn session(&self, alloc: Global) -> Result<Session, StepFault>
-        ensures state { IfOk result (λ session. session ≡ self.now) }
-        ensures first { IfOk result (λ session. session.last_process ≡ 1) }
+    pub(crate) fn rebuild(&self, alloc: Global) -> Result<Position, StepFault>
+        ensures { IfOk result (λ position. position ≡ self.now) }
     {
         let image = copy_of(alloc, self.image.as_slice())?;
         let store = store_of(alloc, image)?;
         store.invariant();
-        boot(alloc, store)
+        Ok(Position::first(boot(alloc, store)?))
     }
 }

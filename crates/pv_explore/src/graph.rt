@@ -13,9 +13,9 @@ ghost use Rattle.pv_model.specs.Stream.{Rose};
 ghost use Rattle.pv_session.specs.Running.{FailsBy};
 ghost use Rattle.pv_streams.specs.Sinks.{and_all, WritesPrefix};
 
+use crate::checkpoints::Checkpoints;
 use crate::explore::write_states;
 use crate::first_machine::FirstMachine;
-use crate::position::Position;
 use crate::progress::Progress;
 use crate::search::Search;
 use crate::states::States;
@@ -96,22 +96,26 @@ fn write_tree<W: Sink>(alloc: Global, parts: &Parts, tree: bool, out: &mut W) ->
 // Writes the steps from the state at the end of a witness.
 fn write_steps<W: Sink>(
     alloc: Global,
-    first_machine: &FirstMachine,
+    checkpoints: &mut Checkpoints<'_>,
     states: &States,
     witness: &[u32],
     line_buffer: &mut LineBuffer,
     out: &mut W,
 ) -> Result<(), Stop>
-    ensures whole { OnOk result (W.written out.new ≡ and_all (W.written out.old) (answer_bytes (steps_at states.now first_machine.now witness.now (live_at program_of first_machine.now witness.now)))) }
-    ensures prefix { OnErr result (WritesPrefix (answer_bytes (steps_at states.now first_machine.now witness.now (live_at program_of first_machine.now witness.now))) (W.written out.old) (W.written out.new)) }
+    ensures unchanged { checkpoints.new ≡ checkpoints.old }
+    ensures whole { OnOk result (W.written out.new ≡ and_all (W.written out.old) (answer_bytes (steps_at states.now checkpoints.old witness.now (live_at program_of checkpoints.old witness.now)))) }
+    ensures prefix { OnErr result (WritesPrefix (answer_bytes (steps_at states.now checkpoints.old witness.now (live_at program_of checkpoints.old witness.now))) (W.written out.old) (W.written out.new)) }
     ensures failed { IfErr result (λ stop. FailsBy stop (W.failures out.old) (W.failures out.new)) }
     ensures quiet { OnOk result (W.failures out.new ≡ W.failures out.old) }
 {
-    let pids = Position::at(alloc, first_machine, witness)?.live(alloc)?;
+    let machine = checkpoints.position(alloc, witness)?;
+    let pids = machine.live(alloc)?;
+    checkpoints.release(machine);
     let live = pids.as_slice();
     for pid in live {
-        let from = Position::at(alloc, first_machine, witness)?;
-        from.write_step(alloc, states, *pid, line_buffer, out)?;
+        let mut machine = checkpoints.position(alloc, witness)?;
+        machine.write_step(alloc, states, *pid, line_buffer, out)?;
+        checkpoints.release(machine);
     }
     Ok(())
 }
@@ -135,7 +139,7 @@ fn write_number<W: Sink>(out: &mut W, number: usize) -> Result<(), Failed>
 // Writes the state at the end of a witness, with its number and its steps.
 fn write_vertex<W: Sink>(
     alloc: Global,
-    first_machine: &FirstMachine,
+    checkpoints: &mut Checkpoints<'_>,
     states: &States,
     tree: bool,
     number: usize,
@@ -143,16 +147,18 @@ fn write_vertex<W: Sink>(
     line_buffer: &mut LineBuffer,
     out: &mut W,
 ) -> Result<(), Stop>
-    ensures whole { OnOk result (W.written out.new ≡ and_all (W.written out.old) (answer_bytes (vertex_at states.now first_machine.now tree number witness.now))) }
-    ensures prefix { OnErr result (WritesPrefix (answer_bytes (vertex_at states.now first_machine.now tree number witness.now)) (W.written out.old) (W.written out.new)) }
+    ensures unchanged { checkpoints.new ≡ checkpoints.old }
+    ensures whole { OnOk result (W.written out.new ≡ and_all (W.written out.old) (answer_bytes (vertex_at states.now checkpoints.old tree number witness.now))) }
+    ensures prefix { OnErr result (WritesPrefix (answer_bytes (vertex_at states.now checkpoints.old tree number witness.now)) (W.written out.old) (W.written out.new)) }
     ensures failed { IfErr result (λ stop. FailsBy stop (W.failures out.old) (W.failures out.new)) }
     ensures quiet { OnOk result (W.failures out.new ≡ W.failures out.old) }
 {
-    let position = Position::at(alloc, first_machine, witness)?;
+    let machine = checkpoints.position(alloc, witness)?;
     write_number(out, number)?;
-    write_state(out, position.parts())?;
-    write_tree(alloc, position.parts(), tree, out)?;
-    write_steps(alloc, first_machine, states, witness, line_buffer, out)
+    write_state(out, machine.parts())?;
+    write_tree(alloc, machine.parts(), tree, out)?;
+    checkpoints.release(machine);
+    write_steps(alloc, checkpoints, states, witness, line_buffer, out)
 }
 
 // Writes the states of a search.
@@ -170,13 +176,14 @@ fn write_vertices<W: Sink>(
     ensures quiet { OnOk result (W.failures out.new ≡ W.failures out.old) }
 {
     let mut line_buffer = new_line_buffer(alloc)?;
+    let mut checkpoints = Checkpoints::new(alloc, first_machine);
     for number in 0..search.states.len() {
         let Some(witness) = search.witness(alloc, number)? else {
             return Ok(());
         };
         write_vertex(
             alloc,
-            first_machine,
+            &mut checkpoints,
             &search.states,
             tree,
             number,

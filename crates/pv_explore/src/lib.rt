@@ -1,15 +1,17 @@
 //! Exhaustive search of all schedules, and the state graph.
 //!
 //! `first_machine` has a machine before its first step, which can be rebuilt; `position` has a machine at the end of a
-//! schedule. `search` visits the states: `states` stores each as a row of indices into tables of its parts (`keys`),
-//! and `witnesses` stores the schedule that leads to each. A step whose transition is in the cache is not made. For any
-//! other step a machine is rebuilt, and `ahead` lets it make a few more steps to fill the cache. `explore` writes each
-//! step text with a witness, and `graph` writes each state with its transitions. `witness` writes a schedule, `unheard`
-//! is a sink that discards, and `progress` is the trait for progress reports. `specs/Plan` specifies the search, and
-//! `proofs/Planned` proves that it visits the states and writes the lines of the definitions.
+//! schedule, and `checkpoints` keeps machines along the schedule that was followed last. `search` visits the states:
+//! `states` stores each as a row of indices into tables of its parts (`keys`), and `witnesses` stores the schedule that
+//! leads to each. A step whose transition is in the cache is not made. Any other step is made on a copy of a checkpoint,
+//! and `ahead` lets the copy make a few more steps to fill the cache. `explore` writes each step text with a witness,
+//! and `graph` writes each state with its transitions. `witness` writes a schedule, `unheard` is a sink that discards,
+//! and `progress` is the trait for progress reports. `specs/Plan` specifies the search, and `proofs/Planned` proves that
+//! it visits the states and writes the lines of the definitions.
 #![tactic(auto)]
 
 mod ahead;
+mod checkpoints;
 mod explore;
 mod first_machine;
 mod graph;

@@ -16,8 +16,8 @@ ghost use Rattle.pv_session.specs.Running.{FailsBy, stepped};
 ghost use Rattle.pv_state_encoding.specs.Groups.{groups_of, state_groups};
 ghost use Rattle.pv_state_encoding.specs.Encoded.{encoded, encoded_all};
 ghost use Rattle.pv_streams.specs.Sinks.{and_all, WritesPrefix};
+ghost use Rattle.pv_tree.specs.Sizes.{HaveSameSizes};
 
-use crate::first_machine::FirstMachine;
 use crate::states::States;
 use crate::witness::Count;
 use pv_answers::{Fragment, Line, Plain};
@@ -119,13 +119,13 @@ fn live_numbers(alloc: Global, processes: &Processes) -> Result<Vec<u32>, StepFa
     Ok(pids)
 }
 
-// Returns the groups of a state's encoding. `known` is the last process number given before the last step.
-fn groups_after(alloc: Global, parts: &Parts, known: u32) -> Result<Vec<Vec<Vec<u8>>>, StepFault>
-    requires gave { GaveNumber parts.now known }
+// Returns the groups of a state's encoding. `last` is the last process number given.
+fn encoded_groups(alloc: Global, parts: &Parts, last: u32) -> Result<Vec<Vec<Vec<u8>>>, StepFault>
+    requires last { last ≡ parts.now.last_process }
     requires whole { IsValid parts.now }
     ensures { IfOk result (λ groups. groups_of groups.items ≡ state_groups parts.now) }
 {
-    Ok(state_groups(alloc, parts, last_number(parts, known))?)
+    Ok(state_groups(alloc, parts, last)?)
 }
 
 // The number of the state after a step, or `left out`.
@@ -162,18 +162,34 @@ fn write_leads<W: Sink>(out: &mut W, pid: u32, number: Option<usize>) -> Result<
 }
 
 impl Position {
-    /// Returns the machine before its first step.
+    /// Returns a machine before its first step.
+    pub(crate) fn first(session: Session) -> Position
+        requires { session.last_process ≡ 1 }
+        ensures { result ≡ session }
+    {
+        Position { session, last: 1 }
+    }
+
+    /// Returns whether the images of two machines have the same sizes, so that one machine can be set to the state of
+    /// the other.
+    pub(crate) fn fits(&self, other: &Position) -> bool
+        ensures { result ≡ true → HaveSameSizes self.now.tree other.now.tree }
+    {
+        self.session.tree().sizes() == other.session.tree().sizes()
+    }
+
+    /// Sets the machine to the state of another one. Allocates no memory.
     ///
     /// # Errors
     ///
-    /// `NoMemory`, if there is no memory.
-    pub(crate) fn start(alloc: Global, first_machine: &FirstMachine) -> Result<Position, StepFault>
-        ensures { IfOk result (λ position. position ≡ first_machine.now) }
+    /// `NoMemory`, if the reference count of a program is at its limit. The machine is then unchanged.
+    pub(crate) fn copy_from(&mut self, other: &Position) -> Result<(), StepFault>
+        requires { HaveSameSizes self.old.tree other.now.tree }
+        ensures { OnOk result (self.new ≡ other.now) }
     {
-        Ok(Position {
-            session: first_machine.session(alloc)?,
-            last: 1,
-        })
+        self.session.copy_from(&other.session)?;
+        self.last = other.last;
+        Ok(())
     }
 
     /// Makes a step of a process.
@@ -190,40 +206,34 @@ impl Position {
         Ok(())
     }
 
-    /// Returns the machine at the end of a schedule.
+    /// Makes a step for each process number of a schedule.
     ///
     /// # Errors
     ///
     /// `NoMemory`, if there is no memory.
-    pub(crate) fn at(
-        alloc: Global,
-        first_machine: &FirstMachine,
-        witness: &[u32],
-    ) -> Result<Position, StepFault>
-        ensures { IfOk result (λ position. position ≡ state_at program_of first_machine.now witness.now) }
+    pub(crate) fn replay(&mut self, alloc: Global, schedule: &[u32]) -> Result<(), StepFault>
+        ensures { OnOk result (self.new ≡ state_at program_of self.old schedule.now) }
     {
-        let mut position = Position::start(alloc, first_machine)?;
-        for pid in witness {
-            position.step(alloc, *pid)?;
+        for pid in schedule {
+            self.step(alloc, *pid)?;
         }
-        Ok(position)
+        Ok(())
     }
 
-    /// Makes a step of a process. Returns the machine after it, and its trace lines.
+    /// Makes a step of a process, and returns its trace lines.
     ///
     /// # Errors
     ///
     /// `NoMemory`, if there is no memory.
-    pub(crate) fn trace(self, alloc: Global, pid: u32) -> Result<(Position, Vec<u8>), StepFault>
-        ensures after { IfOk result (λ made. made.0 ≡ (stepped self pid).after) }
-        ensures text { IfOk result (λ made. made.1.items ≡ trace_bytes (stepped self pid).lines) }
+    pub(crate) fn trace(&mut self, alloc: Global, pid: u32) -> Result<Vec<u8>, StepFault>
+        ensures after { OnOk result (self.new ≡ (stepped self.old pid).after) }
+        ensures text { IfOk result (λ text. text.items ≡ trace_bytes (stepped self.old pid).lines) }
     {
-        let Position { mut session, last } = self;
-        let _ = session.parts();
+        let _ = self.session.parts();
         let mut text = Gathered::new(alloc);
-        trace_into(alloc, &mut session, pid, &mut text)?;
-        let last = last_number(session.parts(), last);
-        Ok((Position { session, last }, text.bytes))
+        trace_into(alloc, &mut self.session, pid, &mut text)?;
+        self.last = last_number(self.session.parts(), self.last);
+        Ok(text.bytes)
     }
 
     /// Returns the state.
@@ -289,25 +299,25 @@ impl Position {
     /// - `Memory`, if there is no memory.
     /// - `Write`, if a write failed. The sink received a prefix of the lines.
     pub(crate) fn write_step<W: Sink>(
-        self,
+        &mut self,
         alloc: Global,
         states: &States,
         pid: u32,
         line_buffer: &mut LineBuffer,
         out: &mut W,
     ) -> Result<(), Stop>
-        ensures whole { OnOk result (W.written out.new ≡ and_all (W.written out.old) (answer_bytes (step_of states.now self pid))) }
-        ensures prefix { OnErr result (WritesPrefix (answer_bytes (step_of states.now self pid)) (W.written out.old) (W.written out.new)) }
+        ensures whole { OnOk result (W.written out.new ≡ and_all (W.written out.old) (answer_bytes (step_of states.now self.old pid))) }
+        ensures prefix { OnErr result (WritesPrefix (answer_bytes (step_of states.now self.old pid)) (W.written out.old) (W.written out.new)) }
         ensures failed { IfErr result (λ stop. FailsBy stop (W.failures out.old) (W.failures out.new)) }
         ensures quiet { OnOk result (W.failures out.new ≡ W.failures out.old) }
     {
-        let Position { mut session, last } = self;
-        let _ = session.parts();
+        let _ = self.session.parts();
         let mut texts = CallTexts::new();
-        let made = make_step(alloc, &mut session, &mut texts, pid)?;
-        let groups = groups_after(alloc, session.parts(), last)?;
+        let made = make_step(alloc, &mut self.session, &mut texts, pid)?;
+        self.last = last_number(self.session.parts(), self.last);
+        let groups = encoded_groups(alloc, self.session.parts(), self.last)?;
         let number = states.find(alloc, &groups)?;
         write_leads(out, pid, number)?;
-        Ok(write_made(out, line_buffer, &session, pid, &made, &[])?)
+        Ok(write_made(out, line_buffer, &self.session, pid, &made, &[])?)
     }
 }

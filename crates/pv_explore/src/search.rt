@@ -13,6 +13,7 @@ ghost use Rattle.pv_session.specs.Running.{FailsBy};
 ghost use Rattle.pv_state_encoding.specs.Encoded.{encoded, encoded_all};
 ghost use Rattle.pv_streams.specs.Sinks.{and_all, WritesPrefix};
 
+use crate::checkpoints::Checkpoints;
 use crate::first_machine::FirstMachine;
 use crate::keys::Keys;
 use crate::position::Position;
@@ -183,9 +184,9 @@ impl Search {
     ) -> Result<Search, StepFault>
         ensures { IfOk result (λ search. visited_of search ≡ first_visited limit program_of first_machine.now) }
     {
-        let position = Position::start(alloc, first_machine)?;
-        let states = first_states(alloc, &position)?;
-        let endings = first_endings(alloc, &position)?;
+        let position = first_machine.machine();
+        let states = first_states(alloc, position)?;
+        let endings = first_endings(alloc, position)?;
         Ok(Search {
             states,
             witnesses: Witnesses::new(alloc),
@@ -234,28 +235,28 @@ impl Search {
         self.keep_witness(number, pid, found)
     }
 
-    // Makes a step of a process in state `number`. Writes its text if it is new, caches the transition, and visits the
-    // state after it. Then the machine makes speculative steps.
+    // Makes a step of a process with a machine in state `number`. Writes its text if it is new, caches the transition,
+    // and visits the state after it. Then the machine makes speculative steps.
     fn make_new_move<W: Sink>(
         &mut self,
         alloc: Global,
         limit: u32,
         number: u32,
-        from: Position,
+        machine: &mut Position,
         pid: u32,
         out: &mut W,
     ) -> Result<(), Stop>
-        requires there { HasNumber self.old.states number from }
+        requires there { HasNumber self.old.states number machine.old }
         requires found { number < length (visited_of self.old).witnesses }
-        ensures visited { OnOk result (visited_of self.new ≡ visited_after limit (visited_of self.old) (move_of (longer (visited_of self.old).witnesses number pid) pid from)) }
-        ensures whole { OnOk result (W.written out.new ≡ and_all (W.written out.old) (answer_bytes (lines_at self.old.reported (move_of (longer (visited_of self.old).witnesses number pid) pid from)))) }
-        ensures prefix { OnErr result (WritesPrefix (answer_bytes (lines_at self.old.reported (move_of (longer (visited_of self.old).witnesses number pid) pid from))) (W.written out.old) (W.written out.new)) }
+        ensures visited { OnOk result (visited_of self.new ≡ visited_after limit (visited_of self.old) (move_of (longer (visited_of self.old).witnesses number pid) pid machine.old)) }
+        ensures whole { OnOk result (W.written out.new ≡ and_all (W.written out.old) (answer_bytes (lines_at self.old.reported (move_of (longer (visited_of self.old).witnesses number pid) pid machine.old)))) }
+        ensures prefix { OnErr result (WritesPrefix (answer_bytes (lines_at self.old.reported (move_of (longer (visited_of self.old).witnesses number pid) pid machine.old))) (W.written out.old) (W.written out.new)) }
         ensures failed { IfErr result (λ stop. FailsBy stop (W.failures out.old) (W.failures out.new)) }
         ensures quiet { OnOk result (W.failures out.new ≡ W.failures out.old) }
     {
-        let _ = from.parts();
-        let (position, text) = from.trace(alloc, pid)?;
-        let encoded = position.encoded(alloc)?;
+        let _ = machine.parts();
+        let text = machine.trace(alloc, pid)?;
+        let encoded = machine.encoded(alloc)?;
         self.states
             .keep_step(alloc, number as usize, pid, &text, &encoded)?;
         report(
@@ -267,8 +268,8 @@ impl Search {
             &text,
             out,
         )?;
-        self.find(alloc, limit, &position, &encoded, number, pid)?;
-        self.states.go_ahead(alloc, position, &encoded)?;
+        self.find(alloc, limit, machine, &encoded, number, pid)?;
+        self.states.go_ahead(alloc, machine, &encoded)?;
         Ok(())
     }
 
@@ -276,14 +277,15 @@ impl Search {
     fn position(
         &self,
         alloc: Global,
-        first_machine: &FirstMachine,
+        checkpoints: &mut Checkpoints<'_>,
         number: u32,
     ) -> Result<Position, StepFault>
         requires { number < length (visited_of self.now).witnesses }
-        ensures { IfOk result (λ position. position ≡ state_at program_of first_machine.now (witness_at (visited_of self.now) number)) }
+        ensures unchanged { checkpoints.new ≡ checkpoints.old }
+        ensures at { IfOk result (λ position. position ≡ state_at program_of checkpoints.old (witness_at (visited_of self.now) number)) }
     {
         let witness = self.witnesses.at(alloc, number)?;
-        Position::at(alloc, first_machine, &witness)
+        checkpoints.position(alloc, &witness)
     }
 
     // Takes a step of a process in state `number`, from the cache if possible. Writes its text if it is new, and visits
@@ -291,25 +293,28 @@ impl Search {
     fn make_move<W: Sink>(
         &mut self,
         alloc: Global,
-        first_machine: &FirstMachine,
+        checkpoints: &mut Checkpoints<'_>,
         limit: u32,
         number: u32,
         pid: u32,
         out: &mut W,
     ) -> Result<(), Stop>
-        requires whole { IsValid first_machine.now }
-        requires there { HasNumber self.old.states number (state_at program_of first_machine.now (witness_at (visited_of self.old) number)) }
+        requires whole { IsValid checkpoints.old }
+        requires there { HasNumber self.old.states number (state_at program_of checkpoints.old (witness_at (visited_of self.old) number)) }
         requires found { number < length (visited_of self.old).witnesses }
-        ensures visited { OnOk result (visited_of self.new ≡ visited_after limit (visited_of self.old) (move_at program_of first_machine.now (witness_at (visited_of self.old) number) pid)) }
-        ensures whole { OnOk result (W.written out.new ≡ and_all (W.written out.old) (answer_bytes (lines_at self.old.reported (move_at program_of first_machine.now (witness_at (visited_of self.old) number) pid)))) }
-        ensures prefix { OnErr result (WritesPrefix (answer_bytes (lines_at self.old.reported (move_at program_of first_machine.now (witness_at (visited_of self.old) number) pid))) (W.written out.old) (W.written out.new)) }
+        ensures unchanged { checkpoints.new ≡ checkpoints.old }
+        ensures visited { OnOk result (visited_of self.new ≡ visited_after limit (visited_of self.old) (move_at program_of checkpoints.old (witness_at (visited_of self.old) number) pid)) }
+        ensures whole { OnOk result (W.written out.new ≡ and_all (W.written out.old) (answer_bytes (lines_at self.old.reported (move_at program_of checkpoints.old (witness_at (visited_of self.old) number) pid)))) }
+        ensures prefix { OnErr result (WritesPrefix (answer_bytes (lines_at self.old.reported (move_at program_of checkpoints.old (witness_at (visited_of self.old) number) pid))) (W.written out.old) (W.written out.new)) }
         ensures failed { IfErr result (λ stop. FailsBy stop (W.failures out.old) (W.failures out.new)) }
         ensures quiet { OnOk result (W.failures out.new ≡ W.failures out.old) }
     {
         let limited = limit as usize;
         let Some(followed) = self.states.follow(alloc, limited, number as usize, pid)? else {
-            let from = self.position(alloc, first_machine, number)?;
-            return self.make_new_move(alloc, limit, number, from, pid, out);
+            let mut machine = self.position(alloc, checkpoints, number)?;
+            self.make_new_move(alloc, limit, number, &mut machine, pid, out)?;
+            checkpoints.release(machine);
+            return Ok(());
         };
         let Followed { text, found } = followed;
         report(
@@ -329,17 +334,23 @@ impl Search {
     fn live(
         &self,
         alloc: Global,
-        first_machine: &FirstMachine,
+        checkpoints: &mut Checkpoints<'_>,
         number: u32,
     ) -> Result<Vec<u32>, StepFault>
-        requires whole { IsValid first_machine.now }
-        requires there { HasNumber self.now.states number (state_at program_of first_machine.now (witness_at (visited_of self.now) number)) }
+        requires whole { IsValid checkpoints.old }
+        requires there { HasNumber self.now.states number (state_at program_of checkpoints.old (witness_at (visited_of self.now) number)) }
         requires found { number < length (visited_of self.now).witnesses }
-        ensures { IfOk result (λ pids. pids.items ≡ live_at program_of first_machine.now (witness_at (visited_of self.now) number)) }
+        ensures unchanged { checkpoints.new ≡ checkpoints.old }
+        ensures live { IfOk result (λ pids. pids.items ≡ live_at program_of checkpoints.old (witness_at (visited_of self.now) number)) }
     {
         match self.states.live(alloc, number as usize)? {
             Some(pids) => Ok(pids),
-            None => self.position(alloc, first_machine, number)?.live(alloc),
+            None => {
+                let machine = self.position(alloc, checkpoints, number)?;
+                let pids = machine.live(alloc)?;
+                checkpoints.release(machine);
+                Ok(pids)
+            }
         }
     }
 
@@ -347,24 +358,25 @@ impl Search {
     fn make_moves<W: Sink>(
         &mut self,
         alloc: Global,
-        first_machine: &FirstMachine,
+        checkpoints: &mut Checkpoints<'_>,
         limit: u32,
         number: u32,
         out: &mut W,
     ) -> Result<(), Stop>
-        requires whole { IsValid first_machine.now }
-        requires there { HasNumber self.old.states number (state_at program_of first_machine.now (witness_at (visited_of self.old) number)) }
+        requires whole { IsValid checkpoints.old }
+        requires there { HasNumber self.old.states number (state_at program_of checkpoints.old (witness_at (visited_of self.old) number)) }
         requires found { number < length (visited_of self.old).witnesses }
-        ensures visited { OnOk result (visited_of self.new ≡ visited_after_steps limit program_of first_machine.now (witness_at (visited_of self.old) number) (live_at program_of first_machine.now (witness_at (visited_of self.old) number)) (visited_of self.old)) }
-        ensures whole { OnOk result (W.written out.new ≡ and_all (W.written out.old) (answer_bytes (reported_steps limit program_of first_machine.now (witness_at (visited_of self.old) number) (live_at program_of first_machine.now (witness_at (visited_of self.old) number)) (visited_of self.old)))) }
-        ensures prefix { OnErr result (WritesPrefix (answer_bytes (reported_steps limit program_of first_machine.now (witness_at (visited_of self.old) number) (live_at program_of first_machine.now (witness_at (visited_of self.old) number)) (visited_of self.old))) (W.written out.old) (W.written out.new)) }
+        ensures unchanged { checkpoints.new ≡ checkpoints.old }
+        ensures visited { OnOk result (visited_of self.new ≡ visited_after_steps limit program_of checkpoints.old (witness_at (visited_of self.old) number) (live_at program_of checkpoints.old (witness_at (visited_of self.old) number)) (visited_of self.old)) }
+        ensures whole { OnOk result (W.written out.new ≡ and_all (W.written out.old) (answer_bytes (reported_steps limit program_of checkpoints.old (witness_at (visited_of self.old) number) (live_at program_of checkpoints.old (witness_at (visited_of self.old) number)) (visited_of self.old)))) }
+        ensures prefix { OnErr result (WritesPrefix (answer_bytes (reported_steps limit program_of checkpoints.old (witness_at (visited_of self.old) number) (live_at program_of checkpoints.old (witness_at (visited_of self.old) number)) (visited_of self.old))) (W.written out.old) (W.written out.new)) }
         ensures failed { IfErr result (λ stop. FailsBy stop (W.failures out.old) (W.failures out.new)) }
         ensures quiet { OnOk result (W.failures out.new ≡ W.failures out.old) }
     {
-        let pids = self.live(alloc, first_machine, number)?;
+        let pids = self.live(alloc, checkpoints, number)?;
         let live = pids.as_slice();
         for pid in live {
-            self.make_move(alloc, first_machine, limit, number, *pid, out)?;
+            self.make_move(alloc, checkpoints, limit, number, *pid, out)?;
         }
         Ok(())
     }
@@ -407,14 +419,15 @@ impl Search {
         ensures failed { IfErr result (λ stop. FailsBy stop (W.failures out.old) (W.failures out.new)) }
         ensures quiet { OnOk result (W.failures out.new ≡ W.failures out.old) }
     {
-        let _ = Position::start(alloc, first_machine)?.parts();
+        let _ = first_machine.machine().parts();
+        let mut checkpoints = Checkpoints::new(alloc, first_machine);
         for number in 0..limit {
             let found = self.states.len();
             if number as usize >= found {
                 return Ok(());
             }
             progress.show(found, found - number as usize);
-            self.make_moves(alloc, first_machine, limit, number, out)?;
+            self.make_moves(alloc, &mut checkpoints, limit, number, out)?;
             self.states.unreference(alloc, number as usize);
         }
         Ok(())

@@ -403,10 +403,10 @@ impl States {
     pub(crate) fn go_ahead(
         &mut self,
         alloc: Global,
-        position: Position,
+        position: &mut Position,
         groups: &[EncodedGroup],
     ) -> Result<(), StepFault>
-        requires { encoded_all groups.now ≡ encoded position }
+        requires { encoded_all groups.now ≡ encoded position.old }
         ensures { OnOk result (self.new ≡ self.old) }
     {
         let cells = learn_cells(alloc, &mut self.parts, &mut self.groups, groups)?;

@@ -6,6 +6,7 @@ use Rattle.pv_explore.proofs.graph.write_steps.Given as goal
 
 abbrev pub invariant-loop-pid : goal.invariant-loop-pid
 invariant-loop-pid g l = record {
-  left : LeavesRest (answer_bytes (steps_at l.states l.first_machine l.witness (drop l.pid-index l.live))) (answer_bytes (steps_at l.states l.first_machine l.witness l.live)) (g.W.Sink.written l.fn.out) (g.W.Sink.written l.out);
+  left : LeavesRest (answer_bytes (steps_at l.states l.fn.checkpoints l.witness (drop l.pid-index l.live))) (answer_bytes (steps_at l.states l.fn.checkpoints l.witness l.live)) (g.W.Sink.written l.fn.out) (g.W.Sink.written l.out);
+  same : l.checkpoints ≡ l.fn.checkpoints;
   quiet : g.W.Sink.failures l.out ≡ g.W.Sink.failures l.fn.out;
 }

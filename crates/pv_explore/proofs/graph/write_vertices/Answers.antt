@@ -19,13 +19,14 @@ pub returns-in_err-write_vertex-clause-prefix : goal.returns-in_err-write_vertex
 returns-in_err-write_vertex-clause-prefix g c =
     let at = sym c.in_ok-witness.ensures ∙ ap witness_of c.in-Some.is ∙ ap Some (sym c.deref.ensures.value) in
     let is = vertices-next c.args.search.now.states c.args.first_machine.now c.args.tree (visited_of c.args.search.now).witnesses c.loop-number.number c.deref.result.now at in
-    on_err c.from_residual-in_err-write_vertex.result (rest_begins _ _ _ _ _ _ _ c.loop-number.invariant.left is c.in_err-write_vertex.ensures.prefix)
+    on_err c.from_residual-in_err-write_vertex.result (rest_begins _ _ _ _ _ _ _ c.loop-number.invariant.left is (rw c.loop-number.invariant.same at c.in_err-write_vertex.ensures.prefix))
 
 pub loop-number-preserved : goal.loop-number-preserved
 loop-number-preserved g c =
     let at = sym c.in_ok-witness.ensures ∙ ap witness_of c.in-Some.is ∙ ap Some (sym c.deref.ensures.value) in
     let is = vertices-next c.args.search.now.states c.args.first_machine.now c.args.tree (visited_of c.args.search.now).witnesses c.loop-number.number c.deref.result.now at in
     record {
-      left = rest_after _ _ _ _ _ _ _ c.loop-number.invariant.left is c.in_ok-write_vertex.ensures.whole;
+      left = rest_after _ _ _ _ _ _ _ c.loop-number.invariant.left is (rw c.loop-number.invariant.same at c.in_ok-write_vertex.ensures.whole);
+      same = c.write_vertex.ensures.unchanged ∙ c.loop-number.invariant.same;
       quiet = c.in_ok-write_vertex.ensures.quiet ∙ c.loop-number.invariant.quiet;
     }

@@ -16,8 +16,8 @@ use Rattle.pv_streams.specs.Sinks.{and_all, WritesPrefix}
 use Rattle.pv_streams.proofs.Reporting.{begins_first, begins_then, on_err, written_both}
 use Rattle.pv_explore.proofs.position.Position.write_step.Goals as goal
 
-pub groups_after-requires-clause-gave : goal.groups_after-requires-clause-gave
-groups_after-requires-clause-gave g c =
+pub last_number-self-inside-requires-clause-gave : goal.last_number-self-inside-requires-clause-gave
+last_number-self-inside-requires-clause-gave g c =
     gave-known c.self.inside.session c.parts-2.result.now c.args.pid c.self.inside.last c.self.invariant
     (c.parts-2.ensures.value ∙ left-by c.self.inside.session c.args.pid c.in_ok-made.made c.make_step.new.session c.in_ok-made.ensures.made)
 
@@ -26,10 +26,10 @@ write_made-requires g c = c.in_ok-made.ensures.fit
 
 pub returns-in_err-write_leads-clause-prefix : goal.returns-in_err-write_leads-clause-prefix
 returns-in_err-write_leads-clause-prefix g c =
-    let s = c.args.self in
+    let s = c.args.self.now in
     let made = c.in_ok-made.made in
     let after = c.make_step.new.session in
-    let groups = ap groups_of c.deref.ensures.value ∙ c.in_ok-groups.ensures ∙ ap state_groups c.parts-2.ensures.value in
+    let groups = ap groups_of c.deref.ensures.value ∙ c.in_ok-groups.ensures ∙ ap state_groups c.parts-3.ensures.value in
     let is = step-bytes c.args.states.now s c.args.pid made after (groups_of c.deref.result.now) c.in_ok-number.number (subst (λ (t : State). IsMade t c.args.pid made after) c.self.view_is c.in_ok-made.ensures.made) groups c.in_ok-number.ensures in
     on_err c.from_residual-in_err-write_leads.result
     (subst (λ (bs : Bytes). WritesPrefix bs (g.W.Sink.written c.args.out.now) (g.W.Sink.written c.write_leads.new.out)) is
@@ -37,10 +37,10 @@ returns-in_err-write_leads-clause-prefix g c =
 
 pub returns-in_err-write_made-clause-prefix : goal.returns-in_err-write_made-clause-prefix
 returns-in_err-write_made-clause-prefix g c =
-    let s = c.args.self in
+    let s = c.args.self.now in
     let made = c.in_ok-made.made in
     let after = c.make_step.new.session in
-    let groups = ap groups_of c.deref.ensures.value ∙ c.in_ok-groups.ensures ∙ ap state_groups c.parts-2.ensures.value in
+    let groups = ap groups_of c.deref.ensures.value ∙ c.in_ok-groups.ensures ∙ ap state_groups c.parts-3.ensures.value in
     let is = step-bytes c.args.states.now s c.args.pid made after (groups_of c.deref.result.now) c.in_ok-number.number (subst (λ (t : State). IsMade t c.args.pid made after) c.self.view_is c.in_ok-made.ensures.made) groups c.in_ok-number.ensures in
     on_err c.from_residual-in_err-write_made.result
     (subst (λ (bs : Bytes). WritesPrefix bs (g.W.Sink.written c.args.out.now) (g.W.Sink.written c.write_made.new.out)) is
@@ -55,13 +55,13 @@ returns-in_err-write_made-clause-failed g c =
 
 pub returns-clause-whole : goal.returns-clause-whole
 returns-clause-whole g c =
-    let s = c.args.self in
+    let s = c.args.self.now in
     let made = c.in_ok-made.made in
     let after = c.make_step.new.session in
-    let groups = ap groups_of c.deref.ensures.value ∙ c.in_ok-groups.ensures ∙ ap state_groups c.parts-2.ensures.value in
+    let groups = ap groups_of c.deref.ensures.value ∙ c.in_ok-groups.ensures ∙ ap state_groups c.parts-3.ensures.value in
     let is = step-bytes c.args.states.now s c.args.pid made after (groups_of c.deref.result.now) c.in_ok-number.number (subst (λ (t : State). IsMade t c.args.pid made after) c.self.view_is c.in_ok-made.ensures.made) groups c.in_ok-number.ensures in
     written_both (answer_line_bytes (answer_line c.args.pid (codes "STEP") (leads_to_text c.in_ok-number.number))) (answer_bytes (made_lines c.args.pid [] made after)) _ _ _ c.in_ok-write_leads.ensures.whole c.in_ok-write_made.ensures.whole
     ∙ ap (and_all (g.W.Sink.written c.args.out.now)) is
 
 pub find-requires : goal.find-requires
-find-requires g c = (c.parts-2.result.now, ap groups_of c.deref.ensures.value ∙ c.in_ok-groups.ensures)
+find-requires g c = (c.parts-3.result.now, ap groups_of c.deref.ensures.value ∙ c.in_ok-groups.ensures)

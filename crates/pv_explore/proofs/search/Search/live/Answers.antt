@@ -7,9 +7,9 @@ use Rattle.pv_explore.proofs.Followed.{whole-at}
 use Rattle.pv_model.specs.Grammar.Programs.{program_of}
 use Rattle.pv_explore.proofs.search.Search.live.Goals as goal
 
-pub returns-in-Some : goal.returns-in-Some
-returns-in-Some c =
-    let s = c.args.first_machine.now in
+pub returns-in-Some-clause-live : goal.returns-in-Some-clause-live
+returns-in-Some-clause-live c =
+    let s = c.args.checkpoints.now in
     let witness = witness_at (visited_of c.args.self.now) c.args.number in
     let live = subst (λ (o : Option (Vec ℕ)). IfSome o (λ pids. AreLiveAt c.args.self.now.states c.args.number pids.items)) c.in-Some.is c.in_ok-pids.ensures in
     live (state_at program_of s witness) (whole-at s witness c.requires.whole) c.requires.there

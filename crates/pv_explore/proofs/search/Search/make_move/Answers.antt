@@ -1,4 +1,4 @@
-use Rattle.std.proofs.Common.{◌∙◌, ap, Option, refl, subst}
+use Rattle.std.proofs.Common.{◌∙◌, ap, Option, refl, subst, sym}
 use Rattle.pv_explore.specs.declared.states.Followed.{Followed}
 use Rattle.pv_explore.specs.VisitedStates.{MayFollow}
 use Rattle.pv_explore.specs.Plan.{visited_after, lines_at, state_at, reported_after}
@@ -10,29 +10,46 @@ use Rattle.pv_model.specs.Answers.Explore.{Move}
 use Rattle.pv_model.specs.Answers.Lines.{answer_bytes}
 use Rattle.pv_model.specs.Bytes.{Bytes}
 use Rattle.pv_model.specs.Grammar.Programs.{program_of}
-use Rattle.std.specs.Prelude.{OnErr}
 use Rattle.pv_streams.specs.Sinks.{and_all, WritesPrefix}
-use Rattle.pv_streams.proofs.Sinks.{begins_whole}
+use Rattle.pv_streams.proofs.Sinks.{begins_whole, written_nothing}
 use Rattle.pv_streams.proofs.Reporting.{on_err}
 use Rattle.pv_explore.proofs.search.Search.make_move.Goals as goal
 
 pub follow-requires : goal.follow-requires
 follow-requires g c =
-    let s = c.args.first_machine.now in
+    let s = c.args.checkpoints.now in
     let witness = witness_at (visited_of c.args.self.now) c.args.number in
     (state_at program_of s witness, whole-at s witness c.requires.whole, c.requires.there)
 
-pub returns-in_default-clause-prefix : goal.returns-in_default-clause-prefix
-returns-in_default-clause-prefix g c =
-    let s = c.args.first_machine.now in
+pub returns-in_err-machine-clause-prefix : goal.returns-in_err-machine-clause-prefix
+returns-in_err-machine-clause-prefix g c = on_err c.from_residual-in_err-machine.result (0, sym (written_nothing _ (g.W.Sink.written c.args.out.now)))
+
+pub returns-in_err-make_new_move-clause-prefix : goal.returns-in_err-make_new_move-clause-prefix
+returns-in_err-make_new_move-clause-prefix g c =
+    let s = c.args.checkpoints.now in
     let witness = witness_at (visited_of c.args.self.now) c.args.number in
-    let moved = move-is s c.in_ok-from.from witness (longer (visited_of c.args.self.now).witnesses c.args.number c.args.pid) c.args.pid refl c.in_ok-from.ensures in
-    subst (λ (m : Move). OnErr c.make_new_move.result (WritesPrefix (answer_bytes (lines_at c.args.self.now.reported m)) (g.W.Sink.written c.args.out.now) (g.W.Sink.written c.make_new_move.new.out))) moved
-    c.make_new_move.ensures.prefix
+    let moved = move-is s c.in_ok-machine.machine witness (longer (visited_of c.args.self.now).witnesses c.args.number c.args.pid) c.args.pid refl c.in_ok-machine.ensures.at in
+    on_err c.from_residual-in_err-make_new_move.result
+    (subst (λ (m : Move). WritesPrefix (answer_bytes (lines_at c.args.self.now.reported m)) (g.W.Sink.written c.args.out.now) (g.W.Sink.written c.make_new_move.new.out)) moved
+    c.in_err-make_new_move.ensures.prefix)
+
+pub returns-in_default-clause-visited : goal.returns-in_default-clause-visited
+returns-in_default-clause-visited g c =
+    let s = c.args.checkpoints.now in
+    let witness = witness_at (visited_of c.args.self.now) c.args.number in
+    let moved = move-is s c.in_ok-machine.machine witness (longer (visited_of c.args.self.now).witnesses c.args.number c.args.pid) c.args.pid refl c.in_ok-machine.ensures.at in
+    c.in_ok-make_new_move.ensures.visited ∙ ap (visited_after c.args.limit (visited_of c.args.self.now)) moved
+
+pub returns-in_default-clause-whole : goal.returns-in_default-clause-whole
+returns-in_default-clause-whole g c =
+    let s = c.args.checkpoints.now in
+    let witness = witness_at (visited_of c.args.self.now) c.args.number in
+    let moved = move-is s c.in_ok-machine.machine witness (longer (visited_of c.args.self.now).witnesses c.args.number c.args.pid) c.args.pid refl c.in_ok-machine.ensures.at in
+    c.in_ok-make_new_move.ensures.whole ∙ ap (λ (m : Move). and_all (g.W.Sink.written c.args.out.now) (answer_bytes (lines_at c.args.self.now.reported m))) moved
 
 pub returns-in_err-report-clause-prefix : goal.returns-in_err-report-clause-prefix
 returns-in_err-report-clause-prefix g c =
-    let s = c.args.first_machine.now in
+    let s = c.args.checkpoints.now in
     let witness = witness_at (visited_of c.args.self.now) c.args.number in
     let pid = c.args.pid in
     let t = state_at program_of s witness in
@@ -47,7 +64,7 @@ returns-in_err-report-clause-prefix g c =
 
 pub returns-in_err-keep_witness-clause-prefix : goal.returns-in_err-keep_witness-clause-prefix
 returns-in_err-keep_witness-clause-prefix g c =
-    let s = c.args.first_machine.now in
+    let s = c.args.checkpoints.now in
     let witness = witness_at (visited_of c.args.self.now) c.args.number in
     let pid = c.args.pid in
     let t = state_at program_of s witness in
@@ -61,7 +78,7 @@ returns-in_err-keep_witness-clause-prefix g c =
 
 pub returns-clause-visited : goal.returns-clause-visited
 returns-clause-visited g c =
-    let s = c.args.first_machine.now in
+    let s = c.args.checkpoints.now in
     let witness = witness_at (visited_of c.args.self.now) c.args.number in
     let pid = c.args.pid in
     let t = state_at program_of s witness in
@@ -76,7 +93,7 @@ returns-clause-visited g c =
 
 pub returns-clause-whole : goal.returns-clause-whole
 returns-clause-whole g c =
-    let s = c.args.first_machine.now in
+    let s = c.args.checkpoints.now in
     let witness = witness_at (visited_of c.args.self.now) c.args.number in
     let pid = c.args.pid in
     let t = state_at program_of s witness in

@@ -6,7 +6,9 @@ use Rattle.pv_explore.specs.Searches.{visited_of, witness_at}
 use Rattle.pv_explore.proofs.Finding.{visited-next, visited-witness, steps-next, steps_left}
 use Rattle.pv_explore.proofs.Followed.{number-after}
 use Rattle.pv_listing.proofs.Rests.{rest_after, rest_all, rest_begins}
+use Rattle.pv_laws_states.specs.States.{IsValid}
 use Rattle.pv_model.specs.Grammar.Programs.{program_of}
+use Rattle.pv_model.specs.State.{State}
 use Rattle.pv_streams.specs.Sinks.{WritesPrefix}
 use Rattle.pv_streams.proofs.Reporting.{on_err}
 use Rattle.pv_explore.proofs.search.Search.make_moves.Goals as goal
@@ -17,23 +19,28 @@ loop-pid-init g c = record {
   visited = refl;
   at = slice_get-get_or (visited_of c.args.self.now).witnesses c.args.number [] c.requires.found;
   there = c.requires.there;
+  same = c.live.ensures.unchanged;
   quiet = refl;
 }
 
 pub make_move-requires-clause-there : goal.make_move-requires-clause-there
 make_move-requires-clause-there g c =
-    let s = c.args.first_machine.now in
+    let s = c.args.checkpoints.now in
     let witness = witness_at (visited_of c.args.self.now) c.args.number in
     let same = get_or_from_slice_get (visited_of c.loop-pid.self).witnesses c.args.number witness [] c.loop-pid.invariant.at in
-    subst (λ (w : List ℕ). HasNumber c.loop-pid.self.states c.args.number (state_at program_of s w)) (sym same) c.loop-pid.invariant.there
+    subst (λ (t : State). HasNumber c.loop-pid.self.states c.args.number (state_at program_of t (witness_at (visited_of c.loop-pid.self) c.args.number))) (sym c.loop-pid.invariant.same)
+    (subst (λ (w : List ℕ). HasNumber c.loop-pid.self.states c.args.number (state_at program_of s w)) (sym same) c.loop-pid.invariant.there)
+
+pub make_move-requires-clause-whole : goal.make_move-requires-clause-whole
+make_move-requires-clause-whole g c = subst IsValid (sym c.loop-pid.invariant.same) c.requires.whole
 
 pub make_move-requires-clause-found : goal.make_move-requires-clause-found
 make_move-requires-clause-found g c = slice_get_within (visited_of c.loop-pid.self).witnesses c.args.number (witness_at (visited_of c.args.self.now) c.args.number) c.loop-pid.invariant.at
 
 pub returns-in_err-make_move-clause-prefix : goal.returns-in_err-make_move-clause-prefix
 returns-in_err-make_move-clause-prefix g c =
-    let live = c.as_slice-live.ensures.value ∙ c.in_ok-pids.ensures in
-    let s = c.args.first_machine.now in
+    let live = c.as_slice-live.ensures.value ∙ c.in_ok-pids.ensures.live in
+    let s = c.args.checkpoints.now in
     let witness = witness_at (visited_of c.args.self.now) c.args.number in
     let pids = c.as_slice-live.result.now in
     let i = c.loop-pid.pid-index in
@@ -44,11 +51,11 @@ returns-in_err-make_move-clause-prefix g c =
     let is = steps-next c.args.limit s witness pids i visited (visited_after c.args.limit visited m) m c.loop-pid-test.true made refl in
     on_err c.from_residual-in_err-make_move.result
     (subst (λ (ps : List ℕ). WritesPrefix (steps_left c.args.limit s (witness_at (visited_of c.args.self.now) c.args.number) ps (visited_of c.args.self.now)) (g.W.Sink.written c.args.out.now) (g.W.Sink.written c.make_move.new.out)) live
-    (rest_begins _ _ _ _ _ _ _ c.loop-pid.invariant.left is c.in_err-make_move.ensures.prefix))
+    (rest_begins _ _ _ _ _ _ _ c.loop-pid.invariant.left is (rw c.loop-pid.invariant.same at c.in_err-make_move.ensures.prefix)))
 
 pub loop-pid-preserved : goal.loop-pid-preserved
 loop-pid-preserved g c =
-    let s = c.args.first_machine.now in
+    let s = c.args.checkpoints.now in
     let witness = witness_at (visited_of c.args.self.now) c.args.number in
     let pids = c.as_slice-live.result.now in
     let i = c.loop-pid.pid-index in
@@ -57,10 +64,12 @@ loop-pid-preserved g c =
     let same = get_or_from_slice_get visited.witnesses c.args.number witness [] c.loop-pid.invariant.at in
     let m = move_at program_of s (witness_at visited c.args.number) (get_or pids i 0) in
     let made = ap (λ (w : List ℕ). move_at program_of s w (get_or pids i 0)) same in
+    let reached = rw c.loop-pid.invariant.same at c.in_ok-make_move.ensures.visited in
     record {
-      left = rest_after _ _ _ _ _ _ _ c.loop-pid.invariant.left (steps-next c.args.limit s witness pids i visited after m c.loop-pid-test.true made c.in_ok-make_move.ensures.visited) c.in_ok-make_move.ensures.whole;
-      visited = visited-next c.args.limit s witness pids i visited after m c.loop-pid-test.true made c.in_ok-make_move.ensures.visited ∙ c.loop-pid.invariant.visited;
-      at = visited-witness c.args.limit visited after m c.args.number witness c.in_ok-make_move.ensures.visited c.loop-pid.invariant.at;
-      there = number-after c.args.limit visited after m c.args.number (state_at program_of s witness) c.loop-pid.invariant.there c.in_ok-make_move.ensures.visited;
+      left = rest_after _ _ _ _ _ _ _ c.loop-pid.invariant.left (steps-next c.args.limit s witness pids i visited after m c.loop-pid-test.true made reached) (rw c.loop-pid.invariant.same at c.in_ok-make_move.ensures.whole);
+      visited = visited-next c.args.limit s witness pids i visited after m c.loop-pid-test.true made reached ∙ c.loop-pid.invariant.visited;
+      at = visited-witness c.args.limit visited after m c.args.number witness reached c.loop-pid.invariant.at;
+      there = number-after c.args.limit visited after m c.args.number (state_at program_of s witness) c.loop-pid.invariant.there reached;
+      same = c.make_move.ensures.unchanged ∙ c.loop-pid.invariant.same;
       quiet = c.in_ok-make_move.ensures.quiet ∙ c.loop-pid.invariant.quiet;
     }

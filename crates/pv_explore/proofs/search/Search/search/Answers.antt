@@ -1,11 +1,14 @@
-use Rattle.std.proofs.Common.{◌≡◌, ◌-◌, arith, List, ◌∙◌, ap, refl, subst}
-use Rattle.pv_explore.specs.Plan.{Visited, visited_after_steps, visited_from, live_at}
+use Rattle.std.proofs.Common.{◌≡◌, ◌-◌, arith, List, ◌∙◌, ap, refl, subst, sym}
+use Rattle.pv_explore.specs.Plan.{Visited, visited_after_steps, visited_from, live_at, state_at}
+use Rattle.pv_explore.specs.VisitedStates.{HasNumber}
 use Rattle.pv_explore.specs.Searches.{visited_of, witness_at}
 use Rattle.pv_explore.proofs.Finding.{left-next, left-none, reported-next, reported-none, reported-start, reported_left}
 use Rattle.pv_explore.proofs.Followed.{at-after, found-none, found-witness, number-at}
 use Rattle.pv_listing.proofs.Rests.{LeavesRest, rest_after, rest_begins, written_text}
 use Rattle.pv_model.specs.Bytes.{Bytes}
+use Rattle.pv_laws_states.specs.States.{IsValid}
 use Rattle.pv_model.specs.Grammar.Programs.{program_of}
+use Rattle.pv_model.specs.State.{State}
 use Rattle.pv_streams.specs.Sinks.{and_all, WritesPrefix}
 use Rattle.pv_streams.proofs.Reporting.{on_err}
 use Rattle.pv_explore.proofs.search.Search.search.Goals as goal
@@ -20,14 +23,18 @@ returns-in_err-make_moves-clause-prefix g c =
     let is = reported-next limit s c.loop-number.number visited (visited_after_steps limit program_of s witness (live_at program_of s witness) visited) witness c.loop-number-test.true at refl in
     on_err c.from_residual-in_err-make_moves.result
     (subst (λ (bs : Bytes). WritesPrefix bs (g.W.Sink.written c.args.out.now) (g.W.Sink.written c.make_moves.new.out)) (reported-start limit s (visited_of c.args.self.now))
-    (rest_begins _ _ _ _ _ _ _ c.loop-number.invariant.left is c.in_err-make_moves.ensures.prefix))
+    (rest_begins _ _ _ _ _ _ _ c.loop-number.invariant.left is (rw c.loop-number.invariant.same at c.in_err-make_moves.ensures.prefix)))
 
 pub make_moves-requires-clause-there : goal.make_moves-requires-clause-there
 make_moves-requires-clause-there g c =
     let visited = visited_of c.loop-number.self in
     let witness = witness_at visited c.loop-number.number in
     let at = found-witness c.args.first_machine.now visited c.loop-number.number c.loop-number.invariant.at (rw c.len-found.ensures at c.if-number-found.false) in
-    number-at c.args.first_machine.now visited c.loop-number.number witness c.loop-number.invariant.at at
+    subst (λ (t : State). HasNumber c.loop-number.self.states c.loop-number.number (state_at program_of t witness)) (sym c.loop-number.invariant.same)
+    (number-at c.args.first_machine.now visited c.loop-number.number witness c.loop-number.invariant.at at)
+
+pub make_moves-requires-clause-whole : goal.make_moves-requires-clause-whole
+make_moves-requires-clause-whole g c = subst IsValid (sym c.loop-number.invariant.same) c.parts.ensures.whole
 
 pub loop-number-preserved : goal.loop-number-preserved
 loop-number-preserved g c =
@@ -35,13 +42,14 @@ loop-number-preserved g c =
     let s = c.args.first_machine.now in
     let visited = visited_of c.loop-number.self in
     let after : Visited = record (visited_of c.make_moves.new.self) { keys = c.unreference.new.self } in
-    let is = ap (λ (keys : List Bytes). record (visited_of c.make_moves.new.self) { keys = keys }) c.unreference.ensures ∙ c.in_ok-make_moves.ensures.visited in
+    let is = ap (λ (keys : List Bytes). record (visited_of c.make_moves.new.self) { keys = keys }) c.unreference.ensures ∙ (rw c.loop-number.invariant.same at c.in_ok-make_moves.ensures.visited) in
     let witness = witness_at visited c.loop-number.number in
     let at = found-witness c.args.first_machine.now visited c.loop-number.number c.loop-number.invariant.at (rw c.len-found.ensures at c.if-number-found.false) in
     record {
-      left = rest_after _ _ _ _ _ _ _ c.loop-number.invariant.left (reported-next limit s c.loop-number.number visited after witness c.loop-number-test.true at is) c.in_ok-make_moves.ensures.whole;
+      left = rest_after _ _ _ _ _ _ _ c.loop-number.invariant.left (reported-next limit s c.loop-number.number visited after witness c.loop-number-test.true at is) (rw c.loop-number.invariant.same at c.in_ok-make_moves.ensures.whole);
       visited = left-next limit s c.loop-number.number visited after witness c.loop-number-test.true at is ∙ c.loop-number.invariant.visited;
       at = at-after s limit witness (live_at program_of s witness) visited after c.loop-number.invariant.at is;
+      same = c.make_moves.ensures.unchanged ∙ c.loop-number.invariant.same;
       quiet = c.in_ok-make_moves.ensures.quiet ∙ c.loop-number.invariant.quiet;
     }
 
