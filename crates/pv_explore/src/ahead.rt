@@ -1,5 +1,5 @@
 //! Speculative steps that a machine makes beyond the step that the search needs.
-ghost use Rattle.std.specs.Prelude.{IfOk, OnOk};
+ghost use Rattle.std.specs.Prelude.{IfOk};
 ghost use Rattle.pv_explore.specs.VisitedStates.{AreCellsOf, AreCachedSteps};
 ghost use Rattle.pv_explore.specs.Rows.{Grew};
 
@@ -27,33 +27,34 @@ fn next_ahead(
     Ok(None)
 }
 
-// Makes a step of a process in the state of these cells, and caches the transition. Returns the cells after it.
+// Makes a step of a process in the state of these cells, and caches the transition. Returns the machine and the cells
+// after it.
 fn make_one(
     alloc: Global,
     parts: &mut Keys,
     groups: &mut Keys,
     steps: &mut CachedSteps,
-    position: &mut Position,
+    position: Position,
     cells: &[Cell],
     pid: u32,
-) -> Result<Vec<Cell>, StepFault>
-    requires cells { AreCellsOf parts.old groups.old position.old cells.now }
+) -> Result<(Position, Vec<Cell>), StepFault>
+    requires cells { AreCellsOf parts.old groups.old position cells.now }
     requires steps { AreCachedSteps parts.old groups.old steps.old.steps.items }
     ensures parts_grew { Grew parts.old parts.new }
     ensures groups_grew { Grew groups.old groups.new }
     ensures steps { AreCachedSteps parts.new groups.new steps.new.steps.items }
-    ensures cells { IfOk result (λ after. AreCellsOf parts.new groups.new position.new after.items) }
+    ensures cells { IfOk result (λ made. AreCellsOf parts.new groups.new made.0 made.1.items) }
 {
     let _ = position.parts();
-    let text = position.trace(alloc, pid)?;
-    let encoded = position.encoded(alloc)?;
+    let (next, text) = position.trace(alloc, pid)?;
+    let encoded = next.encoded(alloc)?;
     let after = learn_cells(alloc, parts, groups, &encoded)?;
     steps.keep(alloc, cells, &after, pid, &text)?;
-    Ok(after)
+    Ok((next, after))
 }
 
 /// Makes steps from the state of these cells on. Each is the step of a live process that is not yet cached in the
-/// current state, and its transition is added to the cache.
+/// current state, and its transition is added to the cache. Returns the machine, in an unspecified state.
 ///
 /// Stops when all steps of the current state are cached, or after `MOST_AHEAD` steps.
 ///
@@ -65,21 +66,24 @@ pub(crate) fn make_ahead(
     parts: &mut Keys,
     groups: &mut Keys,
     steps: &mut CachedSteps,
-    position: &mut Position,
+    position: Position,
     cells: Vec<Cell>,
-) -> Result<(), StepFault>
-    requires cells { AreCellsOf parts.old groups.old position.old cells.items }
+) -> Result<Position, StepFault>
+    requires cells { AreCellsOf parts.old groups.old position cells.items }
     requires steps { AreCachedSteps parts.old groups.old steps.old.steps.items }
     ensures parts_grew { Grew parts.old parts.new }
     ensures groups_grew { Grew groups.old groups.new }
     ensures steps { AreCachedSteps parts.new groups.new steps.new.steps.items }
 {
+    let mut position = position;
     let mut cells = cells;
     'ahead: for _ in 0..MOST_AHEAD {
         let Some(pid) = next_ahead(alloc, steps, &cells)? else {
-            return Ok(());
+            return Ok(position);
         };
-        cells = make_one(alloc, parts, groups, steps, position, &cells, pid)?;
+        let (next, after) = make_one(alloc, parts, groups, steps, position, &cells, pid)?;
+        position = next;
+        cells = after;
     }
-    Ok(())
+    Ok(position)
 }

@@ -220,20 +220,21 @@ impl Position {
         Ok(())
     }
 
-    /// Makes a step of a process, and returns its trace lines.
+    /// Makes a step of a process. Returns the machine after it, and its trace lines.
     ///
     /// # Errors
     ///
     /// `NoMemory`, if there is no memory.
-    pub(crate) fn trace(&mut self, alloc: Global, pid: u32) -> Result<Vec<u8>, StepFault>
-        ensures after { OnOk result (self.new ≡ (stepped self.old pid).after) }
-        ensures text { IfOk result (λ text. text.items ≡ trace_bytes (stepped self.old pid).lines) }
+    pub(crate) fn trace(self, alloc: Global, pid: u32) -> Result<(Position, Vec<u8>), StepFault>
+        ensures after { IfOk result (λ made. made.0 ≡ (stepped self pid).after) }
+        ensures text { IfOk result (λ made. made.1.items ≡ trace_bytes (stepped self pid).lines) }
     {
-        let _ = self.session.parts();
+        let Position { mut session, last } = self;
+        let _ = session.parts();
         let mut text = Gathered::new(alloc);
-        trace_into(alloc, &mut self.session, pid, &mut text)?;
-        self.last = last_number(self.session.parts(), self.last);
-        Ok(text.bytes)
+        trace_into(alloc, &mut session, pid, &mut text)?;
+        let last = last_number(session.parts(), last);
+        Ok((Position { session, last }, text.bytes))
     }
 
     /// Returns the state.

@@ -236,27 +236,27 @@ impl Search {
     }
 
     // Makes a step of a process with a machine in state `number`. Writes its text if it is new, caches the transition,
-    // and visits the state after it. Then the machine makes speculative steps.
+    // and visits the state after it. Then the machine makes speculative steps, and is returned in an unspecified state.
     fn make_new_move<W: Sink>(
         &mut self,
         alloc: Global,
         limit: u32,
         number: u32,
-        machine: &mut Position,
+        from: Position,
         pid: u32,
         out: &mut W,
-    ) -> Result<(), Stop>
-        requires there { HasNumber self.old.states number machine.old }
+    ) -> Result<Position, Stop>
+        requires there { HasNumber self.old.states number from }
         requires found { number < length (visited_of self.old).witnesses }
-        ensures visited { OnOk result (visited_of self.new ≡ visited_after limit (visited_of self.old) (move_of (longer (visited_of self.old).witnesses number pid) pid machine.old)) }
-        ensures whole { OnOk result (W.written out.new ≡ and_all (W.written out.old) (answer_bytes (lines_at self.old.reported (move_of (longer (visited_of self.old).witnesses number pid) pid machine.old)))) }
-        ensures prefix { OnErr result (WritesPrefix (answer_bytes (lines_at self.old.reported (move_of (longer (visited_of self.old).witnesses number pid) pid machine.old))) (W.written out.old) (W.written out.new)) }
+        ensures visited { OnOk result (visited_of self.new ≡ visited_after limit (visited_of self.old) (move_of (longer (visited_of self.old).witnesses number pid) pid from)) }
+        ensures whole { OnOk result (W.written out.new ≡ and_all (W.written out.old) (answer_bytes (lines_at self.old.reported (move_of (longer (visited_of self.old).witnesses number pid) pid from)))) }
+        ensures prefix { OnErr result (WritesPrefix (answer_bytes (lines_at self.old.reported (move_of (longer (visited_of self.old).witnesses number pid) pid from))) (W.written out.old) (W.written out.new)) }
         ensures failed { IfErr result (λ stop. FailsBy stop (W.failures out.old) (W.failures out.new)) }
         ensures quiet { OnOk result (W.failures out.new ≡ W.failures out.old) }
     {
-        let _ = machine.parts();
-        let text = machine.trace(alloc, pid)?;
-        let encoded = machine.encoded(alloc)?;
+        let _ = from.parts();
+        let (position, text) = from.trace(alloc, pid)?;
+        let encoded = position.encoded(alloc)?;
         self.states
             .keep_step(alloc, number as usize, pid, &text, &encoded)?;
         report(
@@ -268,9 +268,8 @@ impl Search {
             &text,
             out,
         )?;
-        self.find(alloc, limit, machine, &encoded, number, pid)?;
-        self.states.go_ahead(alloc, machine, &encoded)?;
-        Ok(())
+        self.find(alloc, limit, &position, &encoded, number, pid)?;
+        Ok(self.states.go_ahead(alloc, position, &encoded)?)
     }
 
     // Returns the machine in state `number`.
@@ -311,8 +310,8 @@ impl Search {
     {
         let limited = limit as usize;
         let Some(followed) = self.states.follow(alloc, limited, number as usize, pid)? else {
-            let mut machine = self.position(alloc, checkpoints, number)?;
-            self.make_new_move(alloc, limit, number, &mut machine, pid, out)?;
+            let from = self.position(alloc, checkpoints, number)?;
+            let machine = self.make_new_move(alloc, limit, number, from, pid, out)?;
             checkpoints.release(machine);
             return Ok(());
         };

@@ -395,7 +395,7 @@ impl States {
     }
 
     /// Makes speculative steps with a machine and caches their transitions, as `make_ahead` does. `groups` are the
-    /// groups of the machine's state.
+    /// groups of the machine's state. Returns the machine, in an unspecified state.
     ///
     /// # Errors
     ///
@@ -403,10 +403,10 @@ impl States {
     pub(crate) fn go_ahead(
         &mut self,
         alloc: Global,
-        position: &mut Position,
+        position: Position,
         groups: &[EncodedGroup],
-    ) -> Result<(), StepFault>
-        requires { encoded_all groups.now ≡ encoded position.old }
+    ) -> Result<Position, StepFault>
+        requires { encoded_all groups.now ≡ encoded position }
         ensures { OnOk result (self.new ≡ self.old) }
     {
         let cells = learn_cells(alloc, &mut self.parts, &mut self.groups, groups)?;
@@ -417,8 +417,7 @@ impl States {
             &mut self.steps,
             position,
             cells,
-        )?;
-        Ok(())
+        )
     }
 
     /// Takes a step of a process in state `number` from the cache, if its transition is cached and leaves some process

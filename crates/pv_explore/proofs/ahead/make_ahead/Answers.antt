@@ -6,5 +6,5 @@ ahead-preserved c = record {
   parts_grew = grew-then c.args.parts.now c.ahead.parts c.make_one.new.parts c.ahead.invariant.parts_grew c.make_one.ensures.parts_grew;
   groups_grew = grew-then c.args.groups.now c.ahead.groups c.make_one.new.groups c.ahead.invariant.groups_grew c.make_one.ensures.groups_grew;
   steps = c.make_one.ensures.steps;
-  cells = c.in_ok-make_one.ensures.cells;
+  cells = c.in_ok-next.ensures.cells;
 }

@@ -21,11 +21,11 @@ pub returns-clause-steps : goal.returns-clause-steps
 returns-clause-steps c =
     let parts = c.learn_cells.new.parts in
     let groups = c.learn_cells.new.groups in
-    let next = c.trace.new.self in
+    let next = c.in_ok-next.next in
     let is = ap encoded_all c.deref.ensures.value ∙ c.in_ok-encoded.ensures in
     let there = cells-of_groups parts groups next (encoded_all c.deref.result.now) c.in_ok-after.after.items c.in_ok-after.ensures.cells is in
     let left =
-    subst (λ (cs : List Cell). AreCellsOf c.learn_cells.new.parts c.learn_cells.new.groups (stepped c.args.position.now c.args.pid).after cs) (sym c.deref-2.ensures.value)
-    (subst (λ (s : State). AreCellsOf c.learn_cells.new.parts c.learn_cells.new.groups s c.in_ok-after.after.items) c.in_ok-text.ensures.after there) in
-    step-visited c.args.parts.now c.args.groups.now parts groups c.learn_cells.ensures.parts_grew c.learn_cells.ensures.groups_grew c.args.position.now c.args.pid c.args.cells.now c.deref-2.result.now c.deref-3.result.now
-    c.args.steps.now.steps.items c.keep.new.self.steps.items c.parts.ensures.whole c.requires.cells left (c.deref-3.ensures.value ∙ c.in_ok-text.ensures.text) c.requires.steps c.in_ok-keep.ensures.cached
+    subst (λ (cs : List Cell). AreCellsOf c.learn_cells.new.parts c.learn_cells.new.groups (stepped c.args.position c.args.pid).after cs) (sym c.deref-2.ensures.value)
+    (subst (λ (s : State). AreCellsOf c.learn_cells.new.parts c.learn_cells.new.groups s c.in_ok-after.after.items) c.in_ok-next.ensures.after there) in
+    step-visited c.args.parts.now c.args.groups.now parts groups c.learn_cells.ensures.parts_grew c.learn_cells.ensures.groups_grew c.args.position c.args.pid c.args.cells.now c.deref-2.result.now c.deref-3.result.now
+    c.args.steps.now.steps.items c.keep.new.self.steps.items c.parts.ensures.whole c.requires.cells left (c.deref-3.ensures.value ∙ c.in_ok-next.ensures.text) c.requires.steps c.in_ok-keep.ensures.cached

@@ -5,5 +5,5 @@ use Rattle.pv_explore.proofs.checkpoints.turn_to.Goals as goal
 
 pub returns-clause-along : goal.returns-clause-along
 returns-clause-along c =
-    λ s along. along-kept s c.args.schedule.now.items c.follow.new.schedule.items c.args.stride.now c.keep_within.new.stride c.shared_steps.result c.args.along.now.items c.keep_within.new.along.items
+    λ s along. along-kept s c.args.schedule.now.items c.follow.new.schedule.items c.args.stride.now c.keep_within.new.stride c.shared_steps-shared.result c.args.along.now.items c.keep_within.new.along.items
     c.keep_within.ensures.some c.keep_within.ensures.kept c.follow.ensures.shared along

@@ -21,31 +21,31 @@ follow-requires g c =
     let witness = witness_at (visited_of c.args.self.now) c.args.number in
     (state_at program_of s witness, whole-at s witness c.requires.whole, c.requires.there)
 
-pub returns-in_err-machine-clause-prefix : goal.returns-in_err-machine-clause-prefix
-returns-in_err-machine-clause-prefix g c = on_err c.from_residual-in_err-machine.result (0, sym (written_nothing _ (g.W.Sink.written c.args.out.now)))
+pub returns-in_err-from-clause-prefix : goal.returns-in_err-from-clause-prefix
+returns-in_err-from-clause-prefix g c = on_err c.from_residual-in_err-from.result (0, sym (written_nothing _ (g.W.Sink.written c.args.out.now)))
 
-pub returns-in_err-make_new_move-clause-prefix : goal.returns-in_err-make_new_move-clause-prefix
-returns-in_err-make_new_move-clause-prefix g c =
+pub returns-in_err-machine-clause-prefix : goal.returns-in_err-machine-clause-prefix
+returns-in_err-machine-clause-prefix g c =
     let s = c.args.checkpoints.now in
     let witness = witness_at (visited_of c.args.self.now) c.args.number in
-    let moved = move-is s c.in_ok-machine.machine witness (longer (visited_of c.args.self.now).witnesses c.args.number c.args.pid) c.args.pid refl c.in_ok-machine.ensures.at in
-    on_err c.from_residual-in_err-make_new_move.result
+    let moved = move-is s c.in_ok-from.from witness (longer (visited_of c.args.self.now).witnesses c.args.number c.args.pid) c.args.pid refl c.in_ok-from.ensures.at in
+    on_err c.from_residual-in_err-machine.result
     (subst (λ (m : Move). WritesPrefix (answer_bytes (lines_at c.args.self.now.reported m)) (g.W.Sink.written c.args.out.now) (g.W.Sink.written c.make_new_move.new.out)) moved
-    c.in_err-make_new_move.ensures.prefix)
+    c.in_err-machine.ensures.prefix)
 
 pub returns-in_default-clause-visited : goal.returns-in_default-clause-visited
 returns-in_default-clause-visited g c =
     let s = c.args.checkpoints.now in
     let witness = witness_at (visited_of c.args.self.now) c.args.number in
-    let moved = move-is s c.in_ok-machine.machine witness (longer (visited_of c.args.self.now).witnesses c.args.number c.args.pid) c.args.pid refl c.in_ok-machine.ensures.at in
-    c.in_ok-make_new_move.ensures.visited ∙ ap (visited_after c.args.limit (visited_of c.args.self.now)) moved
+    let moved = move-is s c.in_ok-from.from witness (longer (visited_of c.args.self.now).witnesses c.args.number c.args.pid) c.args.pid refl c.in_ok-from.ensures.at in
+    c.in_ok-machine.ensures.visited ∙ ap (visited_after c.args.limit (visited_of c.args.self.now)) moved
 
 pub returns-in_default-clause-whole : goal.returns-in_default-clause-whole
 returns-in_default-clause-whole g c =
     let s = c.args.checkpoints.now in
     let witness = witness_at (visited_of c.args.self.now) c.args.number in
-    let moved = move-is s c.in_ok-machine.machine witness (longer (visited_of c.args.self.now).witnesses c.args.number c.args.pid) c.args.pid refl c.in_ok-machine.ensures.at in
-    c.in_ok-make_new_move.ensures.whole ∙ ap (λ (m : Move). and_all (g.W.Sink.written c.args.out.now) (answer_bytes (lines_at c.args.self.now.reported m))) moved
+    let moved = move-is s c.in_ok-from.from witness (longer (visited_of c.args.self.now).witnesses c.args.number c.args.pid) c.args.pid refl c.in_ok-from.ensures.at in
+    c.in_ok-machine.ensures.whole ∙ ap (λ (m : Move). and_all (g.W.Sink.written c.args.out.now) (answer_bytes (lines_at c.args.self.now.reported m))) moved
 
 pub returns-in_err-report-clause-prefix : goal.returns-in_err-report-clause-prefix
 returns-in_err-report-clause-prefix g c =
