@@ -3,7 +3,7 @@ use Rattle.std.proofs.Common.{◌≡◌, ◌∙◌, ⊎_elim, inl, inr, ◌⊎�
 use Rattle.std.proofs.Math.Nat.{suc-mul}
 use Rattle.std.proofs.lemmas.List.{drop-drop, get_or_at, length-append, length-drop, take-append-drop, length-take-le, take-append-le, take-take, take_all, take_more}
 use Rattle.std.proofs.lemmas.Bool.{cases_lt}
-use Rattle.pv_explore.specs.Checkpoints.{AreAlong, AreKept, IsAt, last_or, states_along}
+use Rattle.pv_explore.specs.Checkpoints.{AreAlong, AreRetained, IsAt, last_or, states_along}
 use Rattle.pv_explore.specs.Plan.{state_at}
 use Rattle.pv_model.specs.Grammar.Programs.{program_of}
 use Rattle.pv_model.specs.State.{State}
@@ -93,17 +93,17 @@ along-last s pids stride machines is = ap (last_or s) is.are ∙ by (length mach
         let e : length (states_along s pids stride (suc n)) ≡ suc n = length-along s pids stride (suc n) in
         ap (λ k. get_or (s ∷ states_along s pids stride (suc n)) k s) e ∙ get_or_at (states_along s pids stride n) _ [] s n (length-along s pids stride n)
 
--- those that are kept for another schedule
-pub along-kept : (s : State) (old new : List ℕ) (stride now shared : ℕ) (machines kept : List State) → 0 < now → AreKept stride now shared machines kept → take shared new ≡ take shared old
-    → AreAlong s old stride machines → AreAlong s new now kept
-along-kept s old new stride now shared machines kept some is same along = by is.are
+-- those that are retained for another schedule
+pub along-retained : (s : State) (old new : List ℕ) (stride now shared : ℕ) (machines retained : List State) → 0 < now → AreRetained stride now shared machines retained → take shared new ≡ take shared old
+    → AreAlong s old stride machines → AreAlong s new now retained
+along-retained s old new stride now shared machines retained some is same along = by is.are
   where
-    by : (kept ≡ []) ⊎ ((now ≡ stride) × (kept ≡ take (shared / stride) machines)) → AreAlong s new now kept
+    by : (retained ≡ []) ⊎ ((now ≡ stride) × (retained ≡ take (shared / stride) machines)) → AreAlong s new now retained
     by (inl none) = record { some = some; are = none ∙ sym (ap (λ (ms : List State). states_along s new now (length ms)) none) }
     by (inr p) =
         let first = along-first s old stride (shared / stride) machines along in
-        let at : AreAlong s old now kept = subst (λ n. AreAlong s old n kept) (sym p.0) (subst (AreAlong s old stride) (sym p.1) first) in
-        record { some = some; are = at.are ∙ same-along s old new now shared (length kept) (sym same) is.within }
+        let at : AreAlong s old now retained = subst (λ n. AreAlong s old n retained) (sym p.0) (subst (AreAlong s old stride) (sym p.1) first) in
+        record { some = some; are = at.are ∙ same-along s old new now shared (length retained) (sym same) is.within }
 
 -- there is one more machine, and the rest is shorter
 pub further-along : (s m : State) (pids rest following : List ℕ) (stride : ℕ) (machines more : List State) → AreAlong s pids stride machines

@@ -19,9 +19,9 @@ abbrev pub last_or : State → List State → State
 last_or s machines = get_or (s ∷ machines) (length machines) s
 
 -- all machines are removed, or all that are not within the first `shared` steps
-pub record AreKept (stride now shared : ℕ) (machines kept : List State) : Type 0 where
-  pub are : (kept ≡ []) ⊎ ((now ≡ stride) × (kept ≡ take (shared / stride) machines))
-  pub within : length kept * now ≤ shared
+pub record AreRetained (stride now shared : ℕ) (machines retained : List State) : Type 0 where
+  pub are : (retained ≡ []) ⊎ ((now ≡ stride) × (retained ≡ take (shared / stride) machines))
+  pub within : length retained * now ≤ shared
 
 -- a machine is in the state of the last checkpoint, and the rest of the schedule is left
 pub record IsAt (s : State) (pids : List ℕ) (stride : ℕ) (machines : List State) (rest : List ℕ) (machine : State) : Type 0 where

@@ -1,6 +1,6 @@
 //! Machines along the schedule that was followed last.
 ghost use Rattle.std.specs.Prelude.{◌≡◌, ◌*◌, ◌<◌, ◌≤◌, ◌++◌, ◌∷◌, [], length, take, IfOk, OnErr, OnOk};
-ghost use Rattle.pv_explore.specs.Checkpoints.{AreAlong, AreKept, last_or};
+ghost use Rattle.pv_explore.specs.Checkpoints.{AreAlong, AreRetained, last_or};
 ghost use Rattle.pv_explore.specs.Plan.{state_at};
 ghost use Rattle.pv_model.specs.Grammar.Programs.{program_of};
 ghost use Rattle.pv_model.specs.State.{State};
@@ -186,7 +186,7 @@ fn keep_within(
 )
     requires { 0 < stride.old }
     ensures some { 0 < stride.new }
-    ensures kept { AreKept stride.old stride.new shared along.old.items along.new.items }
+    ensures retained { AreRetained stride.old stride.new shared along.old.items along.new.items }
 {
     if *stride < steps / MOST_CHECKPOINTS {
         *stride *= 2;
