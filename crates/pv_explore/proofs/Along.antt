@@ -9,7 +9,7 @@ use Rattle.pv_model.specs.Grammar.Programs.{program_of}
 use Rattle.pv_model.specs.State.{State}
 use Rattle.pv_model.specs.Step.{Run, step}
 use Rattle.pv_model.proofs.Runs.{run-append}
-use Rattle.pv_session.proofs.Sizes.{runs-sizes}
+use Rattle.pv_explore.proofs.Sizes.{runs-sizes}
 use Rattle.pv_tree.specs.Sizes.{HaveSameSizes}
 
 -- the state after one more step

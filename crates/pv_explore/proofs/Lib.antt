@@ -4,7 +4,7 @@
 -- checkpoints), Booting (the rebuilt machine), Finding (the search, step by step), Graphed (the state graph),
 -- Explained (the lines of its steps), Rows (states as rows of small numbers), VisitedStates (the data stored with
 -- visited states), Followed (steps from the cache, and the states at the ends of witnesses), LastSteps (witnesses
--- stored as their last steps).
+-- stored as their last steps), Sizes (of images, which runs leave unchanged).
 pub mod Planned
 pub mod Turns
 pub mod KeyLists
@@ -19,3 +19,4 @@ pub mod Explained
 pub mod Rows
 pub mod VisitedStates
 pub mod LastSteps
+pub mod Sizes

@@ -1,5 +1,5 @@
 //! Machines along the schedule that was followed last.
-ghost use Rattle.std.specs.Prelude.{◌≡◌, ◌*◌, ◌<◌, ◌≤◌, ◌++◌, ◌∷◌, [], length, take, IfOk, OnErr, OnOk};
+ghost use Rattle.std.specs.Prelude.{◌≡◌, ◌*◌, ◌<◌, ◌≤◌, ◌++◌, ◌∷◌, [], true, length, take, IfOk, OnErr, OnOk};
 ghost use Rattle.pv_explore.specs.Checkpoints.{AreAlong, AreRetained, last_or};
 ghost use Rattle.pv_explore.specs.Plan.{state_at};
 ghost use Rattle.pv_model.specs.Grammar.Programs.{program_of};
@@ -149,6 +149,13 @@ fn push_copy(
     }
 }
 
+// Returns whether a checkpoint is made, given the number of checkpoints and of the steps that are left.
+fn makes_next(count: usize, stride: usize, left: usize) -> bool
+    ensures { result ≡ true → stride ≤ left }
+{
+    count < MOST_CHECKPOINTS && left >= stride
+}
+
 // Returns the machine at the end of a schedule, given checkpoints along it, and makes more checkpoints.
 fn go_along(
     alloc: Global,
@@ -165,7 +172,7 @@ fn go_along(
 {
     let mut machine = copy_of_last(alloc, first, along, free)?;
     let mut rest = &schedule[along.len() * stride..];
-    while along.len() < MOST_CHECKPOINTS && rest.len() >= stride {
+    while makes_next(along.len(), stride, rest.len()) {
         let (next, following) = rest.split_at(stride);
         machine.replay(alloc, next)?;
         push_copy(alloc, first, along, free, &machine)?;

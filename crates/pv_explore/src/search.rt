@@ -287,6 +287,32 @@ impl Search {
         checkpoints.position(alloc, &witness)
     }
 
+    // Makes a step of a process in state `number` with a machine. Writes its text if it is new, caches the transition,
+    // and visits the state after it.
+    fn make_uncached_move<W: Sink>(
+        &mut self,
+        alloc: Global,
+        checkpoints: &mut Checkpoints<'_>,
+        limit: u32,
+        number: u32,
+        pid: u32,
+        out: &mut W,
+    ) -> Result<(), Stop>
+        requires there { HasNumber self.old.states number (state_at program_of checkpoints.old (witness_at (visited_of self.old) number)) }
+        requires found { number < length (visited_of self.old).witnesses }
+        ensures unchanged { checkpoints.new ≡ checkpoints.old }
+        ensures visited { OnOk result (visited_of self.new ≡ visited_after limit (visited_of self.old) (move_at program_of checkpoints.old (witness_at (visited_of self.old) number) pid)) }
+        ensures whole { OnOk result (W.written out.new ≡ and_all (W.written out.old) (answer_bytes (lines_at self.old.reported (move_at program_of checkpoints.old (witness_at (visited_of self.old) number) pid)))) }
+        ensures prefix { OnErr result (WritesPrefix (answer_bytes (lines_at self.old.reported (move_at program_of checkpoints.old (witness_at (visited_of self.old) number) pid))) (W.written out.old) (W.written out.new)) }
+        ensures failed { IfErr result (λ stop. FailsBy stop (W.failures out.old) (W.failures out.new)) }
+        ensures quiet { OnOk result (W.failures out.new ≡ W.failures out.old) }
+    {
+        let from = self.position(alloc, checkpoints, number)?;
+        let machine = self.make_new_move(alloc, limit, number, from, pid, out)?;
+        checkpoints.release(machine);
+        Ok(())
+    }
+
     // Takes a step of a process in state `number`, from the cache if possible. Writes its text if it is new, and visits
     // the state after it.
     fn make_move<W: Sink>(
@@ -310,10 +336,7 @@ impl Search {
     {
         let limited = limit as usize;
         let Some(followed) = self.states.follow(alloc, limited, number as usize, pid)? else {
-            let from = self.position(alloc, checkpoints, number)?;
-            let machine = self.make_new_move(alloc, limit, number, from, pid, out)?;
-            checkpoints.release(machine);
-            return Ok(());
+            return self.make_uncached_move(alloc, checkpoints, limit, number, pid, out);
         };
         let Followed { text, found } = followed;
         report(

@@ -1,5 +1,3 @@
-use Rattle.std.proofs.Common.{◌∙◌, ap, sym, subst, arith}
-use Rattle.std.proofs.lemmas.Result.{on_ok_weaker}
 use Rattle.pv_explore.proofs.Along.{along-retained}
 use Rattle.pv_explore.proofs.checkpoints.turn_to.Goals as goal
 

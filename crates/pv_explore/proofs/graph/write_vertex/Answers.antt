@@ -1,4 +1,5 @@
-use Rattle.std.proofs.Common.{◌∙◌, ◌++◌, ap, codes, subst}
+use Rattle.std.proofs.Common.{◌≡◌, ◌∙◌, ◌++◌, ap, codes, subst}
+use Rattle.std.specs.Prelude.{OnErr, OnOk}
 use Rattle.std.specs.Fmt.{decimal}
 use Rattle.std.proofs.lemmas.Result.{on_err_weaker, on_ok_weaker}
 use Rattle.pv_explore.specs.Plan.{live_at}
@@ -8,6 +9,7 @@ use Rattle.pv_model.specs.Answers.Lines.{answer_bytes, answer_line, answer_line_
 use Rattle.pv_model.specs.Answers.ProcessRecord.{state_lines}
 use Rattle.pv_model.specs.Bytes.{Bytes}
 use Rattle.pv_model.specs.Grammar.Programs.{program_of}
+use Rattle.pv_model.specs.State.{State}
 use Rattle.pv_streams.specs.Sinks.{and_all, WritesPrefix}
 use Rattle.pv_streams.proofs.Reporting.{begins_first, begins_then, on_err, written_both}
 use Rattle.pv_explore.proofs.graph.write_vertex.Goals as goal
@@ -64,7 +66,11 @@ returns-clause-whole g c =
     (λ last.
     written_both front ((states ++ tree) ++ steps) _ _ _ c.in_ok-write_number.ensures.whole (written_both (states ++ tree) steps _ _ _ (written_both states tree _ _ _ first second) last)
     ∙ ap (and_all (g.W.Sink.written c.args.out.now)) (vertex-bytes c.args.states.now c.args.checkpoints.now c.args.witness.now c.args.tree c.args.number t c.in_ok-machine.ensures.at))
-    c.write_steps.ensures.whole
+    (subst
+    (λ (s : State).
+    OnOk c.write_steps.result
+    (g.W.Sink.written c.write_steps.new.out ≡ and_all (g.W.Sink.written c.write_tree.new.out) (steps_left_at c.args.states.now s c.args.witness.now (live_at program_of s c.args.witness.now))))
+    (c.release.ensures ∙ c.position.ensures.unchanged) c.write_steps.ensures.whole)
 
 pub returns-clause-prefix : goal.returns-clause-prefix
 returns-clause-prefix g c =
@@ -81,4 +87,8 @@ returns-clause-prefix g c =
     (vertex-bytes c.args.states.now c.args.checkpoints.now c.args.witness.now c.args.tree c.args.number t c.in_ok-machine.ensures.at)
     (begins_then front ((states ++ tree) ++ steps) _ _ _ c.in_ok-write_number.ensures.whole
     (begins_then (states ++ tree) steps _ _ _ (written_both states tree _ _ _ first second) begun)))
-    c.write_steps.ensures.prefix
+    (subst
+    (λ (s : State).
+    OnErr c.write_steps.result
+    (WritesPrefix (steps_left_at c.args.states.now s c.args.witness.now (live_at program_of s c.args.witness.now)) (g.W.Sink.written c.write_tree.new.out) (g.W.Sink.written c.write_steps.new.out)))
+    (c.release.ensures ∙ c.position.ensures.unchanged) c.write_steps.ensures.prefix)

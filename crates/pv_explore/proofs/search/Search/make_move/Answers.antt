@@ -1,4 +1,4 @@
-use Rattle.std.proofs.Common.{◌∙◌, ap, Option, refl, subst, sym}
+use Rattle.std.proofs.Common.{◌∙◌, ap, Option, refl, subst}
 use Rattle.pv_explore.specs.declared.states.Followed.{Followed}
 use Rattle.pv_explore.specs.VisitedStates.{MayFollow}
 use Rattle.pv_explore.specs.Plan.{visited_after, lines_at, state_at, reported_after}
@@ -11,7 +11,7 @@ use Rattle.pv_model.specs.Answers.Lines.{answer_bytes}
 use Rattle.pv_model.specs.Bytes.{Bytes}
 use Rattle.pv_model.specs.Grammar.Programs.{program_of}
 use Rattle.pv_streams.specs.Sinks.{and_all, WritesPrefix}
-use Rattle.pv_streams.proofs.Sinks.{begins_whole, written_nothing}
+use Rattle.pv_streams.proofs.Sinks.{begins_whole}
 use Rattle.pv_streams.proofs.Reporting.{on_err}
 use Rattle.pv_explore.proofs.search.Search.make_move.Goals as goal
 
@@ -20,32 +20,6 @@ follow-requires g c =
     let s = c.args.checkpoints.now in
     let witness = witness_at (visited_of c.args.self.now) c.args.number in
     (state_at program_of s witness, whole-at s witness c.requires.whole, c.requires.there)
-
-pub returns-in_err-from-clause-prefix : goal.returns-in_err-from-clause-prefix
-returns-in_err-from-clause-prefix g c = on_err c.from_residual-in_err-from.result (0, sym (written_nothing _ (g.W.Sink.written c.args.out.now)))
-
-pub returns-in_err-machine-clause-prefix : goal.returns-in_err-machine-clause-prefix
-returns-in_err-machine-clause-prefix g c =
-    let s = c.args.checkpoints.now in
-    let witness = witness_at (visited_of c.args.self.now) c.args.number in
-    let moved = move-is s c.in_ok-from.from witness (longer (visited_of c.args.self.now).witnesses c.args.number c.args.pid) c.args.pid refl c.in_ok-from.ensures.at in
-    on_err c.from_residual-in_err-machine.result
-    (subst (λ (m : Move). WritesPrefix (answer_bytes (lines_at c.args.self.now.reported m)) (g.W.Sink.written c.args.out.now) (g.W.Sink.written c.make_new_move.new.out)) moved
-    c.in_err-machine.ensures.prefix)
-
-pub returns-in_default-clause-visited : goal.returns-in_default-clause-visited
-returns-in_default-clause-visited g c =
-    let s = c.args.checkpoints.now in
-    let witness = witness_at (visited_of c.args.self.now) c.args.number in
-    let moved = move-is s c.in_ok-from.from witness (longer (visited_of c.args.self.now).witnesses c.args.number c.args.pid) c.args.pid refl c.in_ok-from.ensures.at in
-    c.in_ok-machine.ensures.visited ∙ ap (visited_after c.args.limit (visited_of c.args.self.now)) moved
-
-pub returns-in_default-clause-whole : goal.returns-in_default-clause-whole
-returns-in_default-clause-whole g c =
-    let s = c.args.checkpoints.now in
-    let witness = witness_at (visited_of c.args.self.now) c.args.number in
-    let moved = move-is s c.in_ok-from.from witness (longer (visited_of c.args.self.now).witnesses c.args.number c.args.pid) c.args.pid refl c.in_ok-from.ensures.at in
-    c.in_ok-machine.ensures.whole ∙ ap (λ (m : Move). and_all (g.W.Sink.written c.args.out.now) (answer_bytes (lines_at c.args.self.now.reported m))) moved
 
 pub returns-in_err-report-clause-prefix : goal.returns-in_err-report-clause-prefix
 returns-in_err-report-clause-prefix g c =

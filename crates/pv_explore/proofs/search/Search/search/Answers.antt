@@ -21,7 +21,7 @@ returns-in_err-make_moves-clause-prefix g c =
     let witness = witness_at visited c.loop-number.number in
     let at = found-witness c.args.first_machine.now visited c.loop-number.number c.loop-number.invariant.at (rw c.len-found.ensures at c.if-number-found.false) in
     let is = reported-next limit s c.loop-number.number visited (visited_after_steps limit program_of s witness (live_at program_of s witness) visited) witness c.loop-number-test.true at refl in
-    on_err c.from_residual-in_err-make_moves.result
+    on_err c.from_residual.result
     (subst (λ (bs : Bytes). WritesPrefix bs (g.W.Sink.written c.args.out.now) (g.W.Sink.written c.make_moves.new.out)) (reported-start limit s (visited_of c.args.self.now))
     (rest_begins _ _ _ _ _ _ _ c.loop-number.invariant.left is (rw c.loop-number.invariant.same at c.in_err-make_moves.ensures.prefix)))
 
@@ -34,7 +34,7 @@ make_moves-requires-clause-there g c =
     (number-at c.args.first_machine.now visited c.loop-number.number witness c.loop-number.invariant.at at)
 
 pub make_moves-requires-clause-whole : goal.make_moves-requires-clause-whole
-make_moves-requires-clause-whole g c = subst IsValid (sym c.loop-number.invariant.same) c.parts.ensures.whole
+make_moves-requires-clause-whole g c = subst IsValid (c.machine.ensures ∙ sym c.loop-number.invariant.same) c.parts.ensures.whole
 
 pub loop-number-preserved : goal.loop-number-preserved
 loop-number-preserved g c =

@@ -2,6 +2,7 @@ use Rattle.std.proofs.Common.{◌∙◌}
 use Rattle.pv_explore.proofs.VisitedStates.{cells-of_groups, fine-grew, fine-steps}
 use Rattle.pv_explore.proofs.Rows.{rows-grew, states-grew}
 use Rattle.pv_state_encoding.specs.Encoded.{encoded_all}
+use Rattle.pv_streams.proofs.Reporting.{on_ok}
 use Rattle.pv_explore.proofs.states.States.go_ahead.Goals as goal
 
 pub invariant_of-self : goal.invariant_of-self
@@ -21,18 +22,11 @@ invariant_of-self-2 c =
     let fine = fine-grew c.self.inside.parts c.self.inside.groups c.learn_cells.new.parts c.learn_cells.new.groups c.learn_cells.ensures.parts_grew c.learn_cells.ensures.groups_grew rows cells steps c.self.invariant in
     fine-steps c.make_ahead.new.parts c.make_ahead.new.groups rows cells steps c.make_ahead.new.steps.steps.items (fine-grew c.learn_cells.new.parts c.learn_cells.new.groups c.make_ahead.new.parts c.make_ahead.new.groups c.make_ahead.ensures.parts_grew c.make_ahead.ensures.groups_grew rows cells steps fine) c.make_ahead.ensures.steps
 
-pub invariant_of-self-in_err-make_ahead : goal.invariant_of-self-in_err-make_ahead
-invariant_of-self-in_err-make_ahead c =
-    let rows = c.self.inside.rows in
-    let cells = c.self.inside.cells.items in
-    let steps = c.self.inside.steps.steps.items in
-    let fine = fine-grew c.self.inside.parts c.self.inside.groups c.learn_cells.new.parts c.learn_cells.new.groups c.learn_cells.ensures.parts_grew c.learn_cells.ensures.groups_grew rows cells steps c.self.invariant in
-    fine-steps c.make_ahead.new.parts c.make_ahead.new.groups rows cells steps c.make_ahead.new.steps.steps.items (fine-grew c.learn_cells.new.parts c.learn_cells.new.groups c.make_ahead.new.parts c.make_ahead.new.groups c.make_ahead.ensures.parts_grew c.make_ahead.ensures.groups_grew rows cells steps fine) c.make_ahead.ensures.steps
-
 pub returns : goal.returns
 returns c =
     let rows = c.self.inside.rows in
     let all = rows-grew c.self.inside.parts c.self.inside.groups c.learn_cells.new.parts c.learn_cells.new.groups c.learn_cells.ensures.parts_grew c.learn_cells.ensures.groups_grew rows c.self.invariant.rows_are in
-    states-grew c.learn_cells.new.parts c.learn_cells.new.groups c.make_ahead.new.parts c.make_ahead.new.groups c.make_ahead.ensures.parts_grew c.make_ahead.ensures.groups_grew rows all
+    on_ok c.make_ahead.result
+    (states-grew c.learn_cells.new.parts c.learn_cells.new.groups c.make_ahead.new.parts c.make_ahead.new.groups c.make_ahead.ensures.parts_grew c.make_ahead.ensures.groups_grew rows all
     ∙ states-grew c.self.inside.parts c.self.inside.groups c.learn_cells.new.parts c.learn_cells.new.groups c.learn_cells.ensures.parts_grew c.learn_cells.ensures.groups_grew rows c.self.invariant.rows_are
-    ∙ c.self.view_is
+    ∙ c.self.view_is)
