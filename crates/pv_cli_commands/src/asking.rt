@@ -1,6 +1,7 @@
 //! Questions about runs and trees.
 ghost use Rattle.std.specs.Prelude.{◌≡◌};
 ghost use Rattle.pv_cli_commands.specs.Asking.{ReadsRunFiles, ReadsTreeFile, AsksRun, AsksTree, AsksBundle, AsksBundleFile, AsksFiles, AsksImage, AsksImageFile, AsksImageTree, AsksManifest, AsksManifestFile};
+ghost use Rattle.pv_cli_commands.specs.Status.{Flushes};
 ghost use Rattle.pv_cli_commands.specs.Streams.{disk_of, inputs_of};
 
 use crate::command::{RunInput, TreeInput};
@@ -139,6 +140,7 @@ fn ask_manifest_file<F: Files, W: Sink, P: Progress>(
 }
 
 // Answers a question about a run. The bundle `-` is read from the standard input.
+#[tactic(auto, using(crate::proofs::Outcomes::flushed_unwritten))]
 pub(crate) fn ask_run<F: Files, I: Source, W: Sink>(
     alloc: Global,
     files: &F,
@@ -148,6 +150,7 @@ pub(crate) fn ask_run<F: Files, I: Source, W: Sink>(
     out: &mut W,
 ) -> Result<(), Fault>
     ensures does { AsksRun (disk_of F.Files F.Reader.Source F.Writer.Sink) I.Source W.Sink files.now question.entry run.entry input.old input.new out.old out.new result }
+    ensures flushed { Flushes W.Sink out.old out.new result }
     ensures unread { ReadsRunFiles run.entry → input.new ≡ input.old }
 {
     match run {
@@ -160,6 +163,7 @@ pub(crate) fn ask_run<F: Files, I: Source, W: Sink>(
 }
 
 // Answers a question about a tree. The manifest `-` is read from the standard input.
+#[tactic(auto, using(crate::proofs::Outcomes::flushed_unwritten))]
 pub(crate) fn ask_tree_of<F: Files, I: Source, W: Sink, P: Progress>(
     alloc: Global,
     files: &F,
@@ -170,6 +174,7 @@ pub(crate) fn ask_tree_of<F: Files, I: Source, W: Sink, P: Progress>(
     out: &mut W,
 ) -> Result<(), Fault>
     ensures does { AsksTree (disk_of F.Files F.Reader.Source F.Writer.Sink) I.Source W.Sink files.now question.entry tree.entry input.old input.new out.old out.new result }
+    ensures flushed { Flushes W.Sink out.old out.new result }
     ensures unread { ReadsTreeFile tree.entry → input.new ≡ input.old }
 {
     match tree {

@@ -1,3 +1,6 @@
--- Lemmas about the command line: LineLemmas (the command in the matches of a line), Sizes (numbers in words).
+-- Lemmas about the command line: LineLemmas (the command in the matches of a line), Messages (their parts), Reported
+-- (errors), Sizes (numbers in words).
 pub mod LineLemmas
+pub mod Messages
+pub mod Reported
 pub mod Sizes

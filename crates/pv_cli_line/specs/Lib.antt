@@ -1,4 +1,5 @@
 pub mod Line
+pub mod Messages
 pub mod Parser
 pub mod Program
 pub mod Status

@@ -1,19 +1,22 @@
 -- The result of a whole run of the program.
-use Rattle.std.specs.Prelude.{◌≡◌, ◌≢◌, ℕ, Bool, true, false, List, Result, Ok, Err}
+use Rattle.std.specs.Prelude.{◌≡◌, ◌≢◌, ◌⊎◌, ℕ, Bool, true, false, ◌&&◌, not, List, Result, Ok, Err, IsOk, IsErr}
+use Rattle.pv_model.specs.declared.stream.Failed.{Failed}
 use Rattle.pv_model.specs.declared.stream.Sink.{Ghosts as Writing}
 use Rattle.pv_model.specs.declared.stream.Source.{Ghosts as Reading}
 use Rattle.pv_model.specs.Bytes.{Bytes}
 use Rattle.pv_cli_commands.specs.declared.command.Command.{Command}
-use Rattle.pv_cli_commands.specs.declared.fault.Fault.{Fault as CommandFault}
 use Rattle.pv_cli_commands.specs.declared.system.HostSystem.{HostSystem}
 use Rattle.pv_cli_commands.specs.Commands.{KeepsErrors, Performs, ReadsFiles, WritesFile}
 use Rattle.pv_cli_commands.specs.Faults.{Answer}
-use Rattle.pv_cli_commands.specs.Status.{is_reported as is_reported_by_command}
+use Rattle.pv_cli_commands.specs.Status.{Flushes, is_reported as is_reported_by_command}
 use Rattle.pv_cli_commands.specs.Streams.{Disk, Host}
+use Rattle.pv_cli_line.specs.declared.command.LineFault.{LineFault}
+use Rattle.pv_cli_line.specs.declared.command.LineFault.TheVariants.{Number}
 use Rattle.pv_cli_line.specs.declared.fault.Fault.{Fault}
 use Rattle.pv_cli_line.specs.declared.fault.Fault.TheVariants.{Command as OfCommand, Line, Words, Write}
-use Rattle.pv_cli_line.specs.Line.{IsAsked, RefusesLine}
-use Rattle.pv_cli_line.specs.Status.{line_status}
+use Rattle.pv_cli_line.specs.Line.{IsAsked, RefusesLine, is_verbose_line}
+use Rattle.pv_cli_line.specs.Messages.{WritesMessage, WritesMore}
+use Rattle.pv_cli_line.specs.Status.{status_of}
 
 -- only the output on the standard error is new
 abbrev pub WritesErrorsAlone : {F I O E : Type 0} → HostSystem F I O E → HostSystem F I O E → Type 0
@@ -23,37 +26,80 @@ WritesErrorsAlone before after = after ≡ record before { errors = after.errors
 abbrev pub WritesOutputAlone : {F I O E : Type 0} → HostSystem F I O E → HostSystem F I O E → Type 0
 WritesOutputAlone before after = after ≡ record before { output = after.output }
 
--- if the status is 0, only the requested text on the standard output is new; with another status, the report of the
--- failed write on the standard error is also new
-pub record WritesOutputOrErrors {F I O E : Type 0} (status : ℕ) (before after : HostSystem F I O E) : Type 0 where
-  pub as_written : status ≡ 0 → WritesOutputAlone before after
-  pub written : after ≡ record before { output = after.output; errors = after.errors }
+-- only a message on the standard error is new: a prefix of it, if a write of it failed
+pub record WritesError {F I O E : Type 0} (reporting : Writing E) (before after : HostSystem F I O E) : Type 0 where
+  pub alone : WritesErrorsAlone before after
+  pub written : Result (Unit {0}) Failed
+  pub message : WritesMessage reporting before.errors after.errors written
 
--- the error is already reported
+-- help or the version was written to the standard output and flushed, with status 0; or a write of it failed, and this
+-- was reported on the standard error, with status 4
+pub record Shows {F I O E : Type 0} (writing : Writing O) (reporting : Writing E) (before after : HostSystem F I O E) (status : ℕ) : Type 0 where
+  pub written : Result (Unit {0}) Failed
+  pub shown : HostSystem F I O E
+  pub alone : WritesOutputAlone before shown
+  pub message : WritesMessage writing before.output shown.output written
+  pub whole : IsOk written → (status ≡ 0) × (after ≡ shown)
+  pub cut : IsErr written → (status ≡ 4) × WritesError reporting shown after
+
+-- the command already reported the error
 abbrev pub is_reported : Fault → Bool
 is_reported (OfCommand fault) = is_reported_by_command fault
 is_reported fault = false
 
--- the words ask for a command, which was carried out and changed nothing else
-abbrev pub Runs : {F R V T I O E : Type 0} → Disk F R V → Host F T → Reading I → Writing O → Writing E → List Bytes → HostSystem F I O E → HostSystem F I O E → Answer → Type 0
-Runs disk host reading writing reporting words before after answer =
-    (command : Command) × IsAsked words command × Performs disk host reading writing reporting command before after answer
-    × (ReadsFiles command → after.input ≡ before.input) × (WritesFile command → after.output ≡ before.output)
-    × (KeepsErrors command → after.errors ≡ before.errors)
+-- an error was reported: nothing is new if it is already reported; otherwise its message was written, to the standard
+-- error or, for help and the version, to the standard output
+pub record Reports {F I O E : Type 0} (writing : Writing O) (reporting : Writing E) (fault : Fault) (before after : HostSystem F I O E) (status : ℕ)
+    : Type 0 where
+  pub status_is : status_of fault ≢ 0 → status ≡ status_of fault
+  pub reported : is_reported fault ≡ true → (after ≡ before) × (status ≡ status_of fault)
+  pub error : is_reported fault ≡ false → status_of fault ≢ 0 → WritesError reporting before after
+  pub shows : is_reported fault ≡ false → status_of fault ≡ 0 → Shows writing reporting before after status
 
--- the same for a command that ended early; its error was reported, unless it already was, and nothing else is new
-abbrev pub EndsEarly : {F R V T I O E : Type 0} → Disk F R V → Host F T → Reading I → Writing O → Writing E → List Bytes → HostSystem F I O E → HostSystem F I O E → CommandFault → Type 0
-EndsEarly {F} {R} {V} {T} {I} {O} {E} disk host reading writing reporting words before after fault =
-    (ended : HostSystem F I O E) × Runs disk host reading writing reporting words before ended (Err fault)
-    × WritesErrorsAlone ended after × (is_reported_by_command fault ≡ true → after ≡ ended)
+-- more lines were written to the standard error, if they are requested
+pub record Explains {F I O E : Type 0} (reporting : Writing E) (requested : Bool) (before after : HostSystem F I O E) : Type 0 where
+  pub alone : WritesErrorsAlone before after
+  pub lines : WritesMore reporting before.errors after.errors
+  pub unrequested : requested ≡ false → after ≡ before
 
--- the result of a whole run, with its status: the words ask for a command, which was carried out or ended early; or
--- they are refused, and only the report of this is new
+-- an error was reported, with an explanation if it is requested
+pub record ReportsAll {F I O E : Type 0} (writing : Writing O) (reporting : Writing E) (fault : Fault) (requested : Bool) (before after : HostSystem F I O E)
+    (status : ℕ) : Type 0 where
+  pub middle : HostSystem F I O E
+  pub reports : Reports writing reporting fault before middle status
+  pub explains : Explains reporting requested middle after
+
+-- the words ask for a command, which was carried out and changed nothing else; its output is flushed
+pub record Runs {F R V T I O E : Type 0} (disk : Disk F R V) (host : Host F T) (reading : Reading I) (writing : Writing O) (reporting : Writing E)
+    (words : List Bytes) (before after : HostSystem F I O E) (answer : Answer) : Type 0 where
+  pub command : Command
+  pub asked : IsAsked words command
+  pub does : Performs disk host reading writing reporting command before after answer
+  pub flushed : Flushes writing before.output after.output answer
+  pub unread : ReadsFiles command → after.input ≡ before.input
+  pub silent : WritesFile command → after.output ≡ before.output
+  pub unreported : KeepsErrors command → after.errors ≡ before.errors
+
+-- an argument is not a number
+abbrev pub is_number : LineFault → Bool
+is_number Number = true
+is_number fault = false
+
+-- the words ask for a command, which was carried out, with status 0; or it ended early, or the words are refused, and
+-- the error was reported, with its status
 abbrev pub ComesTo : {F R V T I O E : Type 0} → Disk F R V → Host F T → Reading I → Writing O → Writing E → List Bytes → HostSystem F I O E → HostSystem F I O E → ℕ
     → Result (Unit {0}) Fault → Type 0
-ComesTo disk host reading writing reporting words before after status (Ok done) = Runs disk host reading writing reporting words before after (Ok done)
-ComesTo disk host reading writing reporting words before after status (Err (OfCommand fault)) = EndsEarly disk host reading writing reporting words before after fault
+ComesTo disk host reading writing reporting words before after status (Ok done) =
+    (status ≡ 0) × Runs disk host reading writing reporting words before after (Ok done)
+ComesTo {F} {R} {V} {T} {I} {O} {E} disk host reading writing reporting words before after status (Err (OfCommand fault)) =
+    (ended : HostSystem F I O E) × Runs disk host reading writing reporting words before ended (Err fault)
+    × ReportsAll writing reporting (OfCommand fault) (is_verbose_line words && not (is_reported_by_command fault)) ended after status
 ComesTo disk host reading writing reporting words before after status (Err (Line fault)) =
-    RefusesLine words fault × (line_status fault ≢ 0 → WritesErrorsAlone before after) × (line_status fault ≡ 0 → WritesOutputOrErrors status before after)
+    RefusesLine words fault × ReportsAll writing reporting (Line fault) (is_number fault) before after status
 ComesTo disk host reading writing reporting words before after status (Err Words) = ⊥
 ComesTo disk host reading writing reporting words before after status (Err Write) = ⊥
+
+-- the result of a whole run, with its status
+abbrev pub EndsWith : {F R V T I O E : Type 0} → Disk F R V → Host F T → Reading I → Writing O → Writing E → List Bytes → HostSystem F I O E → HostSystem F I O E → ℕ → Type 0
+EndsWith disk host reading writing reporting words before after status =
+    (result : Result (Unit {0}) Fault) × ComesTo disk host reading writing reporting words before after status result

@@ -1,6 +1,6 @@
 -- The exit status: 0 for success, 1 for invalid input, 2 for the command line, 3 for out of memory, 4 for a failed read
 -- or write.
-use Rattle.std.specs.Prelude.{◌≡◌, ◌⊎◌, ℕ, Result, Ok, Err}
+use Rattle.std.specs.Prelude.{ℕ}
 use Rattle.clap.specs.Words.{kind_of}
 use Rattle.clap.specs.declared.error.kind.ErrorKind.{ErrorKind}
 use Rattle.clap.specs.declared.error.kind.ErrorKind.TheVariants.{DisplayHelp, DisplayVersion}
@@ -26,12 +26,3 @@ status_of (Command fault) = command_status fault
 status_of (Line fault) = line_status fault
 status_of Words = 2
 status_of Write = 4
-
--- the exit status of a run
-abbrev pub status_of_result : Result (Unit {0}) Fault → ℕ
-status_of_result (Ok done) = 0
-status_of_result (Err fault) = status_of fault
-
--- this status, or 4 if the requested text could not be written
-abbrev pub IsStatusOf : Result (Unit {0}) Fault → ℕ → Type 0
-IsStatusOf result status = (status ≡ status_of_result result) ⊎ ((status_of_result result ≡ 0) × (status ≡ 4))

@@ -3,6 +3,7 @@ ghost use Rattle.std.specs.Prelude.{◌≡◌, map, IfOk, IfErr};
 ghost use Rattle.clap.specs.Words.{subcommand_of};
 ghost use Rattle.pv_cli_line.specs.Line.{IsAsked, IsCommandIn, RefusesLine, RefusesWords, is_verbose_in, is_verbose_line};
 ghost use Rattle.pv_cli_line.specs.Parser.{pvsim_app};
+ghost use Rattle.pv_cli_line.specs.Program.{is_number};
 
 use crate::matches::{Parsed, found_in};
 use crate::parser::parser;
@@ -26,6 +27,15 @@ pub enum LineFault {
     /// There is no memory.
     #[error("pvsim: memory\n")]
     Memory,
+}
+
+impl LineFault {
+    // Returns whether an argument is not a number, or is out of range.
+    pub(crate) fn is_number(&self) -> bool
+        ensures { result ≡ is_number self.now }
+    {
+        matches!(self, LineFault::Number)
+    }
 }
 
 impl From<AllocError> for LineFault {

@@ -1,7 +1,9 @@
 //! The explanation of an error for `--verbose`: the file, the reason of the operating system, the line, and its
 //! expected form.
 //!
-//! The explanation is not specified by a contract. Each of its lines begins with two spaces.
+//! A contract says only that an explanation is written to the standard error. Each of its lines begins with two spaces.
+ghost use Rattle.pv_cli_line.specs.Messages.{WritesMore};
+
 use pv_cli_commands::{Command, Fault, Files, RunInput, TreeInput};
 use pv_host_copy::{ExportFault, ImportStop};
 use pv_model::{ImageFault, ListFault, ManifestFault, MigrateFault, RunFault};
@@ -404,13 +406,16 @@ fn explanation<F: Files>(
 }
 
 // Writes the explanation of a command's error. If there is no memory or a write fails, nothing more is written.
+#[tactic(auto, using(crate::proofs::Messages::more_written, crate::proofs::Messages::more_nothing))]
 pub(crate) fn explain<F: Files, E: Sink>(
     alloc: Global,
     files: &F,
     command: Command<'_>,
     fault: Fault,
     errors: &mut E,
-) {
+)
+    ensures { WritesMore E.Sink errors.old errors.new }
+{
     let names = names_of(command);
     let Ok(text) = explanation(alloc, files, &names, cause_of(fault)) else {
         return;
@@ -419,7 +424,9 @@ pub(crate) fn explain<F: Files, E: Sink>(
 }
 
 // Writes the expected form of a numeric argument. If the write fails, nothing more is written.
-pub(crate) fn explain_number<E: Sink>(errors: &mut E) {
+pub(crate) fn explain_number<E: Sink>(errors: &mut E)
+    ensures { WritesMore E.Sink errors.old errors.new }
+{
     let text =
         "  expected a decimal number without leading zeros: 0 to 4294967295 for PID, BLOCKS and INODES; 1 to 65536 for --slice and --steps; 1 to 4294967295 for --states; 1 or 2 for --version\n";
     let _written = write_through(errors, text.as_bytes());

@@ -2,9 +2,9 @@
 //!
 //! `parser` builds the parser from the table of the commands. `matches` finds the command in the parser's matches, with
 //! its texts and numbers (`texts`), and `command` returns it or the error in the command line. `fault` has the error
-//! messages, and `explaining` their explanations for `--verbose`. `program` is the whole program: it carries out the
-//! command, reports an error, and returns the exit status. A `main` passes it the words, the files and the streams of
-//! the operating system.
+//! messages, `message` writes them, and `explaining` explains them for `--verbose`. `program` is the whole program: it
+//! carries out the command, reports an error, and returns the exit status. A `main` passes it the words, the files and
+//! the streams of the operating system.
 //!
 //! Contracts cite the words and `clap`'s matches of them. If no command matches, the words are rejected and nothing is
 //! run.
@@ -14,6 +14,7 @@ pub mod command;
 mod explaining;
 pub mod fault;
 mod matches;
+mod message;
 mod parser;
 pub mod program;
 mod texts;

@@ -1,18 +1,56 @@
-use Rattle.std.proofs.Common.{Ok, Err, inl, refl}
-use Rattle.pv_cli_line.specs.declared.fault.Fault.TheVariants.{Command as OfCommand}
+use Rattle.std.proofs.Common.{◌∙◌, Ok, Err, Bool, ap, refl, subst}
+use Rattle.std.specs.Prelude.{◌&&◌, not}
+use Rattle.pv_cli_commands.proofs.Outcomes.{flushed_by_status}
+use Rattle.pv_cli_commands.specs.Status.{is_reported}
+use Rattle.pv_cli_line.specs.declared.fault.Fault.TheVariants.{Command as OfCommand, Line as OfLine}
+use Rattle.pv_cli_line.specs.Program.{ReportsAll}
 use Rattle.pv_cli_line.proofs.program.run.Goals as goal
 
-pub returns-in-Ok-perform-clause-comes : goal.returns-in-Ok-perform-clause-comes
-returns-in-Ok-perform-clause-comes g c =
-    let done = c.in-Ok-perform.ensures in
-    (Ok c.in-Ok-perform.field-0, inl refl, (c.in-Ok.line.command, c.in-Ok.ensures.asked, done.does, done.unread, done.silent, done.unreported))
+pub returns-in-Err-clause-ends : goal.returns-in-Err-clause-ends
+returns-in-Err-clause-ends g c = (Err (OfLine c.in-Err.fault), (c.in-Err.ensures.refused, c.report_words.ensures.reports))
 
-pub returns-in-Err-perform-clause-comes : goal.returns-in-Err-perform-clause-comes
-returns-in-Err-perform-clause-comes g c =
-    let fault = c.in-Err-perform.fault in
-    let ended = c.in-Err-perform.ensures in
-    let reported = c.report_all.ensures in (
-      Err (OfCommand fault),
-      inl reported.status,
-      (c.perform.new.system, (c.in-Ok.line.command, c.in-Ok.ensures.asked, ended.does, ended.unread, ended.silent, ended.unreported), reported.errors, reported.reported),
+pub returns-in-Ok-perform-clause-ends : goal.returns-in-Ok-perform-clause-ends
+returns-in-Ok-perform-clause-ends g c =
+    let done = c.in-Ok-perform.ensures in (
+      Ok c.in-Ok-perform.field-0,
+      (
+        refl,
+        record {
+          command = c.in-Ok.line.command;
+          asked = c.in-Ok.ensures.asked;
+          does = done.does;
+          flushed = done.flushed;
+          unread = done.unread;
+          silent = done.silent;
+          unreported = done.unreported;
+        },
+      ),
     )
+
+pub returns-in-Err-perform-clause-ends : goal.returns-in-Err-perform-clause-ends
+returns-in-Err-perform-clause-ends g c =
+    let fault = c.in-Err-perform.fault in
+    let ended = c.in-Err-perform.ensures in (
+      Err (OfCommand fault),
+      (
+        c.perform.new.system,
+        record {
+          command = c.in-Ok.line.command;
+          asked = c.in-Ok.ensures.asked;
+          does = ended.does;
+          flushed = ended.flushed;
+          unread = ended.unread;
+          silent = ended.silent;
+          unreported = ended.unreported;
+        },
+        subst
+            (λ (v : Bool). ReportsAll g.O.Sink g.E.Sink (OfCommand fault) (v && not (is_reported fault)) c.perform.new.system c.report_all.new.system c.report_all.result)
+            c.in-Ok.ensures.verbose c.report_all.ensures.reports,
+      ),
+    )
+
+pub returns-in-Err-perform-clause-flushed : goal.returns-in-Err-perform-clause-flushed
+returns-in-Err-perform-clause-flushed g c empty other =
+    let ended = c.in-Err-perform.ensures in
+    ap g.O.Sink.buffered c.report_all.ensures.output
+    ∙ flushed_by_status c.in-Err-perform.fault _ (ended.flushed empty) (λ four. other (c.report_all.ensures.reports.reports.status_is ended.failed ∙ four))
