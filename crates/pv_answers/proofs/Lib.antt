@@ -1,11 +1,12 @@
 -- Lemmas about answers.
--- - texts: Reported (the output of a sink), Rows (texts of many parts, the front of a buffer), Keywords (of a set),
+-- - texts: Writing (a writer that calls others), Reported (the output of a sink), Rows (texts of many parts, the front of a buffer), Keywords (of a set),
 --   Paths (of nodes)
 -- - processes: Following (from one number to the next), NextOnes (the next instruction), Locations, OpenLines and
 --   Holdings (descriptors, entries and memory), States (all processes)
 -- - places: Permitted (by the governing entry), Listed (names, one entry at a time), Absent (entries for absent names),
 --   Opened (open descriptors), Removed (removed directories), Reached (all lines)
 pub mod Reported
+pub mod Writing
 pub mod Rows
 pub mod Keywords
 pub mod Paths

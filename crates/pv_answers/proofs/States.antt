@@ -1,5 +1,5 @@
 -- The lines of all processes, one process at a time.
-use Rattle.std.proofs.Common.{◌≡◌, ℕ, List, ◌++◌, flat_map, Option, None, ap, sym, subst, ◌∙◌}
+use Rattle.std.proofs.Common.{◌≡◌, ℕ, List, [], ◌++◌, flat_map, Option, None, ap, sym, ◌∙◌}
 use Rattle.std.specs.FinMap.Entries.{find}
 use Rattle.std.specs.Ordering.{nat_cmp}
 use Rattle.std.proofs.lemmas.Grind.{flat_map-append}
@@ -9,8 +9,6 @@ use Rattle.pv_model.specs.Bytes.{Bytes}
 use Rattle.pv_model.specs.State.{ProcessRecord, State}
 use Rattle.pv_calls_state.specs.Counts.{processes_of}
 use Rattle.pv_procs.specs.ProcessTable.{IsProcessTable, number_after}
-use Rattle.pv_streams.specs.Sinks.{and_all}
-use Rattle.pv_listing.proofs.Rests.{LeavesRest, rest_all, written_text}
 use Rattle.pv_answers.specs.Holdings.{held_of, held_by, location_of}
 use Rattle.pv_answers.proofs.Following.{Recorded, IsNextRecord, all-after, none-after, records_after}
 
@@ -24,17 +22,14 @@ module _ (s : State) where
   abbrev all : List Recorded
   all = s.processes
 
-  pub locations-left : (out : Option Bytes) → IsProcessTable (processes_of s) → LeavesRest (answer_bytes (locations_of (records_after 0 all))) (answer_bytes (locations s)) out out
+  -- the lines after process 0 are all lines
+  pub locations-all : IsProcessTable (processes_of s) → answer_bytes (locations_of (records_after 0 all)) ≡ answer_bytes (locations s)
   unfolding locations
-  locations-left out is =
-      let same : answer_bytes (locations_of (records_after 0 all)) ≡ answer_bytes (locations_of all) = ap (λ rs. answer_bytes (locations_of rs)) (all-after s.last_process all is.numbers) in
-      subst (λ rest. LeavesRest rest (answer_bytes (locations_of all)) out out) (sym same) (rest_all (answer_bytes (locations_of all)) out)
+  locations-all is = ap (λ rs. answer_bytes (locations_of rs)) (all-after s.last_process all is.numbers)
 
-  pub lines-left : (out : Option Bytes) → IsProcessTable (processes_of s) → LeavesRest (answer_bytes (lines_of_all s (records_after 0 all))) (answer_bytes (state_lines s)) out out
+  pub lines-all : IsProcessTable (processes_of s) → answer_bytes (lines_of_all s (records_after 0 all)) ≡ answer_bytes (state_lines s)
   unfolding state_lines
-  lines-left out is =
-      let same : answer_bytes (lines_of_all s (records_after 0 all)) ≡ answer_bytes (lines_of_all s all) = ap (λ rs. answer_bytes (lines_of_all s rs)) (all-after s.last_process all is.numbers) in
-      subst (λ rest. LeavesRest rest (answer_bytes (lines_of_all s all)) out out) (sym same) (rest_all (answer_bytes (lines_of_all s all)) out)
+  lines-all is = ap (λ rs. answer_bytes (lines_of_all s rs)) (all-after s.last_process all is.numbers)
 
   module _ (last pid : ℕ) (next : IsNextRecord last pid all) where
     -- the lines of the next process, and of those after it
@@ -51,13 +46,9 @@ module _ (s : State) where
         ∙ ap (λ (bs : Bytes). bs ++ answer_bytes rest) (flat_map-append answer_line_bytes (location_lines pid next.entry) (held_lines s pid next.entry))
         ∙ ap (λ (o : Option ProcessRecord). (answer_bytes (location_of pid o) ++ answer_bytes (held_of s pid o)) ++ answer_bytes rest) (sym next.found)
 
-  -- past the last process
-  pub locations-end : (last : ℕ) (text : Bytes) (before after : Option Bytes) → number_after last all ≡ None
-      → LeavesRest (answer_bytes (locations_of (records_after last all))) text before after → after ≡ and_all before text
-  locations-end last text before after none left =
-      written_text text before after (subst (λ rest. LeavesRest rest text before after) (ap (λ rs. answer_bytes (locations_of rs)) (none-after last all none)) left)
+  -- no lines follow those of the last process
+  pub locations-end : (last : ℕ) → number_after last all ≡ None → answer_bytes (locations_of (records_after last all)) ≡ []
+  locations-end last none = ap (λ rs. answer_bytes (locations_of rs)) (none-after last all none)
 
-  pub lines-end : (last : ℕ) (text : Bytes) (before after : Option Bytes) → number_after last all ≡ None
-      → LeavesRest (answer_bytes (lines_of_all s (records_after last all))) text before after → after ≡ and_all before text
-  lines-end last text before after none left =
-      written_text text before after (subst (λ rest. LeavesRest rest text before after) (ap (λ rs. answer_bytes (lines_of_all s rs)) (none-after last all none)) left)
+  pub lines-end : (last : ℕ) → number_after last all ≡ None → answer_bytes (lines_of_all s (records_after last all)) ≡ []
+  lines-end last none = ap (λ rs. answer_bytes (lines_of_all s rs)) (none-after last all none)

@@ -1,16 +1,13 @@
-use Rattle.std.proofs.Common.{◌≡◌, length}
-use Rattle.pv_listing.proofs.Rests.{LeavesRest}
+use Rattle.std.proofs.Common.{length}
 use Rattle.pv_model.specs.Answers.Lines.{answer_bytes}
 use Rattle.pv_model.specs.Answers.ProcessRecord.{state_lines}
 use Rattle.pv_answers.proofs.Following.{records_after}
 use Rattle.pv_answers.proofs.States.{lines_of_all}
+use Rattle.pv_answers.proofs.Writing.{WritesBut}
 use Rattle.pv_answers.proofs.state.write_state.Given as goal
 
 abbrev pub invariant-loop-pid : goal.invariant-loop-pid
-invariant-loop-pid g l = record {
-  left : LeavesRest (answer_bytes (lines_of_all l.parts (records_after l.last l.parts.processes))) (answer_bytes (state_lines l.parts)) (g.W.Sink.written l.fn.out) (g.W.Sink.written l.out);
-  quiet : g.W.Sink.failures l.out ≡ g.W.Sink.failures l.fn.out;
-}
+invariant-loop-pid g l = WritesBut g.W.Sink (answer_bytes (lines_of_all l.parts (records_after l.last l.parts.processes))) (answer_bytes (state_lines l.parts)) l.fn.out l.out
 
 abbrev pub decreases-loop-pid : goal.decreases-loop-pid
 decreases-loop-pid g l = length (records_after l.last l.parts.processes)

@@ -1,4 +1,4 @@
-use Rattle.std.proofs.Common.{◌≡◌, ◌∙◌, ap, sym, arith, rules, if◌then◌else◌, [], Some}
+use Rattle.std.proofs.Common.{◌≡◌, ◌∙◌, ap, sym, rules, if◌then◌else◌, []}
 use Rattle.std.proofs.lemmas.Bool.{eq-eqb}
 use Rattle.pv_answers.specs.Reaching.{descriptor_words, words_on}
 use Rattle.pv_answers.proofs.Reported.{whole_as}
