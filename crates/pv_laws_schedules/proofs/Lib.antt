@@ -1,0 +1,7 @@
+-- Lemmas about searches and the answers over every schedule.
+-- - `compare`: Searches (breadth-first search of any elements), Pairs (the search of pairs), Shown (what a step's text
+--   shows), AlikeRuns.
+pub mod Searches
+pub mod Pairs
+pub mod Shown
+pub mod AlikeRuns
