@@ -1,7 +1,10 @@
 -- Lemmas about searches and the answers over every schedule.
 -- - `compare`: Searches (breadth-first search of any elements), Pairs (the search of pairs), Shown (what a step's text
 --   shows), AlikeRuns.
+-- - `access`: Reached (the visited states), Happening (reported observations).
 pub mod Searches
 pub mod Pairs
 pub mod Shown
 pub mod AlikeRuns
+pub mod Reached
+pub mod Happening

@@ -4,6 +4,8 @@
 //! Each law is a function with an empty body whose contract is the statement, defined in `specs/`.
 //!
 //! - `compare`: two images with the same programs.
+//! - `access`: which process can access what, and the files that no step reads.
 #![tactic(auto)]
 
+pub mod access;
 pub mod compare;
