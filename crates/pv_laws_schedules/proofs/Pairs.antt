@@ -132,7 +132,7 @@ known-pair m found is =
     let parts = and_parts (same_state there.0.states.first m.first.after) (same_state there.0.states.second m.second.after) there.2 in
     (there.0, there.1, pair-equal there.0.states (pair_after m) ((reported-apart there.0.states.first m.first.after).0 parts.0) ((reported-apart there.0.states.second m.second.after).0 parts.1))
 
-among-range : (k n pid : ℕ) → k ≤ pid → pid < k + n → Among pid (range_with_len k n)
+pub among-range : (k n pid : ℕ) → k ≤ pid → pid < k + n → Among pid (range_with_len k n)
 among-range k zero pid low high = absurd (omega arith)
 among-range k (suc n) pid low high = by (among-range (k + 1) n pid) (pid == k) refl
   where

@@ -1,16 +1,22 @@
 -- Laws of `access`: the accesses that it lists, and the files that it lists as unread.
-use Rattle.std.specs.Prelude.{◌≡◌, ◌≢◌, ℕ, ◌≤◌, List, [], ◌∷◌, ◌++◌, length, Contains, Option, Some}
+use Rattle.std.specs.Prelude.{◌≡◌, ◌≢◌, ℕ, ◌≤◌, IsTrue, List, [], ◌∷◌, ◌++◌, length, Contains, Option, Some}
 use Rattle.std.specs.List.{AllByRecursion}
 use Rattle.pv_model.specs.declared.call.Call.{Call}
-use Rattle.pv_model.specs.Answers.Access.{Access, accesses, access_line, lines_of_accesses, reported_accesses}
+use Rattle.pv_model.specs.Answers.Access.{Access, accesses, access_line, lines_of_accesses, reported_accesses, unread_files}
+use Rattle.pv_model.specs.Answers.Explore.{is_complete}
 use Rattle.pv_model.specs.Answers.Lines.{AnswerLine, answer_line_bytes}
 use Rattle.pv_model.specs.Answers.Numbers.{Numbers}
 use Rattle.pv_model.specs.Answers.Observed.{Observer, Observation, of_calls}
 use Rattle.pv_model.specs.Bytes.{Bytes}
+use Rattle.pv_model.specs.Calls.Descriptors.{with_content}
+use Rattle.pv_model.specs.Effect.{bytes_of}
 use Rattle.pv_model.specs.Program.{calls_for, next}
 use Rattle.pv_model.specs.State.{Program, Process, State, process_at}
-use Rattle.pv_model.specs.Step.{step, run}
+use Rattle.pv_model.specs.Step.{step, run, boot}
+use Rattle.pv_model.specs.Tree.{Tree, node_at}
+use Rattle.pv_laws_states.specs.States.{EncodesPrograms, IsFirstTree}
 use Rattle.pv_laws_answers.specs.Search.{IsSearched}
+use Rattle.pv_laws_answers.specs.Unread.{IsReadByNone, StartsAlike}
 use Rattle.pv_laws_answers.specs.Witnesses.{AreSteps, EachToLater}
 
 -- an item is observed of the last step of its witness, and each schedule with such a step is as long
@@ -45,3 +51,18 @@ pub record ListedAccesses (program_of : Bytes → Option Program) (limit : ℕ) 
 
 abbrev pub ListedAccessesHappen : Type 0
 ListedAccessesHappen = (program_of : Bytes → Option Program) (limit : ℕ) (s : State) → IsSearched program_of limit s → ListedAccesses program_of limit s
+
+-- ---- unread files
+
+-- no step of a live process from a visited state reads a file that is listed as unread
+abbrev pub UnreadFilesAreReadByNone : Type 0
+UnreadFilesAreReadByNone =
+    (program_of : Bytes → Option Program) (limit : ℕ) (s : State) (f : ℕ) → IsSearched program_of limit s → Contains (unread_files program_of limit s) f → IsReadByNone program_of limit s f
+
+-- if the search is complete, each image that differs only in the bytes of such a file, with equal length, boots and has
+-- the same texts and witnesses
+abbrev pub UnreadFilesChangeNothing : Type 0
+UnreadFilesChangeNothing =
+    (program_of : Bytes → Option Program) (limit : ℕ) (t : Tree) (s : State) (f : ℕ) (bytes : Bytes) → EncodesPrograms program_of → 1 ≤ limit
+    → IsFirstTree t → IsFirstTree (with_content t f bytes) → length bytes ≡ length (bytes_of (node_at t f))
+    → boot program_of t ≡ Some s → IsTrue (is_complete program_of limit s) → Contains (unread_files program_of limit s) f → StartsAlike program_of limit s t f bytes
