@@ -1,0 +1,296 @@
+-- The lines of `exposure`: each leak of each state is listed, and each listed line leaks.
+use Rattle.std.proofs.Common.{◌≡◌, ◌∙◌, sym, ap, subst, ℕ, suc, ◌≤◌, Bool, true, false, not, ◌||◌, ◌==◌, if◌then◌else◌, max, fold, List, [], ◌∷◌, map, flat_map, Contains, Option, Some, ◌⊎◌, inl, inr, refl, arith}
+use Rattle.std.specs.List.{AllByRecursion, list_all, range_with_len}
+use Rattle.std.proofs.lemmas.Bool.Decides.{nat_tests}
+use Rattle.pv_model.specs.declared.verdict.Why.{Why}
+use Rattle.pv_model.specs.Answers.Explore.{Found, states_found, is_complete}
+use Rattle.pv_model.specs.Answers.Exposure.{Located, located_at, located, program_key, Leak, leak_of, leaks_at, line_of, greatest_line, onto_ranges, in_ranges, lines_leaking, is_closed_to, safe_files}
+use Rattle.pv_model.specs.Answers.Files.{node_brief, is_file_at, named_files, files_of_tree}
+use Rattle.pv_model.specs.Answers.ProgramNames.{program_numbers}
+use Rattle.pv_model.specs.Bytes.{Bytes, is_empty}
+use Rattle.pv_model.specs.Closed.{IsClosed}
+use Rattle.pv_model.specs.Held.{among, live_processes}
+use Rattle.pv_model.specs.Sealed.{leaks}
+use Rattle.pv_model.specs.State.{Program, Process, State, process_at}
+use Rattle.pv_model.specs.Step.{run}
+use Rattle.pv_laws_access.proofs.Verdicts.{leaks-closed}
+use Rattle.pv_laws_states.specs.States.{IsValid}
+use Rattle.pv_laws_answers.specs.Search.{IsSearched}
+use Rattle.pv_laws_answers.proofs.Complete.{among-contains, all-found}
+use Rattle.pv_laws_answers.proofs.Lists.{Among, all-among, among-any, any-among, among-filter, among-flat, among-map, filter-among, flat-among, map-among}
+use Rattle.pv_laws_answers.proofs.LiveOnes.{live-listed, listed-live}
+use Rattle.pv_laws_answers.proofs.Searching.{found-there}
+use Rattle.pv_laws_schedules.specs.Exposure.{leaks_by_file, programs, IsListedLeak, IsLeak, UnlistedLinesAreClosed, ListedLinesLeak, SafeFilesAreClosed}
+use Rattle.pv_laws_schedules.proofs.Groups.{HasGroup, grouped, of-group, in-group, same-programs}
+use Rattle.pv_laws_schedules.proofs.Pairs.{among-range}
+use Rattle.pv_laws_schedules.proofs.Reached.{contains-among, sound-at}
+
+-- ---- ranges
+
+abbrev IsCovered : ℕ → List (ℕ × ℕ) → Type 0
+IsCovered n rs = (r : ℕ × ℕ) × Among r rs × (r.0 ≤ n) × (n ≤ r.1)
+
+-- no range is empty
+AreRanges : List (ℕ × ℕ) → Type 0
+AreRanges rs = AllByRecursion (λ r. r.0 ≤ r.1) rs
+
+onto-are : (n : ℕ) (rs : List (ℕ × ℕ)) → AreRanges rs → AreRanges (onto_ranges n rs)
+unfolding AreRanges
+onto-are n [] are = (omega arith, tt)
+onto-are n ((from, to) ∷ rs) are = by (suc n == from) refl
+  where
+    by : (b : Bool) → (suc n == from) ≡ b → AreRanges (if b then (n, to) ∷ rs else (n, n) ∷ (from, to) ∷ rs)
+    by true is = (let e : suc n ≡ from = grind (arith, nat_tests) in omega (arith, are.0), are.1)
+    by false is = (omega arith, are)
+
+are-ranges : (ns : List ℕ) → AreRanges (in_ranges ns)
+unfolding AreRanges
+are-ranges [] = tt
+are-ranges (n ∷ ns) = onto-are n (in_ranges ns) (are-ranges ns)
+
+onto-covers : (n m : ℕ) (rs : List (ℕ × ℕ)) → AreRanges rs → (m ≡ n) ⊎ IsCovered m rs → IsCovered m (onto_ranges n rs)
+unfolding AreRanges
+onto-covers n m [] are (inl e) = ((n, n), inl refl, omega arith, omega arith)
+onto-covers n m [] are (inr c) = absurd c.1
+onto-covers n m ((from, to) ∷ rs) are c = by (suc n == from) refl c
+  where
+    by : (b : Bool) → (suc n == from) ≡ b → (m ≡ n) ⊎ IsCovered m ((from, to) ∷ rs) → IsCovered m (if b then (n, to) ∷ rs else (n, n) ∷ (from, to) ∷ rs)
+    by true is (inl e) = let next : suc n ≡ from = grind (arith, nat_tests) in ((n, to), inl refl, omega arith, omega (arith, are.0))
+    by true is (inr (r, inl e, low, high)) =
+        let next : suc n ≡ from = grind (arith, nat_tests) in
+        let a : r.0 ≡ from = ap (λ (p : ℕ × ℕ). p.0) e in
+        let b : r.1 ≡ to = ap (λ (p : ℕ × ℕ). p.1) e in
+        ((n, to), inl refl, omega (arith, low, a, next), omega (arith, high, b))
+    by true is (inr (r, inr h, low, high)) = (r, inr h, low, high)
+    by false is (inl e) = ((n, n), inl refl, omega arith, omega arith)
+    by false is (inr (r, h, low, high)) = (r, inr h, low, high)
+
+onto-covered : (n m : ℕ) (rs : List (ℕ × ℕ)) → IsCovered m (onto_ranges n rs) → (m ≡ n) ⊎ IsCovered m rs
+onto-covered n m [] (r, inl e, low, high) =
+    let a : r.0 ≡ n = ap (λ (p : ℕ × ℕ). p.0) e in
+    let b : r.1 ≡ n = ap (λ (p : ℕ × ℕ). p.1) e in
+    inl (omega (arith, low, high, a, b))
+onto-covered n m [] (r, inr h, low, high) = absurd h
+onto-covered n m ((from, to) ∷ rs) c = by (suc n == from) refl c
+  where
+    first : (r : ℕ × ℕ) → r ≡ (n, to) → suc n ≡ from → r.0 ≤ m → m ≤ r.1 → (k : ℕ) → (m == n) ≡ true ⊎ ((m == n) ≡ false) → (m ≡ n) ⊎ IsCovered m ((from, to) ∷ rs)
+    first r e next low high k (inl same) = inl (grind (arith, nat_tests))
+    first r e next low high k (inr other) =
+        let a : r.0 ≡ n = ap (λ (p : ℕ × ℕ). p.0) e in
+        let b : r.1 ≡ to = ap (λ (p : ℕ × ℕ). p.1) e in
+        let apart : m ≡ n → ⊥ = λ same. (let yes' : (m == n) ≡ true = grind (arith, nat_tests) in let bad : true ≡ false = sym yes' ∙ other in cc bad) in
+        inr ((from, to), inl refl, omega (arith, low, a, next, apart), omega (arith, high, b))
+
+    both : (b : Bool) → (m == n) ≡ b → ((m == n) ≡ true) ⊎ ((m == n) ≡ false)
+    both true is = inl is
+    both false is = inr is
+
+    by : (b : Bool) → (suc n == from) ≡ b → IsCovered m (if b then (n, to) ∷ rs else (n, n) ∷ (from, to) ∷ rs) → (m ≡ n) ⊎ IsCovered m ((from, to) ∷ rs)
+    by true is (r, inl e, low, high) = first r e (grind (arith, nat_tests)) low high 0 (both (m == n) refl)
+    by true is (r, inr h, low, high) = inr (r, inr h, low, high)
+    by false is (r, inl e, low, high) =
+        let a : r.0 ≡ n = ap (λ (p : ℕ × ℕ). p.0) e in
+        let b : r.1 ≡ n = ap (λ (p : ℕ × ℕ). p.1) e in
+        inl (omega (arith, low, high, a, b))
+    by false is (r, inr h, low, high) = inr (r, h, low, high)
+
+-- the ranges cover exactly the numbers
+ranges-cover : (m : ℕ) (ns : List ℕ) → Among m ns → IsCovered m (in_ranges ns)
+ranges-cover m [] h = absurd h
+ranges-cover m (n ∷ ns) (inl e) = onto-covers n m (in_ranges ns) (are-ranges ns) (inl e)
+ranges-cover m (n ∷ ns) (inr h) = onto-covers n m (in_ranges ns) (are-ranges ns) (inr (ranges-cover m ns h))
+
+covered-by : (m : ℕ) (ns : List ℕ) → IsCovered m (in_ranges ns) → Among m ns
+covered-by m [] c = absurd c.1
+covered-by m (n ∷ ns) c = by (onto-covered n m (in_ranges ns) c) (covered-by m ns)
+  where
+    by : (m ≡ n) ⊎ IsCovered m (in_ranges ns) → (IsCovered m (in_ranges ns) → Among m ns) → Among m (n ∷ ns)
+    by (inl e) later = inl e
+    by (inr c) later = inr (later c)
+
+-- ---- the lines of leaks
+
+max-least : (xs : List ℕ) (k : ℕ) → k ≤ fold max k xs
+max-least [] k = omega arith
+max-least (x ∷ xs) k = let rest = max-least xs (max k x) in omega (arith, rest)
+
+max-most : (xs : List ℕ) (k x : ℕ) → Among x xs → x ≤ fold max k xs
+max-most [] k x h = absurd h
+max-most (y ∷ ys) k x (inl e) = let rest = max-least ys (max k y) in omega (arith, rest, e)
+max-most (y ∷ ys) k x (inr h) = max-most ys (max k y) x h
+
+line-listed : (ls : List Leak) (leak : Leak) → Among leak ls → 1 ≤ line_of leak → Among (line_of leak) (lines_leaking ls)
+line-listed ls leak h low =
+    let line = among-map line_of leak ls h in
+    let equal : (line_of leak == line_of leak) ≡ true = grind (arith, nat_tests) in
+    among-filter (among (map line_of ls)) (line_of leak) (range_with_len 1 (greatest_line ls))
+    (among-range 1 (greatest_line ls) (line_of leak) low (omega (arith, max-most (map line_of ls) 0 (line_of leak) line)))
+    (any-among (λ m. m == line_of leak) (line_of leak) (map line_of ls) line equal)
+
+listed-line : (ls : List Leak) (n : ℕ) → Among n (lines_leaking ls) → (leak : Leak) × Among leak ls × (line_of leak ≡ n)
+listed-line ls n h =
+    let parts = filter-among (among (map line_of ls)) n (range_with_len 1 (greatest_line ls)) h in
+    let there = among-any (λ m. m == n) (map line_of ls) parts.1 in
+    let leak = map-among line_of there.0 ls there.1 in
+    (leak.0, leak.1, sym leak.2 ∙ grind (arith, nat_tests, there.2))
+
+-- ---- the processes of states
+
+module _ (program_of : Bytes → Option Program) (limit : ℕ) (s : State) (it : IsSearched program_of limit s) where
+  abbrev found : List Found
+  found = states_found program_of limit s
+
+  abbrev place : Found → ℕ → Process → Located
+  place g pid p = record { found = g; pid = pid; process = p }
+
+  placed : (g : Found) → Among g found → (pid : ℕ) (p : Process) → process_at g.state pid ≡ Some p → Among (place g pid p) (located found)
+  placed g within pid p is =
+      among-flat located_at g (place g pid p) found within (among-map (λ (r : ℕ × Process). place g r.0 r.1) (pid, p) (live_processes g.state.processes) (live-listed g.state pid p is))
+
+  -- a located process is live in a visited state
+  record IsPlaced (l : Located) : Type 0 where
+    pub within : Among l.found found
+    pub live : process_at l.found.state l.pid ≡ Some l.process
+
+  of-located : (l : Located) → Among l (located found) → IsPlaced l
+  of-located l h =
+      let from = flat-among located_at l found h in
+      let p = map-among (λ (r : ℕ × Process). place from.0 r.0 r.1) l (live_processes from.0.state.processes) from.2 in
+      let live = listed-live from.0.state p.0.0 p.0.1 (sound-at program_of limit s it from.0 from.1).whole.processes.ascending p.1 in
+      subst IsPlaced (sym p.2) (record { within = from.1; live = live })
+
+  -- a process that is not closed to a file of a visited state is listed
+  leak-listed : (g : Found) → Among g found → (pid : ℕ) (p : Process) → process_at g.state pid ≡ Some p → (f : ℕ) → Among f (files_of_tree g.state.tree) → (why : Why) (whys : List Why)
+      → leaks g.state p f ≡ why ∷ whys → IsListedLeak program_of limit s p.program (node_brief g.state.tree f) p.line
+  leak-listed g within pid p live f file why whys is =
+      let l = place g pid p in
+      let group : HasGroup program_key (located found) l = grouped program_key (located found) l (placed g within pid p live) in
+      let leak : Leak = record { at = l; file = node_brief g.state.tree f; why = why } in
+      let own : Among leak (leaks_at l) =
+      among-flat (λ f. leak_of l f (leaks g.state p f)) f leak (files_of_tree g.state.tree) file (subst (λ (ws : List Why). Among leak (leak_of l f ws)) (sym is) (inl refl)) in
+      let all : Among leak (flat_map leaks_at group.group.1) = among-flat leaks_at l leak group.group.1 group.within own in
+      let files : HasGroup (λ (leak : Leak). leak.file) (flat_map leaks_at group.group.1) leak = grouped (λ (leak : Leak). leak.file) (flat_map leaks_at group.group.1) leak all in
+      let low = (sound-at program_of limit s it g within).whole.processes.running pid p live in
+      let covered = ranges-cover p.line (lines_leaking files.group.1) (line-listed files.group.1 leak files.within low.line.0) in
+      record {
+        group = group.group;
+        listed = among-contains group.group (programs program_of limit s) group.listed;
+        same_program = same-programs g.state.tree group.group.0.process.program p.program group.same;
+        leaks = files.group;
+        leaks_listed = among-contains files.group (leaks_by_file group.group.1) files.listed;
+        same_file = files.same;
+        range = (covered.0, among-contains covered.0 (in_ranges (lines_leaking files.group.1)) covered.1, covered.2, covered.3);
+      }
+
+  -- the state that a schedule leads to is visited
+  module _ (complete : is_complete program_of limit s ≡ true) (pids : List ℕ) where
+    there : (g : Found) × Among g found × (g.state ≡ (run program_of pids s).final)
+    there = found-there (run program_of pids s).final found (all-found program_of limit s it complete pids)
+
+    unlisted : (u : State) → ((g : Found) × Among g found × (g.state ≡ u)) → IsValid u → (pid : ℕ) (p : Process) (f : ℕ) → process_at u pid ≡ Some p → Among f (files_of_tree u.tree)
+        → (IsListedLeak program_of limit s p.program (node_brief u.tree f) p.line → ⊥) → IsClosed u p f
+    unlisted u (g, within, same) whole pid p f live file none = (leaks-closed u p f whole.tree.well_formed).0 (by (leaks u p f) refl)
+      where
+        by : (ws : List Why) → leaks u p f ≡ ws → ws ≡ []
+        by [] is = refl
+        by (why ∷ whys) is =
+            absurd (none (subst (λ (v : State). IsListedLeak program_of limit s p.program (node_brief v.tree f) p.line) same
+            (leak-listed g within pid p (ap (λ v. process_at v pid) same ∙ live) f (subst (λ (v : State). Among f (files_of_tree v.tree)) (sym same) file) why whys
+            (ap (λ v. leaks v p f) same ∙ is))))
+
+    whole-there : IsValid (run program_of pids s).final
+    whole-there = subst IsValid there.2 (sound-at program_of limit s it there.0 there.1).whole
+
+    unlisted-closed : (pid : ℕ) (p : Process) (f : ℕ) → process_at (run program_of pids s).final pid ≡ Some p → Among f (files_of_tree (run program_of pids s).final.tree)
+        → (IsListedLeak program_of limit s p.program (node_brief (run program_of pids s).final.tree f) p.line → ⊥) → IsClosed (run program_of pids s).final p f
+    unlisted-closed = unlisted (run program_of pids s).final there whole-there
+
+    safe-by : (u : State) → ((g : Found) × Among g found × (g.state ≡ u)) → IsValid u → (group : Located × List Located) → Among group (programs program_of limit s) → (f : ℕ)
+        → Among f (safe_files program_of limit s group.1) → (pid : ℕ) (p : Process) → process_at u pid ≡ Some p → p.program ≡ group.0.process.program → is_file_at u.tree f ≡ true → IsClosed u p f
+    safe-by u (g, within, same) whole group listed f safe pid p live program file =
+        let l = place g pid p in
+        let member = in-group program_key (located found) group listed l (placed g within pid p (ap (λ v. process_at v pid) same ∙ live)) (ap program_numbers program) in
+        let all = (filter-among (λ f. list_all (is_closed_to f) group.1) f (named_files s.tree) safe).1 in
+        let closed : is_closed_to f l ≡ true = all-among (is_closed_to f) group.1 all l member in
+        (leaks-closed u p f whole.tree.well_formed).0
+        (empty (leaks u p f) (ap (λ b. not b || is_empty (leaks u p f)) (sym file) ∙ ap (λ (v : State). not (is_file_at v.tree f) || is_empty (leaks v p f)) (sym same) ∙ closed))
+      where
+        empty : (ws : List Why) → (not true || is_empty ws) ≡ true → ws ≡ []
+        empty [] is = refl
+        empty (w ∷ ws) is = cc
+
+    safe-closed : (group : Located × List Located) → Among group (programs program_of limit s) → (f : ℕ) → Among f (safe_files program_of limit s group.1)
+        → (pid : ℕ) (p : Process) → process_at (run program_of pids s).final pid ≡ Some p → p.program ≡ group.0.process.program → is_file_at (run program_of pids s).final.tree f ≡ true
+        → IsClosed (run program_of pids s).final p f
+    safe-closed = safe-by (run program_of pids s).final there whole-there
+
+  -- ---- listed lines
+
+  -- a leak is of a file of its state, with a reason
+  record IsOfFile (l : Located) (leak : Leak) : Type 0 where
+    pub at : leak.at ≡ l
+    pub number : ℕ
+    pub within : Among number (files_of_tree l.found.state.tree)
+    pub same_file : leak.file ≡ node_brief l.found.state.tree number
+    pub some : leaks l.found.state l.process number ≡ [] → ⊥
+
+  of-file : (l : Located) (leak : Leak) → Among leak (leaks_at l) → IsOfFile l leak
+  of-file l leak h =
+      let from = flat-among (λ f. leak_of l f (leaks l.found.state l.process f)) leak (files_of_tree l.found.state.tree) h in
+      by from.0 from.1 (leaks l.found.state l.process from.0) refl from.2
+    where
+      by : (f : ℕ) → Among f (files_of_tree l.found.state.tree) → (ws : List Why) → leaks l.found.state l.process f ≡ ws → Among leak (leak_of l f ws) → IsOfFile l leak
+      by f within [] is none = absurd none
+      by f within (why ∷ whys) is (inl e) = record {
+        at = ap (λ (k : Leak). k.at) e;
+        number = f;
+        within = within;
+        same_file = ap (λ (k : Leak). k.file) e;
+        some = λ none. (let bad : why ∷ whys ≡ [] = sym is ∙ none in cc bad);
+      }
+      by f within (why ∷ whys) is (inr none) = absurd none
+
+  leak-at : (program : Program) (file : Bytes) (line : ℕ) (l : Located) → IsPlaced l → l.process.program ≡ program → l.process.line ≡ line → (f : ℕ) → Among f (files_of_tree l.found.state.tree)
+      → node_brief l.found.state.tree f ≡ file → (leaks l.found.state l.process f ≡ [] → ⊥) → IsLeak program_of limit s program file line
+  leak-at program file line l placed same_program same_line f within same_file some =
+      let sound = sound-at program_of limit s it l.found placed.within in
+      let leads : l.found.state ≡ (run program_of l.found.witness s).final = sym sound.witness.leads in
+      record {
+        pids = l.found.witness;
+        steps = sound.witness.steps;
+        pid = l.pid;
+        process = l.process;
+        live = ap (λ v. process_at v l.pid) (sym leads) ∙ placed.live;
+        same_program = same_program;
+        same_line = same_line;
+        number = f;
+        within = subst (λ (v : State). Contains (files_of_tree v.tree) f) leads (among-contains f (files_of_tree l.found.state.tree) within);
+        same_file = ap (λ (v : State). node_brief v.tree f) (sym leads) ∙ same_file;
+        open_to = subst (λ (v : State). IsClosed v l.process f → ⊥) leads (λ closed. some ((leaks-closed l.found.state l.process f sound.whole.tree.well_formed).1 closed));
+      }
+
+  listed-leak : (program : Program) (file : Bytes) (line : ℕ) → IsListedLeak program_of limit s program file line → IsLeak program_of limit s program file line
+  listed-leak program file line is =
+      let group = contains-among (programs program_of limit s) is.group is.listed in
+      let files = contains-among (leaks_by_file is.group.1) is.leaks is.leaks_listed in
+      let line' = listed-line is.leaks.1 line (covered-by line (lines_leaking is.leaks.1) (is.range.0, contains-among (in_ranges (lines_leaking is.leaks.1)) is.range.0 is.range.1, is.range.2, is.range.3)) in
+      let leak = line'.0 in
+      let own = of-group (λ (k : Leak). k.file) (flat_map leaks_at is.group.1) is.leaks files leak line'.1 in
+      let at = flat-among leaks_at leak is.group.1 own.0 in
+      let l = at.0 in
+      let member = of-group program_key (located found) is.group group l at.1 in
+      let of = of-file l leak at.2 in
+      leak-at program file line l (of-located l member.0)
+      (same-programs s.tree l.process.program is.group.0.process.program member.1 ∙ is.same_program)
+      (ap (λ (k : Located). k.process.line) (sym of.at) ∙ line'.2) of.number of.within (sym of.same_file ∙ own.1 ∙ is.same_file) of.some
+
+pub unlisted-lines : UnlistedLinesAreClosed
+unlisted-lines program_of limit s pids pid p f it complete live file none =
+    unlisted-closed program_of limit s it complete pids pid p f live (contains-among (files_of_tree (run program_of pids s).final.tree) f file) none
+
+pub listed-lines : ListedLinesLeak
+listed-lines program_of limit s program file line it is = listed-leak program_of limit s it program file line is
+
+pub safe-files : SafeFilesAreClosed
+safe-files program_of limit s group f pids pid p it complete listed safe live program file =
+    safe-closed program_of limit s it complete pids group (contains-among (programs program_of limit s) group listed) f (contains-among (safe_files program_of limit s group.1) f safe) pid p live program file

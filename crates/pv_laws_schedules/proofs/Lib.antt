@@ -1,0 +1,16 @@
+-- Lemmas about searches and the answers over every schedule.
+-- - `compare`: Searches (breadth-first search of any elements), Pairs (the search of pairs), Shown (what a step's text
+--   shows), AlikeRuns.
+-- - `access`: Reached (the visited states), Happening (reported observations), ReadAccess (reads are
+--   accesses), UnreadFiles.
+-- - `exposure`: Groups (elements with equal keys), Exposed.
+pub mod Searches
+pub mod Pairs
+pub mod Shown
+pub mod AlikeRuns
+pub mod Reached
+pub mod Happening
+pub mod ReadAccess
+pub mod UnreadFiles
+pub mod Groups
+pub mod Exposed

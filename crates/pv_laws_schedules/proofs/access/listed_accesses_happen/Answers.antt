@@ -1,0 +1,5 @@
+use Rattle.pv_laws_schedules.proofs.Happening.{accesses-happen}
+use Rattle.pv_laws_schedules.proofs.access.listed_accesses_happen.Goals as goal
+
+pub returns : goal.returns
+returns c = accesses-happen

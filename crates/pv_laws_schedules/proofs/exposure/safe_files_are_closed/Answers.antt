@@ -1,0 +1,5 @@
+use Rattle.pv_laws_schedules.proofs.Exposed.{safe-files}
+use Rattle.pv_laws_schedules.proofs.exposure.safe_files_are_closed.Goals as goal
+
+pub returns : goal.returns
+returns c = safe-files

@@ -1,0 +1,71 @@
+-- Laws of `exposure`: the lines of each program at which a process is not closed to a file.
+use Rattle.std.specs.Prelude.{◌≡◌, ℕ, ◌≤◌, IsTrue, List, flat_map, Contains, Option, Some}
+use Rattle.pv_model.specs.Answers.Explore.{states_found, is_complete}
+use Rattle.pv_model.specs.Answers.Exposure.{Located, located, program_key, Leak, leaks_at, in_ranges, lines_leaking, safe_files}
+use Rattle.pv_model.specs.Answers.Files.{node_brief, is_file_at, files_of_tree}
+use Rattle.pv_model.specs.Answers.Observed.{groups}
+use Rattle.pv_model.specs.Bytes.{Bytes}
+use Rattle.pv_model.specs.Closed.{IsClosed}
+use Rattle.pv_model.specs.State.{Program, Process, State, process_at}
+use Rattle.pv_model.specs.Step.{run}
+use Rattle.pv_laws_answers.specs.Search.{IsSearched}
+use Rattle.pv_laws_answers.specs.Witnesses.{AreSteps}
+
+-- the leaks of each file, by its description
+abbrev pub leaks_by_file : List Located → List (Leak × List Leak)
+leaks_by_file ls = groups (λ leak. leak.file) (flat_map leaks_at ls)
+
+abbrev pub IsInRanges : ℕ → List (ℕ × ℕ) → Type 0
+IsInRanges line ranges = (r : ℕ × ℕ) × Contains ranges r × (r.0 ≤ line) × (line ≤ r.1)
+
+module _ (program_of : Bytes → Option Program) (limit : ℕ) (s : State) where
+  -- the programs, each with its processes in all visited states
+  abbrev pub programs : List (Located × List Located)
+  programs = groups program_key (located (states_found program_of limit s))
+
+  -- a program has a line LEAK with the description of a file and a range that includes a line
+  pub record IsListedLeak (program : Program) (file : Bytes) (line : ℕ) : Type 0 where
+    pub group : Located × List Located
+    pub listed : Contains programs group
+    pub same_program : group.0.process.program ≡ program
+    pub leaks : Leak × List Leak
+    pub leaks_listed : Contains (leaks_by_file group.1) leaks
+    pub same_file : leaks.0.file ≡ file
+    pub range : IsInRanges line (in_ranges (lines_leaking leaks.1))
+
+  -- a process of a program at a line is not closed to a file with a description, after a schedule of live processes
+  pub record IsLeak (program : Program) (file : Bytes) (line : ℕ) : Type 0 where
+    pub pids : List ℕ
+    pub steps : AreSteps program_of pids s
+    pub pid : ℕ
+    pub process : Process
+    pub live : process_at (run program_of pids s).final pid ≡ Some process
+    pub same_program : process.program ≡ program
+    pub same_line : process.line ≡ line
+    pub number : ℕ
+    pub within : Contains (files_of_tree (run program_of pids s).final.tree) number
+    pub same_file : node_brief (run program_of pids s).final.tree number ≡ file
+    pub open_to : ¬ IsClosed (run program_of pids s).final process number
+
+-- if the search is complete, in every schedule a process of a program at a line that is not listed for the description
+-- of a file is closed to it
+abbrev pub UnlistedLinesAreClosed : Type 0
+UnlistedLinesAreClosed =
+    (program_of : Bytes → Option Program) (limit : ℕ) (s : State) (pids : List ℕ) (pid : ℕ) (p : Process) (f : ℕ) → IsSearched program_of limit s → IsTrue (is_complete program_of limit s)
+    → process_at (run program_of pids s).final pid ≡ Some p → Contains (files_of_tree (run program_of pids s).final.tree) f
+    → ¬ IsListedLeak program_of limit s p.program (node_brief (run program_of pids s).final.tree f) p.line → IsClosed (run program_of pids s).final p f
+
+-- each listed line leaks in some schedule, whether the search is complete or not
+abbrev pub ListedLinesLeak : Type 0
+ListedLinesLeak =
+    (program_of : Bytes → Option Program) (limit : ℕ) (s : State) (program : Program) (file : Bytes) (line : ℕ) → IsSearched program_of limit s
+    → IsListedLeak program_of limit s program file line → IsLeak program_of limit s program file line
+
+-- if the search is complete, in every schedule each process of a program is closed to each file that is listed as safe
+-- for it, if its number is still that of a file
+abbrev pub SafeFilesAreClosed : Type 0
+SafeFilesAreClosed =
+    (program_of : Bytes → Option Program) (limit : ℕ) (s : State) (group : Located × List Located) (f : ℕ) (pids : List ℕ) (pid : ℕ) (p : Process) → IsSearched program_of limit s
+    → IsTrue (is_complete program_of limit s) → Contains (programs program_of limit s) group → Contains (safe_files program_of limit s group.1) f
+    → process_at (run program_of pids s).final pid ≡ Some p → p.program ≡ group.0.process.program → IsTrue (is_file_at (run program_of pids s).final.tree f)
+    → IsClosed (run program_of pids s).final p f

@@ -1,0 +1,21 @@
+//! Laws of what an attacker gains who takes over a process of a program, at each of its lines.
+
+ghost use Rattle.pv_laws_schedules.specs.Exposure.{UnlistedLinesAreClosed, ListedLinesLeak, SafeFilesAreClosed};
+
+/// If a search is complete, in every schedule a process of a program at a line that is not listed for a file's description
+/// is closed to each file with this description.
+pub fn unlisted_lines_are_closed()
+    ensures { UnlistedLinesAreClosed }
+{}
+
+/// For each listed line, some schedule leads to a process of the program at this line that is not closed to a file with
+/// the description.
+pub fn listed_lines_leak()
+    ensures { ListedLinesLeak }
+{}
+
+/// If a search is complete, in every schedule each process of a program is closed to each file that is listed as safe for
+/// it.
+pub fn safe_files_are_closed()
+    ensures { SafeFilesAreClosed }
+{}

@@ -1,0 +1,13 @@
+//! Laws of the answers over every schedule: what a reader may conclude from the texts of `compare`, `access`, `exposure`
+//! and `policy`.
+//!
+//! Each law is a function with an empty body whose contract is the statement, defined in `specs/`.
+//!
+//! - `compare`: two images with the same programs.
+//! - `access`: which process can access what, and the files that no step reads.
+//! - `exposure`: the lines of a program at which a process is not closed to a file.
+#![tactic(auto)]
+
+pub mod access;
+pub mod compare;
+pub mod exposure;
