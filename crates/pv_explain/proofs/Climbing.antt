@@ -1,12 +1,12 @@
 -- The lines of a directory and its ancestors, level by level.
-use Rattle.std.proofs.Common.{◌≡◌, ◌<◌, ◌≤◌, ◌+◌, ◌-◌, ◌∙◌, ℕ, suc, true, false, cond, ◌==◌, List, [], ◌∷◌, ◌++◌, length, Option, None, Some, refl, ap, sym, subst, append_assoc, arith}
-use Rattle.std.specs.Prelude.{flat_map, is_some, option_to_list}
+use Rattle.std.proofs.Common.{◌≡◌, ◌<◌, ◌≤◌, ◌+◌, ◌-◌, ◌∙◌, ℕ, suc, true, false, cond, ◌==◌, List, [], ◌∷◌, ◌++◌, length, Option, None, Some, refl, ap, sym, append_assoc, arith}
+use Rattle.std.specs.Prelude.{flat_map, is_some, option_to_list, Ok, Err}
 use Rattle.std.proofs.lemmas.Bool.{false≢true}
 use Rattle.std.proofs.lemmas.Grind.{flat_map-append}
 use Rattle.std.proofs.lemmas.List.{append-nil}
 use Rattle.pv_model.specs.declared.perms.Perms.{Perms}
 use Rattle.pv_model.specs.declared.place.Place.{Place}
-use Rattle.pv_model.specs.declared.place.Place.TheVariants.{At}
+use Rattle.pv_model.specs.declared.place.Place.TheVariants.{At, Node as Unnamed}
 use Rattle.pv_model.specs.declared.target.Target.{Target}
 use Rattle.pv_model.specs.declared.target.Target.TheVariants.{Directory, Name}
 use Rattle.pv_model.specs.Answers.Levels.{Level, level, unless_found, levels_within, directory_levels, name_levels, levels}
@@ -14,8 +14,9 @@ use Rattle.pv_model.specs.Answers.Lines.{AnswerLine, answer_bytes, answer_line_b
 use Rattle.pv_model.specs.Bytes.{Bytes}
 use Rattle.pv_model.specs.Tree.{Tree, root, is_directory_at, above_or_none, parent, IsWellFormed}
 use Rattle.pv_model.specs.Unveil.{entry_for}
-use Rattle.pv_streams.specs.Sinks.{and_all, WritesPrefix}
-use Rattle.pv_streams.proofs.Reporting.{written_both, written_none, begins_first, begins_then}
+use Rattle.pv_model.specs.declared.stream.Sink.{Ghosts as Writing}
+use Rattle.pv_streams.specs.Sinks.{Writes}
+use Rattle.pv_answers.proofs.Writing.{writes_as, writes_both, writes_longer, writes_none, writes_ok}
 use Rattle.pv_unveil.specs.Up.{up}
 use Rattle.pv_unveil.proofs.Climbing.{up-directory}
 use Rattle.pv_explain.specs.declared.levels.Basis.{Basis}
@@ -80,27 +81,27 @@ module _ (b : Basis) (asked : Perms) where
     all = directory_levels tree (table_of b) directory
 
     -- the first levels are written, and these remain
-    pub record IsClimbing (index reached : ℕ) (before now : Option Bytes) : Type 0 where
+    pub record IsClimbing {W : Type 0} (sink : Writing W) (index reached : ℕ) (before now : W) : Type 0 where
       pub seen : List Level
       pub parts : directory_levels tree (table_of b) directory ≡ seen ++ levels_within tree (table_of b) (suc (length tree.nodes) - index) reached
-      pub written : now ≡ and_all before (lines seen)
+      pub written : Writes {T = Unit {0}} {E = Unit {0}} sink (lines seen) before now (Ok tt)
       pub appears : is_directory_at tree reached ≡ true
 
-    pub climbing-init : (written : Option Bytes) → is_directory_at tree directory ≡ true → IsClimbing 0 directory written written
-    climbing-init written appears = record {
+    pub climbing-init : {W : Type 0} {sink : Writing W} (out : W) → is_directory_at tree directory ≡ true → IsClimbing sink 0 directory out out
+    climbing-init out appears = record {
       seen = [];
       parts = let whole : suc (length tree.nodes) ≡ suc (length tree.nodes) - 0 = omega arith in ap (λ n. levels_within tree (table_of b) n directory) whole;
-      written = written_none written;
+      written = writes_none;
       appears = appears;
     }
 
-    module _ (index reached : ℕ) (before mid : Option Bytes) (so_far : IsClimbing index reached before mid) where
+    module _ {W : Type 0} {sink : Writing W} (index reached : ℕ) {before mid : W} (so_far : IsClimbing sink index reached before mid) where
       -- no level remains
-      pub climbing-end : suc (length tree.nodes) ≤ index → mid ≡ and_all before (lines all)
+      pub climbing-end : {T E : Type 0} {x : T} → suc (length tree.nodes) ≤ index → Writes {E = E} sink (lines all) before mid (Ok x)
       climbing-end past =
           let none : suc (length tree.nodes) - index ≡ 0 = omega (arith, past) in
           let same : all ≡ so_far.seen = so_far.parts ∙ ap (λ n. so_far.seen ++ levels_within tree (table_of b) n reached) none ∙ append-nil so_far.seen in
-          so_far.written ∙ ap (λ ls. and_all before (lines ls)) (sym same)
+          writes_as (ap lines (sym same)) (writes_ok so_far.written)
 
       module _ (within : index < suc (length tree.nodes)) (entry : Option ℕ) (own : entry ≡ entry_for (table_of b) (Directory reached)) where
         abbrev steps : ℕ
@@ -117,44 +118,40 @@ module _ (b : Basis) (asked : Perms) where
         this-is : level tree (table_of b) (Directory reached) ≡ this
         this-is = ap (λ o. let it : Level = record { target = Directory reached; entry = o } in it) (sym own)
 
-        written-here : (after : Option Bytes) → after ≡ and_all mid (line_of (Directory reached) entry) → after ≡ and_all before (lines (so_far.seen ++ this ∷ []))
-        written-here after written =
-            written_both (lines so_far.seen) (line_of (Directory reached) entry) before mid after so_far.written written
-            ∙ ap (and_all before) (ap (λ (bs : Bytes). lines so_far.seen ++ bs) (sym (one-level this)) ∙ sym (lines-append so_far.seen (this ∷ [])))
+        written-here : {T E : Type 0} {x y : T} {after : W} → Writes {E = E} sink (line_of (Directory reached) entry) mid after (Ok x) → Writes {E = E} sink (lines (so_far.seen ++ this ∷ [])) before after (Ok y)
+        written-here written =
+            writes_as (ap (λ (bs : Bytes). lines so_far.seen ++ bs) (sym (one-level this)) ∙ sym (lines-append so_far.seen (this ∷ []))) (writes_ok (writes_both so_far.written written))
 
         -- the last level is written
-        ended : (after : Option Bytes) → after ≡ and_all mid (line_of (Directory reached) entry) → levels_within tree (table_of b) (suc steps) reached ≡ level tree (table_of b) (Directory reached) ∷ []
-            → after ≡ and_all before (lines all)
-        ended after written last =
-            written-here after written
-            ∙ ap (λ ls. and_all before (lines ls)) (sym (parts-here ∙ ap (λ ls. so_far.seen ++ ls) (last ∙ ap (λ (l : Level). l ∷ []) this-is)))
+        ended : {T E : Type 0} {x y : T} {after : W} → Writes {E = E} sink (line_of (Directory reached) entry) mid after (Ok x)
+            → levels_within tree (table_of b) (suc steps) reached ≡ level tree (table_of b) (Directory reached) ∷ [] → Writes {E = E} sink (lines all) before after (Ok y)
+        ended written last =
+            writes_as (ap lines (sym (parts-here ∙ ap (λ ls. so_far.seen ++ ls) (last ∙ ap (λ (l : Level). l ∷ []) this-is)))) (written-here written)
 
-        pub climbing-governed : (k : ℕ) → entry ≡ Some k → (after : Option Bytes) → after ≡ and_all mid (line_of (Directory reached) entry) → after ≡ and_all before (lines all)
-        climbing-governed k is after written = ended after written (governed steps reached k (sym own ∙ is))
+        pub climbing-governed : {T E : Type 0} {x y : T} {after : W} (k : ℕ) → entry ≡ Some k → Writes {E = E} sink (line_of (Directory reached) entry) mid after (Ok x) → Writes {E = E} sink (lines all) before after (Ok y)
+        climbing-governed k is written = ended written (governed steps reached k (sym own ∙ is))
 
-        pub climbing-top : entry ≡ None → up tree reached ≡ None → (after : Option Bytes) → after ≡ and_all mid (line_of (Directory reached) entry) → after ≡ and_all before (lines all)
-        climbing-top none top after written = ended after written (at-top steps reached (sym own ∙ none) top)
+        pub climbing-top : {T E : Type 0} {x y : T} {after : W} → entry ≡ None → up tree reached ≡ None → Writes {E = E} sink (line_of (Directory reached) entry) mid after (Ok x) → Writes {E = E} sink (lines all) before after (Ok y)
+        climbing-top none top written = ended written (at-top steps reached (sym own ∙ none) top)
 
-        pub climbing-on : IsWellFormed tree → (above : ℕ) → entry ≡ None → up tree reached ≡ Some above → (after : Option Bytes) → after ≡ and_all mid (line_of (Directory reached) entry)
-            → IsClimbing (index + 1) above before after
-        climbing-on well above none rises after written = record {
+        pub climbing-on : {T E : Type 0} {x : T} {after : W} → IsWellFormed tree → (above : ℕ) → entry ≡ None → up tree reached ≡ Some above → Writes {E = E} sink (line_of (Directory reached) entry) mid after (Ok x)
+            → IsClimbing sink (index + 1) above before after
+        climbing-on {x = x} well above none rises written = record {
           seen = so_far.seen ++ this ∷ [];
           parts =
               parts-here ∙ ap (λ ls. so_far.seen ++ ls) (on-above steps reached above (sym own ∙ none) rises ∙ ap (λ (l : Level). l ∷ levels_within tree (table_of b) steps above) this-is)
               ∙ sym (append_assoc so_far.seen (this ∷ []) (levels_within tree (table_of b) steps above));
-          written = written-here after written;
+          written = writes_ok {x = x} (written-here written);
           appears = up-directory tree well reached above rises;
         }
 
         -- a line that was not written completely
-        pub climbing-begun : (after : Option Bytes) → WritesPrefix (line_of (Directory reached) entry) mid after → WritesPrefix (lines all) before after
-        climbing-begun after begun =
+        pub climbing-begun : {T E : Type 0} {e : E} {after : W} → Writes {T = T} sink (line_of (Directory reached) entry) mid after (Err e) → Writes {T = T} sink (lines all) before after (Err e)
+        climbing-begun begun =
             let rest : List Level = unless_found tree (table_of b) (entry_for (table_of b) (Directory reached)) (flat_map (levels_within tree (table_of b) steps) (above_or_none tree reached)) in
             let whole : all ≡ so_far.seen ++ this ∷ rest = parts-here ∙ ap (λ (l : Level). so_far.seen ++ l ∷ rest) this-is in
             let bytes : lines all ≡ lines so_far.seen ++ (line_of (Directory reached) entry ++ lines rest) = ap lines whole ∙ lines-append so_far.seen (this ∷ rest) in
-            subst (λ (bs : Bytes). WritesPrefix bs before after) (sym bytes)
-            (begins_then (lines so_far.seen) (line_of (Directory reached) entry ++ lines rest) before mid after so_far.written
-            (begins_first (line_of (Directory reached) entry) (lines rest) mid after begun))
+            writes_as (sym bytes) (writes_both so_far.written (writes_longer (lines rest) begun))
 
   -- ---- a name, and its directory
 
@@ -176,12 +173,26 @@ module _ (b : Basis) (asked : Perms) where
         (ap (λ (l : Level). l ∷ directory_levels tree (table_of b) d) (sym named-is)
         ∙ sym (ap (λ o. level tree (table_of b) (Name d name) ∷ unless_found tree (table_of b) o (directory_levels tree (table_of b) d)) (sym own ∙ none)))
 
-    -- the line of the name is a prefix
-    pub name-begun : (before after : Option Bytes) → WritesPrefix (line_of (Name d name) entry) before after → WritesPrefix (lines (name_levels tree (table_of b) d name)) before after
-    name-begun before after begun =
-        let rest : List Level = unless_found tree (table_of b) (entry_for (table_of b) (Name d name)) (directory_levels tree (table_of b) d) in
-        let bytes : line_of (Name d name) entry ++ lines rest ≡ lines (name_levels tree (table_of b) d name) = ap (λ (l : Level). lines (l ∷ rest)) (sym named-is) in
-        subst (λ (bs : Bytes). WritesPrefix bs before after) bytes (begins_first (line_of (Name d name) entry) (lines rest) before after begun)
+    -- the lines after that of the name
+    abbrev pub name-rest : List Level
+    name-rest = unless_found tree (table_of b) (entry_for (table_of b) (Name d name)) (directory_levels tree (table_of b) d)
+
+    pub name-first : line_of (Name d name) entry ++ lines name-rest ≡ lines (name_levels tree (table_of b) d name)
+    name-first = ap (λ (l : Level). lines (l ∷ name-rest)) (sym named-is)
+
+  -- ---- a place that is a directory
+
+  pub place-node : (place : Place) (n : ℕ) → place ≡ Unnamed n → lines (directory_levels tree (table_of b) n) ≡ lines (levels tree (table_of b) place)
+  unfolding levels
+  place-node place n is = sym (ap (λ (p : Place). lines (levels tree (table_of b) p)) is)
+
+  pub place-directory : (place : Place) (d : ℕ) (name : Bytes) (node : Option ℕ) → place ≡ At d name node → (n : ℕ) → node ≡ Some n → true ≡ is_directory_at tree n
+      → lines (directory_levels tree (table_of b) n) ≡ lines (levels tree (table_of b) place)
+  unfolding levels
+  place-directory place d name found is n some directory =
+      sym
+      (ap (λ (p : Place). lines (levels tree (table_of b) p)) (is ∙ ap (λ o. At d name o) some)
+      ∙ ap (λ u. lines (cond u (directory_levels tree (table_of b) n) (name_levels tree (table_of b) d name))) (sym directory))
 
   -- ---- a place that is not a directory
 

@@ -5,7 +5,7 @@ ghost use Rattle.pv_explain.specs.Made.{IsFit, IsFitCall, call_made_lines, made_
 ghost use Rattle.pv_explain.specs.Parts.{step_text};
 ghost use Rattle.pv_model.specs.Answers.Lines.{answer_bytes, answer_line, answer_line_bytes};
 ghost use Rattle.pv_model.specs.Stream.{Rose};
-ghost use Rattle.pv_streams.specs.Sinks.{and_all, WritesPrefix};
+ghost use Rattle.pv_streams.specs.Sinks.{and_all, Writes, WritesPrefix};
 
 use crate::levels::Basis;
 use crate::making::{MadeCall, MadeStep};
@@ -33,10 +33,7 @@ fn write_table_lines<W: Sink>(
     origins: &[Origin],
 ) -> Result<(), Failed>
     requires { IsFitCall pid made.now parts.now }
-    ensures whole { OnOk result (W.written out.new ≡ and_all (W.written out.old) (answer_bytes (table_lines pid (settings_in origins.now) made.now parts.now))) }
-    ensures prefix { OnErr result (WritesPrefix (answer_bytes (table_lines pid (settings_in origins.now) made.now parts.now)) (W.written out.old) (W.written out.new)) }
-    ensures failed { OnErr result (Rose (W.failures out.old) (W.failures out.new)) }
-    ensures quiet { OnOk result (W.failures out.new ≡ W.failures out.old) }
+    ensures { Writes W.Sink (answer_bytes (table_lines pid (settings_in origins.now) made.now parts.now)) out.old out.new result }
 {
     let walks = made.answer.walks;
     let Some(verdict) = reported_table_verdict(made.call, walks, made.answer.outcome) else {
@@ -69,10 +66,7 @@ pub(crate) fn write_call<W: Sink>(
     origins: &[Origin],
 ) -> Result<(), Failed>
     requires { IsFitCall pid made.now session.now }
-    ensures whole { OnOk result (W.written out.new ≡ and_all (W.written out.old) (answer_bytes (call_made_lines pid (settings_in origins.now) made.now session.now))) }
-    ensures prefix { OnErr result (WritesPrefix (answer_bytes (call_made_lines pid (settings_in origins.now) made.now session.now)) (W.written out.old) (W.written out.new)) }
-    ensures failed { OnErr result (Rose (W.failures out.old) (W.failures out.new)) }
-    ensures quiet { OnOk result (W.failures out.new ≡ W.failures out.old) }
+    ensures { Writes W.Sink (answer_bytes (call_made_lines pid (settings_in origins.now) made.now session.now)) out.old out.new result }
 {
     let call = made.call;
     let Answer { outcome, walks } = made.answer;
@@ -165,10 +159,7 @@ pub(crate) fn write_step_line<W: Sink>(
     number: u64,
     line: Option<u16>,
 ) -> Result<(), Failed>
-    ensures whole { OnOk result (W.written out.new ≡ and_all (W.written out.old) (answer_line_bytes (answer_line pid (codes "STEP") (step_text number line)))) }
-    ensures prefix { OnErr result (WritesPrefix (answer_line_bytes (answer_line pid (codes "STEP") (step_text number line))) (W.written out.old) (W.written out.new)) }
-    ensures failed { OnErr result (Rose (W.failures out.old) (W.failures out.new)) }
-    ensures quiet { OnOk result (W.failures out.new ≡ W.failures out.old) }
+    ensures { Writes W.Sink (answer_line_bytes (answer_line pid (codes "STEP") (step_text number line))) out.old out.new result }
 {
     let line = Line {
         pid,

@@ -1,14 +1,13 @@
 //! The derivation of a table's decision on a place, level by level.
-ghost use Rattle.std.specs.Prelude.{◌≡◌, IsTrue, OnOk, OnErr};
+ghost use Rattle.std.specs.Prelude.{◌≡◌, IsTrue};
 ghost use Rattle.pv_explain.specs.Basis.{directory_level, level_line, lines_of, name_level, table_of};
 ghost use Rattle.pv_model.specs.Answers.Explain.{permissions_lacked};
 ghost use Rattle.pv_model.specs.Answers.Levels.{directory_levels, levels, name_levels};
 ghost use Rattle.pv_model.specs.Answers.Lines.{answer_bytes, answer_line_bytes};
 ghost use Rattle.pv_model.specs.Calls.Restraints.{entries_of_table};
-ghost use Rattle.pv_model.specs.Stream.{Rose};
 ghost use Rattle.pv_model.specs.Tree.{is_directory_at};
 ghost use Rattle.pv_model.specs.Unveil.{permissions_at};
-ghost use Rattle.pv_streams.specs.Sinks.{and_all, WritesPrefix};
+ghost use Rattle.pv_streams.specs.Sinks.{Writes};
 ghost use Rattle.pv_unveil.specs.Up.{directory_of};
 
 use crate::origins::Origin;
@@ -174,10 +173,7 @@ fn write_directory_level<W: Sink>(
     directory: u16,
     entry: Option<u8>,
 ) -> Result<(), Failed>
-    ensures whole { OnOk result (W.written out.new ≡ and_all (W.written out.old) (answer_line_bytes (level_line basis.now asked (directory_level directory entry)))) }
-    ensures prefix { OnErr result (WritesPrefix (answer_line_bytes (level_line basis.now asked (directory_level directory entry))) (W.written out.old) (W.written out.new)) }
-    ensures failed { OnErr result (Rose (W.failures out.old) (W.failures out.new)) }
-    ensures quiet { OnOk result (W.failures out.new ≡ W.failures out.old) }
+    ensures { Writes W.Sink (answer_line_bytes (level_line basis.now asked (directory_level directory entry))) out.old out.new result }
 {
     let words = DirectoryWords {
         tree: basis.tree,
@@ -207,10 +203,7 @@ fn write_name_level<W: Sink>(
     name: &[u8],
     entry: Option<u8>,
 ) -> Result<(), Failed>
-    ensures whole { OnOk result (W.written out.new ≡ and_all (W.written out.old) (answer_line_bytes (level_line basis.now asked (name_level directory name.now entry)))) }
-    ensures prefix { OnErr result (WritesPrefix (answer_line_bytes (level_line basis.now asked (name_level directory name.now entry))) (W.written out.old) (W.written out.new)) }
-    ensures failed { OnErr result (Rose (W.failures out.old) (W.failures out.new)) }
-    ensures quiet { OnOk result (W.failures out.new ≡ W.failures out.old) }
+    ensures { Writes W.Sink (answer_line_bytes (level_line basis.now asked (name_level directory name.now entry))) out.old out.new result }
 {
     let words = NameWords {
         tree: basis.tree,
@@ -239,10 +232,7 @@ fn write_directory_levels<W: Sink>(
     directory: u16,
 ) -> Result<(), Failed>
     requires { IsTrue (is_directory_at basis.now.tree.now.tree directory) }
-    ensures whole { OnOk result (W.written out.new ≡ and_all (W.written out.old) (answer_bytes (lines_of basis.now asked (directory_levels basis.now.tree.now.tree (table_of basis.now) directory)))) }
-    ensures prefix { OnErr result (WritesPrefix (answer_bytes (lines_of basis.now asked (directory_levels basis.now.tree.now.tree (table_of basis.now) directory))) (W.written out.old) (W.written out.new)) }
-    ensures failed { OnErr result (Rose (W.failures out.old) (W.failures out.new)) }
-    ensures quiet { OnOk result (W.failures out.new ≡ W.failures out.old) }
+    ensures { Writes W.Sink (answer_bytes (lines_of basis.now asked (directory_levels basis.now.tree.now.tree (table_of basis.now) directory))) out.old out.new result }
 {
     let mut reached = directory;
     for _level in 0..basis.tree.sizes().inodes + 2 {
@@ -268,10 +258,7 @@ fn write_name_levels<W: Sink>(
     name: &[u8],
 ) -> Result<(), Failed>
     requires { IsTrue (is_directory_at basis.now.tree.now.tree directory) }
-    ensures whole { OnOk result (W.written out.new ≡ and_all (W.written out.old) (answer_bytes (lines_of basis.now asked (name_levels basis.now.tree.now.tree (table_of basis.now) directory name.now)))) }
-    ensures prefix { OnErr result (WritesPrefix (answer_bytes (lines_of basis.now asked (name_levels basis.now.tree.now.tree (table_of basis.now) directory name.now))) (W.written out.old) (W.written out.new)) }
-    ensures failed { OnErr result (Rose (W.failures out.old) (W.failures out.new)) }
-    ensures quiet { OnOk result (W.failures out.new ≡ W.failures out.old) }
+    ensures { Writes W.Sink (answer_bytes (lines_of basis.now asked (name_levels basis.now.tree.now.tree (table_of basis.now) directory name.now))) out.old out.new result }
 {
     let entry = basis.table.own_name_entry(directory, name);
     write_name_level(out, basis, asked, directory, name, entry)?;
@@ -297,10 +284,7 @@ pub(crate) fn write_levels<W: Sink>(
     place: &Place,
 ) -> Result<(), Failed>
     requires { IsTrue (is_directory_at basis.now.tree.now.tree (directory_of place.now)) }
-    ensures whole { OnOk result (W.written out.new ≡ and_all (W.written out.old) (answer_bytes (lines_of basis.now asked (levels basis.now.tree.now.tree (table_of basis.now) place.now)))) }
-    ensures prefix { OnErr result (WritesPrefix (answer_bytes (lines_of basis.now asked (levels basis.now.tree.now.tree (table_of basis.now) place.now))) (W.written out.old) (W.written out.new)) }
-    ensures failed { OnErr result (Rose (W.failures out.old) (W.failures out.new)) }
-    ensures quiet { OnOk result (W.failures out.new ≡ W.failures out.old) }
+    ensures { Writes W.Sink (answer_bytes (lines_of basis.now asked (levels basis.now.tree.now.tree (table_of basis.now) place.now))) out.old out.new result }
 {
     match place {
         Place::Node(node) => write_directory_levels(out, basis, asked, *node),

@@ -1,5 +1,5 @@
 //! The meaning of the bytes that a call moved.
-ghost use Rattle.std.specs.Prelude.{◌≡◌, ◌≤◌, ◌++◌, [], ◌∷◌, length, codes, drop, flat_map, option_map, slice_index, take, IfSome, OnOk, OnErr};
+ghost use Rattle.std.specs.Prelude.{◌≡◌, ◌≤◌, ◌++◌, [], ◌∷◌, length, codes, drop, flat_map, option_map, slice_index, take, IfSome};
 ghost use Rattle.pv_explain.specs.Parts.{file_at, moved_by_call, moved_part, node_text};
 ghost use Rattle.pv_explain.specs.Moved.{HasSize, IsMoved};
 ghost use Rattle.pv_model.specs.declared.limits.TheConstants.{BUFFER};
@@ -7,9 +7,8 @@ ghost use Rattle.pv_model.specs.Answers.Explain.{ended_words, sort_words, status
 ghost use Rattle.pv_model.specs.Answers.Lines.{answer_bytes, answer_line, answer_line_bytes};
 ghost use Rattle.pv_model.specs.CallRef.{call_of};
 ghost use Rattle.pv_model.specs.Image.{number_of};
-ghost use Rattle.pv_model.specs.Stream.{Rose};
 ghost use Rattle.pv_model.specs.Trace.{quote};
-ghost use Rattle.pv_streams.specs.Sinks.{and_all, WritesPrefix};
+ghost use Rattle.pv_streams.specs.Sinks.{Writes};
 ghost use Rattle.pv_trace.specs.Reported.{moved_words_of};
 
 use pv_answers::{Decimal, Fragment, Line as AnswerLine, NodeWords, Plain, Quoted};
@@ -74,10 +73,7 @@ fn status_of(bytes: &[u8]) -> Status
 #[tactic(auto, unfolding(pv_model::specs::Trace::text_line))]
 fn write_status<W: Sink>(out: &mut W, pid: u32, bytes: &[u8]) -> Result<(), Failed>
     requires { length bytes.now ≡ 8 }
-    ensures whole { OnOk result (W.written out.new ≡ and_all (W.written out.old) (answer_line_bytes (answer_line pid (codes "TEXT") (status_words bytes.now)))) }
-    ensures prefix { OnErr result (WritesPrefix (answer_line_bytes (answer_line pid (codes "TEXT") (status_words bytes.now))) (W.written out.old) (W.written out.new)) }
-    ensures failed { OnErr result (Rose (W.failures out.old) (W.failures out.new)) }
-    ensures quiet { OnOk result (W.failures out.new ≡ W.failures out.old) }
+    ensures { Writes W.Sink (answer_line_bytes (answer_line pid (codes "TEXT") (status_words bytes.now))) out.old out.new result }
 {
     let status = status_of(bytes);
     let line = AnswerLine {
@@ -116,10 +112,7 @@ impl Fragment for EndText {
 #[tactic(auto, unfolding(pv_model::specs::Trace::text_line))]
 fn write_ended<W: Sink>(out: &mut W, pid: u32, bytes: &[u8]) -> Result<(), Failed>
     requires { length bytes.now ≡ 4 }
-    ensures whole { OnOk result (W.written out.new ≡ and_all (W.written out.old) (answer_line_bytes (answer_line pid (codes "TEXT") (ended_words (number_of bytes.now))))) }
-    ensures prefix { OnErr result (WritesPrefix (answer_line_bytes (answer_line pid (codes "TEXT") (ended_words (number_of bytes.now)))) (W.written out.old) (W.written out.new)) }
-    ensures failed { OnErr result (Rose (W.failures out.old) (W.failures out.new)) }
-    ensures quiet { OnOk result (W.failures out.new ≡ W.failures out.old) }
+    ensures { Writes W.Sink (answer_line_bytes (answer_line pid (codes "TEXT") (ended_words (number_of bytes.now)))) out.old out.new result }
 {
     let [first, second, third, fourth] = bytes else {
         unreachable!()
@@ -166,10 +159,7 @@ fn write_content<W: Sink>(
     file: Option<usize>,
     bytes: &[u8],
 ) -> Result<(), Failed>
-    ensures whole { OnOk result (W.written out.new ≡ and_all (W.written out.old) (answer_line_bytes (answer_line pid (codes "TEXT") (quote bytes.now ++ node_text parts.now (file_at parts.now file))))) }
-    ensures prefix { OnErr result (WritesPrefix (answer_line_bytes (answer_line pid (codes "TEXT") (quote bytes.now ++ node_text parts.now (file_at parts.now file)))) (W.written out.old) (W.written out.new)) }
-    ensures failed { OnErr result (Rose (W.failures out.old) (W.failures out.new)) }
-    ensures quiet { OnOk result (W.failures out.new ≡ W.failures out.old) }
+    ensures { Writes W.Sink (answer_line_bytes (answer_line pid (codes "TEXT") (quote bytes.now ++ node_text parts.now (file_at parts.now file)))) out.old out.new result }
 {
     let line = AnswerLine {
         pid,
@@ -182,10 +172,7 @@ fn write_content<W: Sink>(
 // Writes the line of bytes that are a text.
 #[tactic(auto, unfolding(pv_model::specs::Trace::text_line))]
 fn write_text<W: Sink>(out: &mut W, pid: u32, bytes: &[u8]) -> Result<(), Failed>
-    ensures whole { OnOk result (W.written out.new ≡ and_all (W.written out.old) (answer_line_bytes (answer_line pid (codes "TEXT") (quote bytes.now)))) }
-    ensures prefix { OnErr result (WritesPrefix (answer_line_bytes (answer_line pid (codes "TEXT") (quote bytes.now))) (W.written out.old) (W.written out.new)) }
-    ensures failed { OnErr result (Rose (W.failures out.old) (W.failures out.new)) }
-    ensures quiet { OnOk result (W.failures out.new ≡ W.failures out.old) }
+    ensures { Writes W.Sink (answer_line_bytes (answer_line pid (codes "TEXT") (quote bytes.now))) out.old out.new result }
 {
     let line = AnswerLine {
         pid,
@@ -205,10 +192,7 @@ fn write_moved<W: Sink>(
     bytes: &[u8],
 ) -> Result<(), Failed>
     requires { HasSize (call_of call) bytes.now }
-    ensures whole { OnOk result (W.written out.new ≡ and_all (W.written out.old) (answer_line_bytes (answer_line pid (codes "TEXT") (moved_by_call parts.now file (call_of call.entry) bytes.now)))) }
-    ensures prefix { OnErr result (WritesPrefix (answer_line_bytes (answer_line pid (codes "TEXT") (moved_by_call parts.now file (call_of call.entry) bytes.now))) (W.written out.old) (W.written out.new)) }
-    ensures failed { OnErr result (Rose (W.failures out.old) (W.failures out.new)) }
-    ensures quiet { OnOk result (W.failures out.new ≡ W.failures out.old) }
+    ensures { Writes W.Sink (answer_line_bytes (answer_line pid (codes "TEXT") (moved_by_call parts.now file (call_of call.entry) bytes.now))) out.old out.new result }
 {
     match call {
         CallRef::Wait => write_ended(out, pid, bytes),
@@ -224,7 +208,6 @@ fn write_moved<W: Sink>(
 /// # Errors
 ///
 /// `Failed`, if a write failed. The sink received a prefix of the lines.
-#[tactic(auto, using(pv_streams::proofs::Reporting::written_both, pv_streams::proofs::Reporting::begins_first, pv_streams::proofs::Reporting::begins_then, pv_streams::proofs::Reporting::written_none))]
 pub(crate) fn write_moved_part<W: Sink>(
     out: &mut W,
     line_buffer: &mut LineBuffer,
@@ -236,10 +219,7 @@ pub(crate) fn write_moved_part<W: Sink>(
 ) -> Result<(), Failed>
     requires few { IfSome reported (λ moved. length moved.1.now ≤ BUFFER) }
     requires sizes { IfSome reported (λ moved. IsMoved (call_of call) moved.1.now) }
-    ensures whole { OnOk result (W.written out.new ≡ and_all (W.written out.old) (answer_bytes (flat_map (moved_part pid parts.now file (call_of call.entry)) (moved_words_of (option_map (λ moved. (moved.0, moved.1.now)) reported.entry))))) }
-    ensures prefix { OnErr result (WritesPrefix (answer_bytes (flat_map (moved_part pid parts.now file (call_of call.entry)) (moved_words_of (option_map (λ moved. (moved.0, moved.1.now)) reported.entry)))) (W.written out.old) (W.written out.new)) }
-    ensures failed { OnErr result (Rose (W.failures out.old) (W.failures out.new)) }
-    ensures quiet { OnOk result (W.failures out.new ≡ W.failures out.old) }
+    ensures { Writes W.Sink (answer_bytes (flat_map (moved_part pid parts.now file (call_of call.entry)) (moved_words_of (option_map (λ moved. (moved.0, moved.1.now)) reported.entry)))) out.old out.new result }
 {
     let Some((direction, bytes)) = reported else {
         return Ok(());

@@ -1,5 +1,5 @@
 //! The reasons for the decision of a promise or a table.
-ghost use Rattle.std.specs.Prelude.{◌≡◌, codes, flat_map, map, IfSome, IsTrue, OnOk, OnErr, Some, option_copied};
+ghost use Rattle.std.specs.Prelude.{◌≡◌, codes, flat_map, map, IfSome, IsTrue, Some, option_copied};
 ghost use Rattle.std.specs.Result.{is_err};
 ghost use Rattle.pv_explain.specs.Basis.{set_of, sets_of, table_of};
 ghost use Rattle.pv_explain.specs.Parts.{increase_by, judgement_lines, promise_part, promise_reason_by, table_part, table_reasons, values_asked, widening_by, why};
@@ -8,10 +8,9 @@ ghost use Rattle.pv_model.specs.Answers.Lines.{answer_bytes, answer_line_bytes, 
 ghost use Rattle.pv_model.specs.CallRef.{call_of};
 ghost use Rattle.pv_model.specs.Needs.{needs, needs_of_open};
 ghost use Rattle.pv_model.specs.Promises.{is_lenient, narrow_promises};
-ghost use Rattle.pv_model.specs.Stream.{Rose};
 ghost use Rattle.pv_model.specs.Tree.{is_directory_at};
 ghost use Rattle.pv_promises.specs.Pledge.{bits_of};
-ghost use Rattle.pv_streams.specs.Sinks.{and_all, WritesPrefix};
+ghost use Rattle.pv_streams.specs.Sinks.{Writes};
 ghost use Rattle.pv_trace.specs.Reported.{promise_words_of, unveil_words_of};
 ghost use Rattle.pv_trace.specs.Words.{promise_verdict_of, unveil_verdict_of};
 ghost use Rattle.pv_unveil.specs.Up.{directory_of};
@@ -115,10 +114,7 @@ fn write_lack<W: Sink>(
     call: CallRef<'_>,
     held: Option<Promises>,
 ) -> Result<(), Failed>
-    ensures whole { OnOk result (W.written out.new ≡ and_all (W.written out.old) (answer_line_bytes (why pid (lack_text (call_of call.entry) (bits_of held))))) }
-    ensures prefix { OnErr result (WritesPrefix (answer_line_bytes (why pid (lack_text (call_of call.entry) (bits_of held)))) (W.written out.old) (W.written out.new)) }
-    ensures failed { OnErr result (Rose (W.failures out.old) (W.failures out.new)) }
-    ensures quiet { OnOk result (W.failures out.new ≡ W.failures out.old) }
+    ensures { Writes W.Sink (answer_line_bytes (why pid (lack_text (call_of call.entry) (bits_of held)))) out.old out.new result }
 {
     let line = AnswerLine {
         pid,
@@ -143,10 +139,7 @@ fn write_value<W: Sink>(
     asked: Option<Promises>,
     held: Option<Promises>,
 ) -> Result<(), Failed>
-    ensures whole { OnOk result (W.written out.new ≡ and_all (W.written out.old) (answer_line_bytes (why pid (increase_text what.now (bits_of asked) (bits_of held))))) }
-    ensures prefix { OnErr result (WritesPrefix (answer_line_bytes (why pid (increase_text what.now (bits_of asked) (bits_of held)))) (W.written out.old) (W.written out.new)) }
-    ensures failed { OnErr result (Rose (W.failures out.old) (W.failures out.new)) }
-    ensures quiet { OnOk result (W.failures out.new ≡ W.failures out.old) }
+    ensures { Writes W.Sink (answer_line_bytes (why pid (increase_text what.now (bits_of asked) (bits_of held)))) out.old out.new result }
 {
     let line = AnswerLine {
         pid,
@@ -180,10 +173,7 @@ fn write_increase<W: Sink>(
     pledge: Pledge,
     asked: Option<(Option<Promises>, Option<Promises>)>,
 ) -> Result<(), Failed>
-    ensures whole { OnOk result (W.written out.new ≡ and_all (W.written out.old) (answer_line_bytes (why pid (increase_by pledge (sets_of asked))))) }
-    ensures prefix { OnErr result (WritesPrefix (answer_line_bytes (why pid (increase_by pledge (sets_of asked)))) (W.written out.old) (W.written out.new)) }
-    ensures failed { OnErr result (Rose (W.failures out.old) (W.failures out.new)) }
-    ensures quiet { OnOk result (W.failures out.new ≡ W.failures out.old) }
+    ensures { Writes W.Sink (answer_line_bytes (why pid (increase_by pledge (sets_of asked)))) out.old out.new result }
 {
     let Some((promises, execpromises)) = asked else {
         let line = AnswerLine {
@@ -214,10 +204,7 @@ fn write_promise_line<W: Sink>(
     call: CallRef<'_>,
     verdict: PromiseVerdict,
 ) -> Result<(), Failed>
-    ensures whole { OnOk result (W.written out.new ≡ and_all (W.written out.old) (answer_line_bytes (why pid (promise_reason_by pledge (call_of call.entry) (promise_verdict_of verdict))))) }
-    ensures prefix { OnErr result (WritesPrefix (answer_line_bytes (why pid (promise_reason_by pledge (call_of call.entry) (promise_verdict_of verdict)))) (W.written out.old) (W.written out.new)) }
-    ensures failed { OnErr result (Rose (W.failures out.old) (W.failures out.new)) }
-    ensures quiet { OnOk result (W.failures out.new ≡ W.failures out.old) }
+    ensures { Writes W.Sink (answer_line_bytes (why pid (promise_reason_by pledge (call_of call.entry) (promise_verdict_of verdict)))) out.old out.new result }
 {
     match verdict {
         PromiseVerdict::Increase => write_increase(out, pid, pledge, values_asked(call)),
@@ -233,7 +220,6 @@ fn write_promise_line<W: Sink>(
 /// # Errors
 ///
 /// `Failed`, if a write failed. The sink received a prefix of the lines.
-#[tactic(auto, using(pv_streams::proofs::Reporting::written_both, pv_streams::proofs::Reporting::begins_first, pv_streams::proofs::Reporting::begins_then, pv_streams::proofs::Reporting::written_none))]
 pub(crate) fn write_promise_part<W: Sink>(
     out: &mut W,
     line_buffer: &mut LineBuffer,
@@ -242,10 +228,7 @@ pub(crate) fn write_promise_part<W: Sink>(
     call: CallRef<'_>,
     reported: Option<(Promise, PromiseVerdict)>,
 ) -> Result<(), Failed>
-    ensures whole { OnOk result (W.written out.new ≡ and_all (W.written out.old) (answer_bytes (flat_map (promise_part pid pledge (call_of call.entry)) (promise_words_of (call_of call.entry) reported)))) }
-    ensures prefix { OnErr result (WritesPrefix (answer_bytes (flat_map (promise_part pid pledge (call_of call.entry)) (promise_words_of (call_of call.entry) reported))) (W.written out.old) (W.written out.new)) }
-    ensures failed { OnErr result (Rose (W.failures out.old) (W.failures out.new)) }
-    ensures quiet { OnOk result (W.failures out.new ≡ W.failures out.old) }
+    ensures { Writes W.Sink (answer_bytes (flat_map (promise_part pid pledge (call_of call.entry)) (promise_words_of (call_of call.entry) reported))) out.old out.new result }
 {
     let Some((promise, verdict)) = reported else {
         return Ok(());
@@ -266,10 +249,7 @@ fn write_widening<W: Sink>(
     entry: u8,
     asked: Perms,
 ) -> Result<(), Failed>
-    ensures whole { OnOk result (W.written out.new ≡ and_all (W.written out.old) (answer_line_bytes (why basis.now.pid (widening_by (table_of basis.now) (set_of basis.now) entry asked)))) }
-    ensures prefix { OnErr result (WritesPrefix (answer_line_bytes (why basis.now.pid (widening_by (table_of basis.now) (set_of basis.now) entry asked))) (W.written out.old) (W.written out.new)) }
-    ensures failed { OnErr result (Rose (W.failures out.old) (W.failures out.new)) }
-    ensures quiet { OnOk result (W.failures out.new ≡ W.failures out.old) }
+    ensures { Writes W.Sink (answer_line_bytes (why basis.now.pid (widening_by (table_of basis.now) (set_of basis.now) entry asked))) out.old out.new result }
 {
     let has = EntryText {
         table: basis.table,
@@ -290,10 +270,7 @@ fn write_widening<W: Sink>(
 // Writes the line of a locked table.
 #[tactic(auto, unfolding(pv_model::specs::Trace::text_line))]
 fn write_locked<W: Sink>(out: &mut W, pid: u32) -> Result<(), Failed>
-    ensures whole { OnOk result (W.written out.new ≡ and_all (W.written out.old) (answer_line_bytes (why pid (codes "the table is locked")))) }
-    ensures prefix { OnErr result (WritesPrefix (answer_line_bytes (why pid (codes "the table is locked"))) (W.written out.old) (W.written out.new)) }
-    ensures failed { OnErr result (Rose (W.failures out.old) (W.failures out.new)) }
-    ensures quiet { OnOk result (W.failures out.new ≡ W.failures out.old) }
+    ensures { Writes W.Sink (answer_line_bytes (why pid (codes "the table is locked"))) out.old out.new result }
 {
     let line = AnswerLine {
         pid,
@@ -304,7 +281,6 @@ fn write_locked<W: Sink>(out: &mut W, pid: u32) -> Result<(), Failed>
 }
 
 // Writes the lines of the derivation of a table's decision on a place, if there is a place.
-#[tactic(auto, using(pv_streams::proofs::Reporting::written_none))]
 fn write_judgement<W: Sink>(
     out: &mut W,
     basis: &Basis<'_>,
@@ -312,10 +288,7 @@ fn write_judgement<W: Sink>(
     place: Option<&Place>,
 ) -> Result<(), Failed>
     requires { IfSome place (λ place. IsTrue (is_directory_at basis.now.tree.now.tree (directory_of place.now))) }
-    ensures whole { OnOk result (W.written out.new ≡ and_all (W.written out.old) (answer_bytes (judgement_lines basis.now.tree.now.tree (table_of basis.now) (set_of basis.now) basis.now.pid asked (option_copied place.entry)))) }
-    ensures prefix { OnErr result (WritesPrefix (answer_bytes (judgement_lines basis.now.tree.now.tree (table_of basis.now) (set_of basis.now) basis.now.pid asked (option_copied place.entry))) (W.written out.old) (W.written out.new)) }
-    ensures failed { OnErr result (Rose (W.failures out.old) (W.failures out.new)) }
-    ensures quiet { OnOk result (W.failures out.new ≡ W.failures out.old) }
+    ensures { Writes W.Sink (answer_bytes (judgement_lines basis.now.tree.now.tree (table_of basis.now) (set_of basis.now) basis.now.pid asked (option_copied place.entry))) out.old out.new result }
 {
     match place {
         Some(place) => write_levels(out, basis, asked, place),
@@ -332,10 +305,7 @@ fn write_table_reasons<W: Sink>(
     verdict: UnveilVerdict,
 ) -> Result<(), Failed>
     requires { IfSome place (λ place. IsTrue (is_directory_at basis.now.tree.now.tree (directory_of place.now))) }
-    ensures whole { OnOk result (W.written out.new ≡ and_all (W.written out.old) (answer_bytes (table_reasons basis.now.tree.now.tree (table_of basis.now) (set_of basis.now) basis.now.pid (call_of call.entry) (option_copied place.entry) (unveil_verdict_of verdict)))) }
-    ensures prefix { OnErr result (WritesPrefix (answer_bytes (table_reasons basis.now.tree.now.tree (table_of basis.now) (set_of basis.now) basis.now.pid (call_of call.entry) (option_copied place.entry) (unveil_verdict_of verdict))) (W.written out.old) (W.written out.new)) }
-    ensures failed { OnErr result (Rose (W.failures out.old) (W.failures out.new)) }
-    ensures quiet { OnOk result (W.failures out.new ≡ W.failures out.old) }
+    ensures { Writes W.Sink (answer_bytes (table_reasons basis.now.tree.now.tree (table_of basis.now) (set_of basis.now) basis.now.pid (call_of call.entry) (option_copied place.entry) (unveil_verdict_of verdict))) out.old out.new result }
 {
     match (call, verdict) {
         (_, UnveilVerdict::Locked) => write_locked(out, basis.pid),
@@ -354,7 +324,6 @@ fn write_table_reasons<W: Sink>(
 /// # Errors
 ///
 /// `Failed`, if a write failed. The sink received a prefix of the lines.
-#[tactic(auto, using(pv_streams::proofs::Reporting::written_both, pv_streams::proofs::Reporting::begins_first, pv_streams::proofs::Reporting::begins_then, pv_streams::proofs::Reporting::written_none))]
 pub(crate) fn write_table_part<W: Sink>(
     out: &mut W,
     line_buffer: &mut LineBuffer,
@@ -364,10 +333,7 @@ pub(crate) fn write_table_part<W: Sink>(
     verdict: UnveilVerdict,
 ) -> Result<(), Failed>
     requires { IfSome place (λ place. IsTrue (is_directory_at basis.now.tree.now.tree (directory_of place.now))) }
-    ensures whole { OnOk result (W.written out.new ≡ and_all (W.written out.old) (answer_bytes (flat_map (table_part basis.now.tree.now.tree (table_of basis.now) (set_of basis.now) basis.now.pid (call_of call.entry) (option_copied place.entry)) (unveil_words_of (Some verdict))))) }
-    ensures prefix { OnErr result (WritesPrefix (answer_bytes (flat_map (table_part basis.now.tree.now.tree (table_of basis.now) (set_of basis.now) basis.now.pid (call_of call.entry) (option_copied place.entry)) (unveil_words_of (Some verdict)))) (W.written out.old) (W.written out.new)) }
-    ensures failed { OnErr result (Rose (W.failures out.old) (W.failures out.new)) }
-    ensures quiet { OnOk result (W.failures out.new ≡ W.failures out.old) }
+    ensures { Writes W.Sink (answer_bytes (flat_map (table_part basis.now.tree.now.tree (table_of basis.now) (set_of basis.now) basis.now.pid (call_of call.entry) (option_copied place.entry)) (unveil_words_of (Some verdict)))) out.old out.new result }
 {
     let line = Line {
         pid: basis.pid,

@@ -1,65 +1,50 @@
-use Rattle.std.proofs.Common.{◌∙◌, ap, refl, subst}
-use Rattle.std.proofs.lemmas.Result.{on_err_weaker, on_ok_weaker}
+use Rattle.std.proofs.Common.{◌∙◌, ap, refl}
 use Rattle.pv_model.specs.Bytes.{Bytes}
 use Rattle.pv_model.specs.CallRef.{call_of}
-use Rattle.pv_streams.specs.Sinks.{and_all, WritesPrefix}
-use Rattle.pv_streams.proofs.Reporting.{begins_first, begins_then, on_err, written_both}
 use Rattle.pv_trace.specs.Steps.{moved_by}
+use Rattle.pv_answers.proofs.Writing.{writes_as, writes_both, writes_failed, writes_longer}
 use Rattle.pv_explain.specs.Keeping.{settings_in}
 use Rattle.pv_explain.proofs.CallLines.{call-bytes}
 use Rattle.pv_explain.proofs.explained.write_call.Goals as goal
 
-pub returns-in_err-write_first_lines-clause-prefix : goal.returns-in_err-write_first_lines-clause-prefix
-returns-in_err-write_first_lines-clause-prefix g c =
+pub returns-in_err-write_first_lines : goal.returns-in_err-write_first_lines
+returns-in_err-write_first_lines g c =
     let m = c.args.made.now in
     let gave = c.reported_bytes-moved.ensures.words ∙ ap (λ (front : Bytes). moved_by front (call_of m.call) m.answer.outcome) c.buffer.ensures.value in
-    let text = call-bytes c.args.pid (settings_in c.args.origins.now) m c.args.session.now _ _ (refl) gave c.parts-parts.result.now c.parts-parts.ensures.value in
-    on_err c.from_residual.result
-    (subst (λ (bs : Bytes). WritesPrefix bs (g.W.Sink.written c.args.out.now) (g.W.Sink.written c.write_first_lines.new.out)) text
-    (begins_first _ _ _ _ (begins_first _ _ _ _ (begins_first _ _ _ _ (begins_first _ _ _ _ c.in_err-write_first_lines.ensures.prefix)))))
+    writes_failed c.from_residual.ensures.0
+    (writes_as (call-bytes c.args.pid (settings_in c.args.origins.now) m c.args.session.now _ _ refl gave c.parts-parts.result.now c.parts-parts.ensures.value)
+    (writes_longer _ (writes_longer _ (writes_longer _ (writes_longer _ c.in_err-write_first_lines.ensures)))))
 
-pub returns-in_err-write_promise_part-clause-prefix : goal.returns-in_err-write_promise_part-clause-prefix
-returns-in_err-write_promise_part-clause-prefix g c =
+pub returns-in_err-write_promise_part : goal.returns-in_err-write_promise_part
+returns-in_err-write_promise_part g c =
     let m = c.args.made.now in
     let gave = c.reported_bytes-moved.ensures.words ∙ ap (λ (front : Bytes). moved_by front (call_of m.call) m.answer.outcome) c.buffer.ensures.value in
     let text = call-bytes c.args.pid (settings_in c.args.origins.now) m c.args.session.now _ _ (c.reported_promise.ensures (call_of m.call)) gave c.parts-parts.result.now c.parts-parts.ensures.value in
-    on_err c.from_residual-in_err-write_promise_part.result
-    (subst (λ (bs : Bytes). WritesPrefix bs (g.W.Sink.written c.args.out.now) (g.W.Sink.written c.write_promise_part.new.out)) text
-    (begins_first _ _ _ _ (begins_first _ _ _ _ (begins_first _ _ _ _ (begins_then _ _ _ _ _ c.in_ok-write_first_lines.ensures.whole c.in_err-write_promise_part.ensures.prefix)))))
+    writes_failed c.from_residual-in_err-write_promise_part.ensures.0
+    (writes_as text (writes_longer _ (writes_longer _ (writes_longer _ (writes_both c.in_ok-write_first_lines.ensures c.in_err-write_promise_part.ensures)))))
 
-pub returns-in_err-write_table_lines-clause-prefix : goal.returns-in_err-write_table_lines-clause-prefix
-returns-in_err-write_table_lines-clause-prefix g c =
+pub returns-in_err-write_table_lines : goal.returns-in_err-write_table_lines
+returns-in_err-write_table_lines g c =
     let m = c.args.made.now in
     let gave = c.reported_bytes-moved.ensures.words ∙ ap (λ (front : Bytes). moved_by front (call_of m.call) m.answer.outcome) c.buffer.ensures.value in
     let text = call-bytes c.args.pid (settings_in c.args.origins.now) m c.args.session.now _ _ (c.reported_promise.ensures (call_of m.call)) gave c.parts-parts.result.now c.parts-parts.ensures.value in
-    on_err c.from_residual-in_err-write_table_lines.result
-    (subst (λ (bs : Bytes). WritesPrefix bs (g.W.Sink.written c.args.out.now) (g.W.Sink.written c.write_table_lines.new.out)) text
-    (begins_first _ _ _ _ (begins_first _ _ _ _ (begins_then _ _ _ _ _ (written_both _ _ _ _ _ c.in_ok-write_first_lines.ensures.whole c.in_ok-write_promise_part.ensures.whole) c.in_err-write_table_lines.ensures.prefix))))
+    writes_failed c.from_residual-in_err-write_table_lines.ensures.0
+    (writes_as text (writes_longer _ (writes_longer _ (writes_both (writes_both c.in_ok-write_first_lines.ensures c.in_ok-write_promise_part.ensures) c.in_err-write_table_lines.ensures))))
 
-pub returns-in_err-write_moved_part-clause-prefix : goal.returns-in_err-write_moved_part-clause-prefix
-returns-in_err-write_moved_part-clause-prefix g c =
+pub returns-in_err-write_moved_part : goal.returns-in_err-write_moved_part
+returns-in_err-write_moved_part g c =
     let m = c.args.made.now in
     let gave = c.reported_bytes-moved.ensures.words ∙ ap (λ (front : Bytes). moved_by front (call_of m.call) m.answer.outcome) c.buffer.ensures.value in
     let text = call-bytes c.args.pid (settings_in c.args.origins.now) m c.args.session.now _ _ (c.reported_promise.ensures (call_of m.call)) gave c.parts-parts.result.now c.parts-parts.ensures.value in
-    on_err c.from_residual-in_err-write_moved_part.result
-    (subst (λ (bs : Bytes). WritesPrefix bs (g.W.Sink.written c.args.out.now) (g.W.Sink.written c.write_moved_part.new.out)) text
-    (begins_first _ _ _ _ (begins_then _ _ _ _ _ (written_both _ _ _ _ _ (written_both _ _ _ _ _ c.in_ok-write_first_lines.ensures.whole c.in_ok-write_promise_part.ensures.whole) c.in_ok-write_table_lines.ensures.whole) c.in_err-write_moved_part.ensures.prefix)))
+    writes_failed c.from_residual-in_err-write_moved_part.ensures.0
+    (writes_as text
+    (writes_longer _ (writes_both (writes_both (writes_both c.in_ok-write_first_lines.ensures c.in_ok-write_promise_part.ensures) c.in_ok-write_table_lines.ensures) c.in_err-write_moved_part.ensures)))
 
-pub returns-clause-whole : goal.returns-clause-whole
-returns-clause-whole g c =
+pub returns : goal.returns
+returns g c =
     let m = c.args.made.now in
     let gave = c.reported_bytes-moved.ensures.words ∙ ap (λ (front : Bytes). moved_by front (call_of m.call) m.answer.outcome) c.buffer.ensures.value in
     let text = call-bytes c.args.pid (settings_in c.args.origins.now) m c.args.session.now _ _ (c.reported_promise.ensures (call_of m.call)) gave c.parts-parts.result.now c.parts-parts.ensures.value in
-    on_ok_weaker c.write_last_line.result
-    (λ last.
-    written_both _ _ _ _ _ (written_both _ _ _ _ _ (written_both _ _ _ _ _ (written_both _ _ _ _ _ c.in_ok-write_first_lines.ensures.whole c.in_ok-write_promise_part.ensures.whole) c.in_ok-write_table_lines.ensures.whole) c.in_ok-write_moved_part.ensures.whole) last ∙ ap (and_all (g.W.Sink.written c.args.out.now)) text) c.write_last_line.ensures.whole
-
-pub returns-clause-prefix : goal.returns-clause-prefix
-returns-clause-prefix g c =
-    let m = c.args.made.now in
-    let gave = c.reported_bytes-moved.ensures.words ∙ ap (λ (front : Bytes). moved_by front (call_of m.call) m.answer.outcome) c.buffer.ensures.value in
-    let text = call-bytes c.args.pid (settings_in c.args.origins.now) m c.args.session.now _ _ (c.reported_promise.ensures (call_of m.call)) gave c.parts-parts.result.now c.parts-parts.ensures.value in
-    on_err_weaker c.write_last_line.result
-    (λ begun.
-    subst (λ (bs : Bytes). WritesPrefix bs (g.W.Sink.written c.args.out.now) (g.W.Sink.written c.write_last_line.new.out)) text
-    (begins_then _ _ _ _ _ (written_both _ _ _ _ _ (written_both _ _ _ _ _ (written_both _ _ _ _ _ c.in_ok-write_first_lines.ensures.whole c.in_ok-write_promise_part.ensures.whole) c.in_ok-write_table_lines.ensures.whole) c.in_ok-write_moved_part.ensures.whole) begun)) c.write_last_line.ensures.prefix
+    writes_as text
+    (writes_both (writes_both (writes_both (writes_both c.in_ok-write_first_lines.ensures c.in_ok-write_promise_part.ensures) c.in_ok-write_table_lines.ensures) c.in_ok-write_moved_part.ensures)
+    c.write_last_line.ensures)
