@@ -1,17 +1,19 @@
 -- The demand of a step, by the fetched instruction and the answer.
-use Rattle.std.proofs.Common.{◌≡◌, ◌∙◌, ◌⊎◌, ⊎_elim, ℕ, zero, suc, ◌≤◌, ◌-◌, Bool, true, false, cond, List, [], ◌∷◌, length, take, nat_le, slice_get, Option, None, Some, refl, sym, ap, ap₂, subst, arith}
+use Rattle.std.proofs.Common.{◌≡◌, ◌∙◌, ◌⊎◌, ⊎_elim, ℕ, zero, suc, ◌≤◌, ◌-◌, Bool, true, false, cond, ◌&&◌, List, [], ◌∷◌, length, take, nat_le, slice_get, Option, None, Some, refl, sym, ap, ap₂, subst, arith}
 use Rattle.std.specs.List.{cons_option, filter_map}
 use Rattle.std.proofs.lemmas.Bool.{le-leb}
 use Rattle.pv_model.specs.declared.call.Call.{Call}
 use Rattle.pv_model.specs.declared.call.Call.TheVariants.{Unveil, Execve, Open, OpenAt, Chdir, Stat, Lstat, Readlink, Mkdir, Symlink, Link, Unlink, Rmdir, Rename}
 use Rattle.pv_model.specs.declared.instruction.Instruction.{Instruction}
 use Rattle.pv_model.specs.declared.instruction.Instruction.TheVariants as Line
+use Rattle.pv_model.specs.declared.outcome.Outcome.{Outcome}
 use Rattle.pv_model.specs.Answer.{Answered, answer}
 use Rattle.pv_model.specs.Answers.Needs.{Asked, Judged, asked, asked_by, asked_next, asked_of, begins_program, judged, judged_at, judged_walks, promises_needed}
 use Rattle.pv_model.specs.Effect.{end_of}
 use Rattle.pv_model.specs.Grammar.Programs.{program_of}
 use Rattle.pv_model.specs.Program.{calls_for, next, next_by, perform}
 use Rattle.pv_model.specs.State.{Process, State, process_at}
+use Rattle.pv_model.specs.Step.{step}
 use Rattle.pv_model.specs.Touch.{place_found}
 use Rattle.pv_model.specs.Walks.{Walk, walk_number, walks_of}
 use Rattle.pv_calls_path.specs.Ends.{end_begun}
@@ -23,6 +25,7 @@ use Rattle.pv_procs.specs.Turns.{IsFetched, RegisterNext}
 use Rattle.pv_script.specs.Context.{is_some_on_registers}
 use Rattle.pv_needs.specs.declared.process_images.JudgedWalks.{JudgedWalks}
 use Rattle.pv_needs.specs.Asking.{ends_before, ends_of, judged_begun}
+use Rattle.pv_needs.specs.Granted.{demand, is_refused}
 use Rattle.pv_needs.specs.ProcessImages.{first_walks, judged_in}
 
 -- ---- the checked walks
@@ -154,3 +157,26 @@ module _ (s : State) (pid : ℕ) where
         ∙ sym (ap Some (same-asked now (asked_by s p call (answer program_of s pid call)) line promises
         (walks ∙ ap (λ (x : Answered). judged_in (first_walks (ends_before s pid p call) x.walks)) (sym is) ∙ walks-asked s pid p call at)
         (ends ∙ ap (λ (x : Answered). begins_program call x.outcome) (sym is))))
+
+-- ---- the calls that count
+
+module _ (granted : Bool) (s : State) (pid : ℕ) where
+  -- no call counts in a step without one
+  pub counts-nothing : asked program_of s pid ≡ None → demand granted program_of s pid ≡ None
+  counts-nothing none = ap (λ (o : Option Asked). cond (granted && is_refused (step program_of s pid).outcome) None o) none ∙ both (granted && is_refused (step program_of s pid).outcome)
+    where
+      both : (b : Bool) → cond {A = Option Asked} b None None ≡ None
+      both true = refl
+      both false = refl
+
+  module _ (outcome : Outcome) (is : (step program_of s pid).outcome ≡ outcome) where
+    by-outcome : (b : Bool) → b ≡ (granted && is_refused outcome) → demand granted program_of s pid ≡ cond b None (asked program_of s pid)
+    by-outcome b left = ap (λ (c : Bool). cond c None (asked program_of s pid)) (ap (λ (o : Outcome). granted && is_refused o) is ∙ sym left)
+
+    -- a call that does not count
+    pub counts-none : (b : Bool) → b ≡ (granted && is_refused outcome) → b ≡ true → demand granted program_of s pid ≡ None
+    counts-none b left holds = by-outcome b left ∙ ap (λ (c : Bool). cond c None (asked program_of s pid)) holds
+
+    -- a call that counts
+    pub counts-call : (b : Bool) → b ≡ (granted && is_refused outcome) → b ≡ false → (now : Asked) → asked program_of s pid ≡ Some now → demand granted program_of s pid ≡ Some now
+    counts-call b left fails now asks = by-outcome b left ∙ ap (λ (c : Bool). cond c None (asked program_of s pid)) fails ∙ asks

@@ -1,12 +1,13 @@
 -- The demands of a run, with one more step.
-use Rattle.std.proofs.Common.{◌≡◌, ◌∙◌, ℕ, zero, suc, ◌+◌, ◌<◌, List, [], ◌∷◌, ◌++◌, length, length-append, take, get_or, append_assoc, add-one, refl, sym, ap, subst, Option, None, Some}
+use Rattle.std.proofs.Common.{◌≡◌, ◌∙◌, ℕ, zero, suc, ◌+◌, ◌<◌, Bool, List, [], ◌∷◌, ◌++◌, length, length-append, take, get_or, append_assoc, add-one, refl, sym, ap, subst, Option, None, Some}
 use Rattle.std.specs.Prelude.{replicate}
 use Rattle.std.proofs.lemmas.List.{append-nil}
-use Rattle.pv_model.specs.Answers.Needs.{Asked, and_asked, asked, asked_in, process_images}
+use Rattle.pv_model.specs.Answers.Needs.{Asked, and_asked, process_images}
 use Rattle.pv_model.specs.Grammar.Programs.{program_of}
 use Rattle.pv_model.specs.State.{State}
 use Rattle.pv_model.specs.Step.{Schedule, run, step, steps_of}
 use Rattle.pv_needs.specs.Asking.{IsMoreBy}
+use Rattle.pv_needs.specs.Granted.{demand, demands_in}
 use Rattle.pv_needs.specs.ProcessImages.{RecordedImage, Keeps}
 use Rattle.pv_needs.proofs.RecordedImages.{keeps-more}
 use Rattle.pv_session.specs.Running.{run_of_first, turn}
@@ -17,12 +18,12 @@ and-append pid None xs ys = refl
 and-append pid (Some now) xs ys = refl
 
 -- a run, followed by another
-asked-append : (pids others : List ℕ) (s : State) → asked_in program_of (pids ++ others) s ≡ asked_in program_of pids s ++ asked_in program_of others (run program_of pids s).final
-asked-append [] others s = refl
-asked-append (pid ∷ pids) others s =
+asked-append : (granted : Bool) (pids others : List ℕ) (s : State) → demands_in granted program_of (pids ++ others) s ≡ demands_in granted program_of pids s ++ demands_in granted program_of others (run program_of pids s).final
+asked-append granted [] others s = refl
+asked-append granted (pid ∷ pids) others s =
     let after = (step program_of s pid).after in
-    ap (and_asked program_of pid (asked program_of s pid)) (asked-append pids others after)
-    ∙ and-append pid (asked program_of s pid) (asked_in program_of pids after) (asked_in program_of others (run program_of pids after).final)
+    ap (and_asked program_of pid (demand granted program_of s pid)) (asked-append granted pids others after)
+    ∙ and-append pid (demand granted program_of s pid) (demands_in granted program_of pids after) (demands_in granted program_of others (run program_of pids after).final)
 
 -- the records after one more step
 keeps-step : (old new : List (List RecordedImage)) (all : List (ℕ × Asked)) (pid : ℕ) (o : Option Asked) → Keeps old all → IsMoreBy old pid o new → Keeps new (all ++ and_asked program_of pid o [])
@@ -34,29 +35,29 @@ replicate-more zero pid = refl
 replicate-more (suc n) pid = ap (λ xs. pid ∷ xs) (replicate-more n pid)
 
 -- one more step of a turn
-pub keeps-turn : (s mid : State) (pid n : ℕ) (first old new : List (List RecordedImage)) → mid ≡ (turn s pid n).final
-    → ((all : List (ℕ × Asked)) → Keeps first all → Keeps old (all ++ asked_in program_of (replicate n pid) s))
-    → IsMoreBy old pid (asked program_of mid pid) new
-    → (all : List (ℕ × Asked)) → Keeps first all → Keeps new (all ++ asked_in program_of (replicate (n + 1) pid) s)
-keeps-turn s mid pid n first old new at recorded more all keeps =
+pub keeps-turn : (granted : Bool) (s mid : State) (pid n : ℕ) (first old new : List (List RecordedImage)) → mid ≡ (turn s pid n).final
+    → ((all : List (ℕ × Asked)) → Keeps first all → Keeps old (all ++ demands_in granted program_of (replicate n pid) s))
+    → IsMoreBy old pid (demand granted program_of mid pid) new
+    → (all : List (ℕ × Asked)) → Keeps first all → Keeps new (all ++ demands_in granted program_of (replicate (n + 1) pid) s)
+keeps-turn granted s mid pid n first old new at recorded more all keeps =
     subst (Keeps new)
-    (append_assoc all (asked_in program_of (replicate n pid) s) (and_asked program_of pid (asked program_of mid pid) [])
+    (append_assoc all (demands_in granted program_of (replicate n pid) s) (and_asked program_of pid (demand granted program_of mid pid) [])
     ∙ ap (λ (xs : List (ℕ × Asked)). all ++ xs)
-    (ap (λ t. asked_in program_of (replicate n pid) s ++ asked_in program_of (pid ∷ []) t) at
-    ∙ sym (asked-append (replicate n pid) (pid ∷ []) s) ∙ ap (λ pids. asked_in program_of pids s) (sym (replicate-more n pid) ∙ ap (λ k. replicate k pid) (sym (add-one n)))))
-    (keeps-step old new (all ++ asked_in program_of (replicate n pid) s) pid (asked program_of mid pid) (recorded all keeps) more)
+    (ap (λ t. demands_in granted program_of (replicate n pid) s ++ demands_in granted program_of (pid ∷ []) t) at
+    ∙ sym (asked-append granted (replicate n pid) (pid ∷ []) s) ∙ ap (λ pids. demands_in granted program_of pids s) (sym (replicate-more n pid) ∙ ap (λ k. replicate k pid) (sym (add-one n)))))
+    (keeps-step old new (all ++ demands_in granted program_of (replicate n pid) s) pid (demand granted program_of mid pid) (recorded all keeps) more)
 
 -- one more turn of a schedule
-pub keeps-schedule : (s mid : State) (schedule : Schedule) (i : ℕ) (old new : List (List RecordedImage)) → i < length schedule → mid ≡ (run_of_first s i schedule).final
-    → Keeps old (asked_in program_of (steps_of (take i schedule)) s)
-    → ((all : List (ℕ × Asked)) → Keeps old all → Keeps new (all ++ asked_in program_of (replicate (get_or schedule i (0, 0)).1 (get_or schedule i (0, 0)).0) mid))
-    → Keeps new (asked_in program_of (steps_of (take (i + 1) schedule)) s)
-keeps-schedule s mid schedule i old new within at recorded more =
+pub keeps-schedule : (granted : Bool) (s mid : State) (schedule : Schedule) (i : ℕ) (old new : List (List RecordedImage)) → i < length schedule → mid ≡ (run_of_first s i schedule).final
+    → Keeps old (demands_in granted program_of (steps_of (take i schedule)) s)
+    → ((all : List (ℕ × Asked)) → Keeps old all → Keeps new (all ++ demands_in granted program_of (replicate (get_or schedule i (0, 0)).1 (get_or schedule i (0, 0)).0) mid))
+    → Keeps new (demands_in granted program_of (steps_of (take (i + 1) schedule)) s)
+keeps-schedule granted s mid schedule i old new within at recorded more =
     let entry = get_or schedule i (0, 0) in
     subst (Keeps new)
-    (ap (λ t. asked_in program_of (steps_of (take i schedule)) s ++ asked_in program_of (replicate entry.1 entry.0) t) at
-    ∙ sym (asked-append (steps_of (take i schedule)) (replicate entry.1 entry.0) s) ∙ ap (λ pids. asked_in program_of pids s) (sym (steps_more schedule i within)))
-    (more (asked_in program_of (steps_of (take i schedule)) s) recorded)
+    (ap (λ t. demands_in granted program_of (steps_of (take i schedule)) s ++ demands_in granted program_of (replicate entry.1 entry.0) t) at
+    ∙ sym (asked-append granted (steps_of (take i schedule)) (replicate entry.1 entry.0) s) ∙ ap (λ pids. demands_in granted program_of pids s) (sym (steps_more schedule i within)))
+    (more (demands_in granted program_of (steps_of (take i schedule)) s) recorded)
 
 -- the records before the first step
 pub keeps-none : Keeps [] []

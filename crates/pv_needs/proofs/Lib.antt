@@ -1,8 +1,8 @@
 -- Lemmas about the records of a run: Times (counts), Targets (the targets at which walks were checked), RecordedImages
 -- (the process images of a process), Keeping (records in lists, by index), Bounds (of process images), Asked (the
 -- demand of a step), AskedRuns (the demands of a run), Numbers (the numbers of the processes that make calls),
--- NeedsText (the text of the records), RecordedLines (their lines), LineBytes (the bytes of lines), KnownPaths (the
--- path of a directory). TurnsMade has turns, TurnsTaken follows them step by step, TurnsLines writes them, and Rounds
+-- NeedsText (the texts of the records), RecordedLines (their lines), Restraining (their calls of pledge(2) and
+-- unveil(2)), LineBytes (the bytes of lines), KnownPaths (the path of a directory). TurnsMade has turns, TurnsTaken follows them step by step, TurnsLines writes them, and Rounds
 -- finds the process with the next turn.
 pub mod Asked
 pub mod AskedRuns
@@ -10,6 +10,7 @@ pub mod Bounds
 pub mod Keeping
 pub mod RecordedLines
 pub mod RecordedImages
+pub mod Restraining
 pub mod KnownPaths
 pub mod LineBytes
 pub mod NeedsText

@@ -1,13 +1,13 @@
 -- The numbers of the processes that make calls in a run.
 use Rattle.std.proofs.Common.{◌≡◌, ◌∙◌, ℕ, suc, ◌≤◌, Bool, true, false, cond, nat_le, List, [], ◌∷◌, length, length-take, map, take, Option, None, Some, refl, sym, ap, subst, arith, pos, negsuc}
-use Rattle.std.specs.Prelude.{◌==◌}
+use Rattle.std.specs.Prelude.{◌==◌, ◌&&◌}
 use Rattle.std.specs.List.{AllByRecursion, cons_option, filter, filter_map}
 use Rattle.std.proofs.lemmas.Bool.{and_parts, leb-true, ne_eqb}
 use Rattle.pv_model.specs.declared.call.Call.{Call}
 use Rattle.pv_model.specs.declared.errno.Errno.TheVariants.{ENOSYS}
 use Rattle.pv_model.specs.declared.outcome.Cause.TheVariants.{Promise as ByPromise}
 use Rattle.pv_model.specs.Answer.{Answered, answer, answer_by_attempt, at_next_line, effect, update, with_front}
-use Rattle.pv_model.specs.Answers.Needs.{Asked, Judged, and_asked, asked, asked_by, asked_by_one, asked_in, asked_next, asked_of, judged, judged_walks}
+use Rattle.pv_model.specs.Answers.Needs.{Asked, Judged, and_asked, asked, asked_by, asked_by_one, asked_next, asked_of, judged, judged_walks}
 use Rattle.pv_model.specs.Attempt.{Attempt, done, refused}
 use Rattle.pv_model.specs.Calls.Processes.{end_process, with_result}
 use Rattle.pv_model.specs.Effect.{Effect, Reply, returns, returns_bytes, ends, waits}
@@ -28,6 +28,7 @@ use Rattle.pv_laws_states.proofs.BySteps.{step-keeps_whole}
 use Rattle.pv_laws_states.proofs.Members.{find_number-list_all, live-found}
 use Rattle.pv_laws_states.proofs.Outcomes.{at_call, by_answer}
 use Rattle.pv_laws_states.proofs.Processes.{last_process-update}
+use Rattle.pv_needs.specs.Granted.{demand, demands_in, is_refused}
 use Rattle.pv_needs.proofs.Asked.{by-unveil, walks-short}
 
 -- ---- the last process number never decreases
@@ -151,33 +152,39 @@ wider : (last more : ℕ) (all : List (ℕ × Asked)) → last ≤ more → AllB
 wider last more [] low each = tt
 wider last more (a ∷ all) low each = (record { first = each.0.first; within = omega (arith, each.0.within, low); walks = each.0.walks }, wider last more all low each.1)
 
--- each call of a run is of this kind
-pub each-asked : (pids : List ℕ) (s : State) → IsValid s → AllByRecursion (IsAsked (run program_of pids s).final.last_process) (asked_in program_of pids s)
-each-asked [] s whole = tt
-each-asked (pid ∷ pids) s whole = by (asked program_of s pid) refl (each-asked pids after (step-keeps_whole program_of program_of-encodes s pid whole))
-  where
-    after : State
-    after = (step program_of s pid).after
+-- a call that counts is a call
+demanded : (b : Bool) (o : Option Asked) (now : Asked) → cond b None o ≡ Some now → o ≡ Some now
+demanded true o now is = cc is
+demanded false o now is = is
 
-    last : ℕ
-    last = (run program_of pids after).final.last_process
+module _ (granted : Bool) where
+  -- each call of a run is of this kind
+  pub each-asked : (pids : List ℕ) (s : State) → IsValid s → AllByRecursion (IsAsked (run program_of pids s).final.last_process) (demands_in granted program_of pids s)
+  each-asked [] s whole = tt
+  each-asked (pid ∷ pids) s whole = by (demand granted program_of s pid) refl (each-asked pids after (step-keeps_whole program_of program_of-encodes s pid whole))
+    where
+      after : State
+      after = (step program_of s pid).after
 
-    by : (o : Option Asked) → asked program_of s pid ≡ o → AllByRecursion (IsAsked last) (asked_in program_of pids after)
-        → AllByRecursion (IsAsked last) (and_asked program_of pid o (asked_in program_of pids after))
-    by None is rest = rest
-    by (Some now) is rest =
-        let here = asked-step s whole pid now is in
-        (record { first = here.first; within = omega (arith, here.within, last-step s pid, last-run pids after); walks = here.walks }, rest)
+      last : ℕ
+      last = (run program_of pids after).final.last_process
 
--- there are no more calls than steps
-pub asked-fewer : (pids : List ℕ) (s : State) → length (asked_in program_of pids s) ≤ length pids
-asked-fewer [] s = omega arith
-asked-fewer (pid ∷ pids) s = by (asked program_of s pid) (asked-fewer pids (step program_of s pid).after)
-  where
-    by : (o : Option Asked) → length (asked_in program_of pids (step program_of s pid).after) ≤ length pids
-        → length (and_asked program_of pid o (asked_in program_of pids (step program_of s pid).after)) ≤ suc (length pids)
-    by None few = omega arith
-    by (Some now) few = omega arith
+      by : (o : Option Asked) → demand granted program_of s pid ≡ o → AllByRecursion (IsAsked last) (demands_in granted program_of pids after)
+          → AllByRecursion (IsAsked last) (and_asked program_of pid o (demands_in granted program_of pids after))
+      by None is rest = rest
+      by (Some now) is rest =
+          let here = asked-step s whole pid now (demanded (granted && is_refused (step program_of s pid).outcome) (asked program_of s pid) now is) in
+          (record { first = here.first; within = omega (arith, here.within, last-step s pid, last-run pids after); walks = here.walks }, rest)
+
+  -- there are no more calls than steps
+  pub asked-fewer : (pids : List ℕ) (s : State) → length (demands_in granted program_of pids s) ≤ length pids
+  asked-fewer [] s = omega arith
+  asked-fewer (pid ∷ pids) s = by (demand granted program_of s pid) (asked-fewer pids (step program_of s pid).after)
+    where
+      by : (o : Option Asked) → length (demands_in granted program_of pids (step program_of s pid).after) ≤ length pids
+          → length (and_asked program_of pid o (demands_in granted program_of pids (step program_of s pid).after)) ≤ suc (length pids)
+      by None few = omega arith
+      by (Some now) few = omega arith
 
 -- processes with other numbers make no calls
 pub none-asked : (last pid : ℕ) (all : List (ℕ × Asked)) → AllByRecursion (IsAsked last) all → ((1 ≤ pid) × (pid ≤ last) → ⊥) → asked_by_one all pid ≡ []

@@ -1,10 +1,12 @@
 //! The demands of each program on its sandbox in a run.
-ghost use Rattle.std.specs.Prelude.{◌≡◌, ◌≤◌, ◌*◌, ◌^◌, ◌++◌, ℕ, List, length, replicate, IfErr, IfOk, IsErrOf, IsTrue, OnOk};
+ghost use Rattle.std.specs.Prelude.{◌≡◌, ◌≤◌, ◌&&◌, ◌*◌, ◌^◌, ◌++◌, ℕ, List, length, replicate, IfErr, IfOk, IsErrOf, IsTrue, OnOk};
 ghost use Rattle.pv_needs.specs.Asking.{IsMoreBy};
+ghost use Rattle.pv_needs.specs.Granted.{demand, demands_in, is_refused as is_refused_by_definition, lines_of_demands};
 ghost use Rattle.pv_needs.specs.ProcessImages.{Keeps};
+ghost use Rattle.pv_needs.specs.Restraints.{restraints};
 ghost use Rattle.pv_laws_states.specs.States.{is_call};
 ghost use Rattle.pv_model.specs.Answers.Lines.{answer_bytes};
-ghost use Rattle.pv_model.specs.Answers.Needs.{Asked as AskedByDefinition, asked, asked_in, needs_lines};
+ghost use Rattle.pv_model.specs.Answers.Needs.{Asked as AskedByDefinition, needs_lines};
 ghost use Rattle.pv_model.specs.CallRef.{call_of};
 ghost use Rattle.pv_model.specs.declared.limits.TheConstants.{SCHEDULE_LINES};
 ghost use Rattle.pv_model.specs.Grammar.Programs.{program_of};
@@ -17,28 +19,49 @@ ghost use Rattle.pv_streams.specs.Sinks.{WritesOr};
 
 use crate::asking::{begins_program, judged_walks, promises_needed};
 use crate::process_images::{Asked, Recorded};
+use crate::restraints::restraints_text;
 use crate::wording::TargetTexts;
 use crate::writing::write_recorded;
-use pv_model::CallRef;
+use pv_model::{CallRef, Cause, Outcome};
 use pv_procs::Fetched;
 use pv_script::CallTexts;
 use pv_session::{Session, Stop};
-use pv_streams::Sink;
+use pv_streams::{Sink, write_whole};
 use std::alloc::Global;
 
-// Makes the next call of a process, and records its demands.
+// Returns whether a promise or a table refused the call with this outcome.
+fn is_refused(outcome: Outcome) -> bool
+    ensures { result ≡ is_refused_by_definition outcome }
+{
+    match outcome {
+        Outcome::Killed(_) => true,
+        Outcome::Failed(_, cause) => cause != Cause::Plain,
+        _ => false,
+    }
+}
+
+// Returns whether the call with this outcome does not count: only granted calls do, and it was refused.
+fn is_left_out(granted: bool, outcome: Outcome) -> bool
+    ensures { result ≡ (granted && is_refused_by_definition outcome) }
+{
+    granted && is_refused(outcome)
+}
+
+// Makes the next call of a process, and records its demands. If only granted calls count, a call that a promise or a
+// table refused is not recorded.
 fn ask_call(
     alloc: Global,
     session: &mut Session,
     recorded: &mut Recorded,
     targets: &mut TargetTexts,
+    granted: bool,
     pid: u32,
     call: CallRef<'_>,
 ) -> Result<(), Stop>
     requires next { CallsNext call (process_at session.old pid) }
     requires callable { IsTrue (is_call (call_of call)) }
     ensures after { OnOk result (session.new ≡ (stepped session.old pid).after) }
-    ensures recorded { OnOk result (IsMoreBy recorded.old pid (asked program_of session.old pid) recorded.new) }
+    ensures recorded { OnOk result (IsMoreBy recorded.old pid (demand granted program_of session.old pid) recorded.new) }
     ensures memory { IfErr result (λ stop. stop ≡ Memory) }
 {
     let parts = session.parts();
@@ -47,6 +70,9 @@ fn ask_call(
         return Err(Stop::Memory);
     };
     let answer = session.call(alloc, pid, call)?;
+    if is_left_out(granted, answer.outcome) {
+        return Ok(());
+    }
     let asked = Asked {
         line,
         promises: promises_needed(call),
@@ -66,14 +92,15 @@ fn ask_step(
     recorded: &mut Recorded,
     texts: &mut CallTexts,
     targets: &mut TargetTexts,
+    granted: bool,
     pid: u32,
 ) -> Result<(), Stop>
     ensures after { OnOk result (session.new ≡ (stepped session.old pid).after) }
-    ensures recorded { OnOk result (IsMoreBy recorded.old pid (asked program_of session.old pid) recorded.new) }
+    ensures recorded { OnOk result (IsMoreBy recorded.old pid (demand granted program_of session.old pid) recorded.new) }
     ensures memory { IfErr result (λ stop. stop ≡ Memory) }
 {
     match session.fetch(pid, texts) {
-        Fetched::Call(call) => ask_call(alloc, session, recorded, targets, pid, call),
+        Fetched::Call(call) => ask_call(alloc, session, recorded, targets, granted, pid, call),
         Fetched::Register => {
             session.register(pid);
             Ok(())
@@ -92,15 +119,16 @@ fn ask_turn(
     recorded: &mut Recorded,
     texts: &mut CallTexts,
     targets: &mut TargetTexts,
+    granted: bool,
     pid: u32,
     count: u32,
 ) -> Result<(), Stop>
     ensures after { OnOk result (session.new ≡ (turn session.old pid count).final) }
-    ensures recorded { OnOk result ((all : List (ℕ × AskedByDefinition)) → Keeps recorded.old all → Keeps recorded.new (all ++ asked_in program_of (replicate count pid) session.old)) }
+    ensures recorded { OnOk result ((all : List (ℕ × AskedByDefinition)) → Keeps recorded.old all → Keeps recorded.new (all ++ demands_in granted program_of (replicate count pid) session.old)) }
     ensures memory { IfErr result (λ stop. stop ≡ Memory) }
 {
     for _ in 0..count {
-        ask_step(alloc, session, recorded, texts, targets, pid)?;
+        ask_step(alloc, session, recorded, texts, targets, granted, pid)?;
     }
     Ok(())
 }
@@ -110,9 +138,10 @@ fn ask_schedule(
     alloc: Global,
     session: &mut Session,
     schedule: &[(u32, u32)],
+    granted: bool,
 ) -> Result<Recorded, Stop>
     ensures after { OnOk result (session.new ≡ (run_of session.old schedule.now).final) }
-    ensures recorded { IfOk result (λ recorded. Keeps recorded (asked_in program_of (steps_of schedule.now) session.old)) }
+    ensures recorded { IfOk result (λ recorded. Keeps recorded (demands_in granted program_of (steps_of schedule.now) session.old)) }
     ensures few { OnOk result (length (steps_of schedule.now) ≤ 2 ^ 32 * length schedule.now) }
     ensures memory { IfErr result (λ stop. stop ≡ Memory) }
 {
@@ -127,6 +156,7 @@ fn ask_schedule(
             &mut recorded,
             &mut texts,
             &mut targets,
+            granted,
             pid,
             count,
         )?;
@@ -135,12 +165,37 @@ fn ask_schedule(
 }
 
 /// Runs a schedule, and writes the demands of each process image on its sandbox in that run: the promises that its
-/// calls needed and the targets at which its walks were checked, each with a count and the line of the last call.
+/// calls needed and the targets at which its walks were checked, each with a count and the line of the last call. With
+/// `granted`, the calls that a promise or a table refused do not count.
 ///
 /// # Errors
 ///
 /// - `Memory`, if there is no memory for a step, as for `run_schedule`, or for the records. Nothing was written.
 /// - `Write`, if a write failed. The sink received a prefix of the lines.
+pub fn write_demands<W: Sink>(
+    alloc: Global,
+    session: &mut Session,
+    schedule: &[(u32, u32)],
+    granted: bool,
+    out: &mut W,
+) -> Result<(), Stop>
+    requires { length schedule.now ≤ SCHEDULE_LINES }
+    ensures after { OnOk result (session.new ≡ (run_of session.old schedule.now).final) }
+    ensures written { WritesOr W.Sink FailsBy (answer_bytes (lines_of_demands program_of granted (steps_of schedule.now) session.old)) out.old out.new result }
+    ensures nothing { IsErrOf result Stop.Memory → W.written out.new ≡ W.written out.old }
+{
+    // The contract of `parts` states that the state satisfies the invariant.
+    let _ = session.parts();
+    let recorded = ask_schedule(alloc, session, schedule, granted)?;
+    write_recorded(out, &recorded)?;
+    Ok(())
+}
+
+/// Runs a schedule, and writes the demands of each process image, as `write_demands` does, of all calls.
+///
+/// # Errors
+///
+/// As for `write_demands`.
 pub fn write_needs<W: Sink>(
     alloc: Global,
     session: &mut Session,
@@ -152,9 +207,36 @@ pub fn write_needs<W: Sink>(
     ensures written { WritesOr W.Sink FailsBy (answer_bytes (needs_lines program_of (steps_of schedule.now) session.old)) out.old out.new result }
     ensures nothing { IsErrOf result Stop.Memory → W.written out.new ≡ W.written out.old }
 {
+    write_demands(alloc, session, schedule, false, out)
+}
+
+/// Runs a schedule, and writes the calls of pledge(2) and unveil(2) by which each process image can restrict itself to
+/// its demands in that run: its targets, the lock of the table, and its promises, first in C and then as instructions
+/// of a program. With `granted`, the calls that a promise or a table refused do not count.
+///
+/// # Errors
+///
+/// - `Memory`, if there is no memory for a step, as for `run_schedule`, for the records, or for the text. Nothing was
+///   written.
+/// - `Write`, if a write failed. The sink received a prefix of the text.
+pub fn write_restraints<W: Sink>(
+    alloc: Global,
+    session: &mut Session,
+    schedule: &[(u32, u32)],
+    granted: bool,
+    out: &mut W,
+) -> Result<(), Stop>
+    requires { length schedule.now ≤ SCHEDULE_LINES }
+    ensures after { OnOk result (session.new ≡ (run_of session.old schedule.now).final) }
+    ensures written { WritesOr W.Sink FailsBy (restraints program_of granted (steps_of schedule.now) session.old) out.old out.new result }
+    ensures nothing { IsErrOf result Stop.Memory → W.written out.new ≡ W.written out.old }
+{
     // The contract of `parts` states that the state satisfies the invariant.
     let _ = session.parts();
-    let recorded = ask_schedule(alloc, session, schedule)?;
-    write_recorded(out, &recorded)?;
+    let recorded = ask_schedule(alloc, session, schedule, granted)?;
+    let Ok(text) = restraints_text(alloc, &recorded) else {
+        return Err(Stop::Memory);
+    };
+    write_whole(out, &text)?;
     Ok(())
 }

@@ -11,9 +11,9 @@ use pv_model::Promise;
 use pv_promises::ALL;
 use pv_streams::{Failed, Sink, write_whole};
 
-// A count in decimal digits.
+/// A count in decimal digits.
 #[derive(Clone, Copy)]
-struct Count(u64);
+pub(crate) struct Count(pub(crate) u64);
 
 impl Fragment for Count {
     ghost text = { λ p. decimal p.0 };

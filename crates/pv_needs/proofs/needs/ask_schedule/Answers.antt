@@ -19,6 +19,6 @@ loop-turn-preserved c = record {
       ∙ sym (ap (λ (r : Run). r.final) (schedule_more c.args.session.now c.loop-turn.session c.args.schedule.now c.loop-turn.turn-index c.loop-turn-test.true c.loop-turn.invariant.after));
   few = omega (arith, steps-longer c.args.schedule.now c.loop-turn.turn-index c.loop-turn-test.true, c.loop-turn.invariant.few);
   recorded =
-      keeps-schedule c.args.session.now c.loop-turn.session c.args.schedule.now c.loop-turn.turn-index c.loop-turn.recorded c.ask_turn.new.recorded c.loop-turn-test.true
+      keeps-schedule c.args.granted c.args.session.now c.loop-turn.session c.args.schedule.now c.loop-turn.turn-index c.loop-turn.recorded c.ask_turn.new.recorded c.loop-turn-test.true
       c.loop-turn.invariant.after c.loop-turn.invariant.recorded c.in_ok-ask_turn.ensures.recorded;
 }

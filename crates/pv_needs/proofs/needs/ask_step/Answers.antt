@@ -3,7 +3,7 @@ use Rattle.pv_laws_access.proofs.Ends.{step-is}
 use Rattle.pv_model.specs.Grammar.Programs.{program_of}
 use Rattle.pv_model.specs.Step.{Stepped, step_by}
 use Rattle.pv_needs.specs.Asking.{IsMoreBy}
-use Rattle.pv_needs.proofs.Asked.{asks-nothing}
+use Rattle.pv_needs.proofs.Asked.{asks-nothing, counts-nothing}
 use Rattle.pv_needs.proofs.needs.ask_step.Goals as goal
 
 pub returns-in-Register : goal.returns-in-Register
@@ -15,7 +15,7 @@ returns-in-Register c =
       after = made.only ∙ sym (ap (λ (w : Stepped). w.after) (step-is program_of s pid made.me made.lives ∙ ap (step_by program_of s pid made.me) made.step));
       recorded =
           subst (λ o. IsMoreBy c.args.recorded.now pid o c.args.recorded.now)
-          (sym (asks-nothing s pid c.fetch.result (inl c.in-Register.is) c.fetch.ensures.next)) refl;
+          (sym (counts-nothing c.args.granted s pid (asks-nothing s pid c.fetch.result (inl c.in-Register.is) c.fetch.ensures.next))) refl;
       memory = tt;
     }
 
@@ -24,6 +24,6 @@ returns-in_ok-step-in-Gone c = record {
   after = c.in_ok-step-in-Gone.ensures.after;
   recorded =
       subst (λ o. IsMoreBy c.args.recorded.now c.args.pid o c.args.recorded.now)
-      (sym (asks-nothing c.args.session.now c.args.pid c.fetch.result (inr c.in-Gone.is) c.fetch.ensures.next)) refl;
+      (sym (counts-nothing c.args.granted c.args.session.now c.args.pid (asks-nothing c.args.session.now c.args.pid c.fetch.result (inr c.in-Gone.is) c.fetch.ensures.next))) refl;
   memory = tt;
 }

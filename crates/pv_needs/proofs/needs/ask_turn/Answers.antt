@@ -10,6 +10,6 @@ loop-preserved c = record {
       c.in_ok-ask_step.ensures.after
       ∙ sym (ap (λ (r : Run). r.final) (turn_more c.args.session.now c.loop.session c.args.pid c.loop.counter c.loop.invariant.after));
   recorded =
-      keeps-turn c.args.session.now c.loop.session c.args.pid c.loop.counter c.args.recorded.now c.loop.recorded c.ask_step.new.recorded c.loop.invariant.after c.loop.invariant.recorded
+      keeps-turn c.args.granted c.args.session.now c.loop.session c.args.pid c.loop.counter c.args.recorded.now c.loop.recorded c.ask_step.new.recorded c.loop.invariant.after c.loop.invariant.recorded
       c.in_ok-ask_step.ensures.recorded;
 }

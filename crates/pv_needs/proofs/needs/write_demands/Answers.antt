@@ -5,7 +5,7 @@ use Rattle.pv_streams.proofs.Reporting.{on_err}
 use Rattle.pv_streams.specs.Sinks.{WritesPrefix, and_all}
 use Rattle.pv_needs.specs.declared.process_images.TheConstants.{MANY}
 use Rattle.pv_needs.proofs.NeedsText.{needs-reported}
-use Rattle.pv_needs.proofs.needs.write_needs.Goals as goal
+use Rattle.pv_needs.proofs.needs.write_demands.Goals as goal
 
 pub returns-in_err-write_recorded-clause-written : goal.returns-in_err-write_recorded-clause-written
 returns-in_err-write_recorded-clause-written g c = record {
@@ -13,7 +13,7 @@ returns-in_err-write_recorded-clause-written g c = record {
   prefix =
       (let pids = steps_of c.args.schedule.now in
       let short : 2 * length pids ≤ MANY = omega (arith, c.in_ok-recorded.ensures.few, c.requires) in
-      let same = needs-reported pids c.args.session.now c.in_ok-recorded.recorded c.parts.ensures.whole short c.in_ok-recorded.ensures.recorded in
+      let same = needs-reported c.args.granted pids c.args.session.now c.in_ok-recorded.recorded c.parts.ensures.whole short c.in_ok-recorded.ensures.recorded in
       on_err c.from_residual-in_err-write_recorded.result
       (subst (λ ls. WritesPrefix (answer_bytes ls) (g.W.Sink.written c.args.out.now) (g.W.Sink.written c.write_recorded.new.out)) same c.in_err-write_recorded.ensures.prefix));
   failed = search rules;
@@ -25,7 +25,7 @@ returns-clause-written g c = record {
   whole =
       (let pids = steps_of c.args.schedule.now in
       let short : 2 * length pids ≤ MANY = omega (arith, c.in_ok-recorded.ensures.few, c.requires) in
-      let same = needs-reported pids c.args.session.now c.in_ok-recorded.recorded c.parts.ensures.whole short c.in_ok-recorded.ensures.recorded in
+      let same = needs-reported c.args.granted pids c.args.session.now c.in_ok-recorded.recorded c.parts.ensures.whole short c.in_ok-recorded.ensures.recorded in
       c.in_ok-write_recorded.ensures.whole ∙ ap (λ ls. and_all (g.W.Sink.written c.args.out.now) (answer_bytes ls)) same);
   prefix = search rules;
   failed = search rules;

@@ -1,0 +1,42 @@
+-- The demands of the calls that were granted: neither a promise nor a table refused them.
+use Rattle.std.specs.Prelude.{ℕ, Bool, true, false, ◌&&◌, if◌then◌else◌, List, [], ◌∷◌, Option, None}
+use Rattle.pv_model.specs.declared.outcome.Cause.{Cause}
+use Rattle.pv_model.specs.declared.outcome.Cause.TheVariants.{Plain}
+use Rattle.pv_model.specs.declared.outcome.Outcome.{Outcome}
+use Rattle.pv_model.specs.declared.outcome.Outcome.TheVariants.{Failed, Killed}
+use Rattle.pv_model.specs.Answers.Lines.{AnswerLine}
+use Rattle.pv_model.specs.Answers.Needs.{Asked, and_asked, asked, needs_lines, needs_of_all}
+use Rattle.pv_model.specs.Bytes.{Bytes}
+use Rattle.pv_model.specs.State.{Program, State}
+use Rattle.pv_model.specs.Step.{run, step}
+
+-- the reason is a promise or a table, and not an error of the call itself
+abbrev pub is_restraint : Cause → Bool
+is_restraint Plain = false
+is_restraint cause = true
+
+-- a promise or a table refused the call
+abbrev pub is_refused : Outcome → Bool
+is_refused (Killed p) = true
+is_refused (Failed errno cause) = is_restraint cause
+is_refused outcome = false
+
+module _ (granted : Bool) (program_of : Bytes → Option Program) where
+  -- the demands of a step that is a call; if only granted calls count, of a call that was not refused
+  abbrev pub demand : State → ℕ → Option Asked
+  demand s pid = if granted && is_refused (step program_of s pid).outcome then None else asked program_of s pid
+
+  -- the demands of the calls of a run, each with its process
+  abbrev pub demands_in : List ℕ → State → List (ℕ × Asked)
+  demands_in [] s = []
+  demands_in (pid ∷ pids) s = and_asked program_of pid (demand s pid) (demands_in pids (step program_of s pid).after)
+
+module _ (program_of : Bytes → Option Program) where
+  -- the lines of `needs` of the granted calls alone
+  abbrev pub granted_lines : List ℕ → State → List AnswerLine
+  granted_lines pids s = needs_of_all (demands_in true program_of pids s) (run program_of pids s).final.last_process
+
+  -- the lines of all calls, or of the granted calls alone
+  abbrev pub lines_of_demands : Bool → List ℕ → State → List AnswerLine
+  lines_of_demands false pids s = needs_lines program_of pids s
+  lines_of_demands true pids s = granted_lines pids s
