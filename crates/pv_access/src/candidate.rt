@@ -1,0 +1,197 @@
+//! An access that a call may have, prepared before the call.
+ghost use Rattle.std.specs.Prelude.{◌≡◌, ◌++◌, ◌∷◌, [], codes, IfOk, OnOk};
+ghost use Rattle.pv_model.specs.Answers.Access.{changes_name};
+ghost use Rattle.pv_model.specs.Answers.Lines.{answer_line, answer_line_bytes};
+ghost use Rattle.pv_model.specs.Answers.Files.{node_brief};
+ghost use Rattle.pv_model.specs.Answers.Nodes.{name_words};
+ghost use Rattle.pv_access.specs.Texts.{access_at, all_prepared, line_in, note, prepared, texts_by, texts_in, texts_with, word_letters};
+ghost use Rattle.pv_access.specs.declared.condition.Condition.TheVariants.{Success};
+
+use crate::condition::Condition;
+use crate::word::{NodeBrief, NodeWord};
+use pv_answers::{Fragment, Line, NameWords};
+use pv_model::Outcome;
+use pv_streams::Gathered;
+use pv_tree::Tree;
+use std::alloc::{AllocError, Global};
+
+/// An access that a call may have.
+#[derive(Drop)]
+pub(crate) struct Candidate {
+    /// The condition on the outcome under which the call has the access.
+    pub(crate) condition: Condition,
+    /// The file whose bytes the access depends on.
+    pub(crate) noted: Option<u16>,
+    /// The line of the access.
+    pub(crate) line: Vec<u8>,
+}
+
+/// Returns the bytes of a fragment.
+///
+/// # Errors
+///
+/// `AllocError`, if there is no memory.
+pub(crate) fn text_of<P: Fragment>(alloc: Global, fragment: &P) -> Result<Vec<u8>, AllocError>
+    ensures { IfOk result (λ bytes. bytes.items ≡ P.text fragment.now) }
+{
+    let mut text = Gathered::new(alloc);
+    match fragment.write(&mut text) {
+        Ok(()) => Ok(text.bytes),
+        Err(_) => Err(AllocError),
+    }
+}
+
+// Returns the note of a file.
+fn note_of(alloc: Global, node: u16) -> Result<Vec<u8>, AllocError>
+    ensures { IfOk result (λ bytes. bytes.items ≡ note node) }
+{
+    let mut bytes = Vec::new(alloc);
+    bytes.push(0)?;
+    bytes.push((node / 256) as u8)?;
+    bytes.push((node % 256) as u8)?;
+    Ok(bytes)
+}
+
+// Returns the line of an access to a node.
+#[tactic(auto, unfolding(pv_model::specs::Trace::text_line))]
+fn node_line(
+    alloc: Global,
+    tree: &Tree,
+    pid: u32,
+    word: NodeWord,
+    node: u16,
+) -> Result<Vec<u8>, AllocError>
+    ensures { IfOk result (λ line. line.items ≡ answer_line_bytes (answer_line pid (word_letters word) (node_brief tree.now.tree node))) }
+{
+    let line = Line {
+        pid,
+        word: word.letters(),
+        text: NodeBrief { tree, node },
+    };
+    text_of(alloc, &line)
+}
+
+// Returns the line of a change of a name.
+#[tactic(auto, unfolding(pv_model::specs::Trace::text_line))]
+fn name_line(
+    alloc: Global,
+    tree: &Tree,
+    pid: u32,
+    directory: u16,
+    name: &[u8],
+) -> Result<Vec<u8>, AllocError>
+    ensures { IfOk result (λ line. line.items ≡ answer_line_bytes (answer_line pid (codes "NAME") (name_words tree.now.tree directory name.now))) }
+{
+    let text = NameWords {
+        tree,
+        directory,
+        name,
+    };
+    let line = Line {
+        pid,
+        word: *b"NAME",
+        text,
+    };
+    text_of(alloc, &line)
+}
+
+/// Adds an access to a node.
+///
+/// # Errors
+///
+/// `AllocError`, if there is no memory.
+pub(crate) fn push_node(
+    alloc: Global,
+    candidates: &mut Vec<Candidate>,
+    tree: &Tree,
+    pid: u32,
+    condition: Condition,
+    word: NodeWord,
+    node: u16,
+) -> Result<(), AllocError>
+    ensures { OnOk result (all_prepared candidates.new.items ≡ all_prepared candidates.old.items ++ (condition, texts_by (line_in tree.now.tree pid) (access_at word node)) ∷ []) }
+{
+    let line = node_line(alloc, tree, pid, word, node)?;
+    let noted = word.noted(node);
+    candidates.push(Candidate {
+        condition,
+        noted,
+        line,
+    })?;
+    Ok(())
+}
+
+/// Adds a change of a name.
+///
+/// # Errors
+///
+/// `AllocError`, if there is no memory.
+pub(crate) fn push_name(
+    alloc: Global,
+    candidates: &mut Vec<Candidate>,
+    tree: &Tree,
+    pid: u32,
+    directory: u16,
+    name: &[u8],
+) -> Result<(), AllocError>
+    ensures { OnOk result (all_prepared candidates.new.items ≡ all_prepared candidates.old.items ++ (Success, texts_by (line_in tree.now.tree pid) (changes_name directory name.now)) ∷ []) }
+{
+    let line = name_line(alloc, tree, pid, directory, name)?;
+    candidates.push(Candidate {
+        condition: Condition::Success,
+        noted: None,
+        line,
+    })?;
+    Ok(())
+}
+
+// Adds the texts of an access.
+fn push_texts(
+    alloc: Global,
+    texts: &mut Vec<Vec<u8>>,
+    candidate: Candidate,
+) -> Result<(), AllocError>
+    ensures { OnOk result (texts_in texts.new.items ≡ texts_in texts.old.items ++ (prepared candidate).1) }
+{
+    let Candidate { noted, line, .. } = candidate;
+    if let Some(node) = noted {
+        texts.push(note_of(alloc, node)?)?;
+    }
+    texts.push(line)?;
+    Ok(())
+}
+
+// Adds the texts of an access if the outcome of the call satisfies its condition.
+fn push_allowed(
+    alloc: Global,
+    texts: &mut Vec<Vec<u8>>,
+    candidate: Candidate,
+    outcome: Outcome,
+) -> Result<(), AllocError>
+    ensures { OnOk result (texts_in texts.new.items ≡ texts_in texts.old.items ++ texts_with outcome (prepared candidate ∷ [])) }
+{
+    if candidate.condition.holds(outcome) {
+        push_texts(alloc, texts, candidate)
+    } else {
+        Ok(())
+    }
+}
+
+/// Returns the texts of the accesses that a call had, given its outcome.
+///
+/// # Errors
+///
+/// `AllocError`, if there is no memory.
+pub(crate) fn texts_of(
+    alloc: Global,
+    candidates: Vec<Candidate>,
+    outcome: Outcome,
+) -> Result<Vec<Vec<u8>>, AllocError>
+    ensures { IfOk result (λ texts. texts_in texts.items ≡ texts_with outcome (all_prepared candidates.items)) }
+{
+    let mut texts = Vec::new(alloc);
+    for candidate in candidates {
+        push_allowed(alloc, &mut texts, candidate, outcome)?;
+    }
+    Ok(texts)
+}

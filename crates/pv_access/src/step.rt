@@ -1,0 +1,159 @@
+//! Steps with their accesses.
+ghost use Rattle.std.specs.Prelude.{◌≡◌, ◌++◌, flat_map, IfOk, IsSome, IsTrue, OnOk, Some, option_map, option_to_list, pos};
+ghost use Rattle.pv_laws_states.specs.States.{IsValid, is_call};
+ghost use Rattle.pv_model.specs.Answers.Access.{accesses_by_open, node_opened, opens};
+ghost use Rattle.pv_model.specs.Answers.Lines.{answer_line_bytes};
+ghost use Rattle.pv_model.specs.CallRef.{call_of};
+ghost use Rattle.pv_model.specs.Effect.{open_file};
+ghost use Rattle.pv_model.specs.State.{Process, process_at};
+ghost use Rattle.pv_model.specs.Touch.{flags_of};
+ghost use Rattle.pv_procs.specs.Turns.{CallsNext};
+ghost use Rattle.pv_session.specs.Running.{stepped};
+ghost use Rattle.pv_access.specs.Texts.{access_texts, line_in, texts_by, texts_in};
+
+use crate::candidate::{text_of, texts_of};
+use crate::candidates::candidates_of;
+use crate::ends::node_at_descriptor;
+use crate::word::NodeBrief;
+use pv_answers::{Line, ModeLetters, Plain};
+use pv_calls_state::Parts;
+use pv_model::{CallRef, Mode, Outcome, StepFault};
+use pv_procs::Fetched;
+use pv_script::CallTexts;
+use pv_session::Session;
+use pv_tree::Tree;
+use std::alloc::{AllocError, Global};
+
+// Returns the mode that an open asks for.
+fn mode_of(call: CallRef<'_>) -> Option<Mode>
+    ensures { result ≡ option_map (λ flags. flags.mode) (flags_of (call_of call.entry)) }
+{
+    match call {
+        CallRef::Open(_, flags) | CallRef::OpenAt(_, _, flags) => Some(flags.mode),
+        _ => None,
+    }
+}
+
+// Returns the node of a descriptor of a live process, if the descriptor is open.
+#[tactic(auto, using(crate::proofs::Past::past_none))]
+fn node_at_number(parts: &Parts, pid: u32, d: u32) -> Option<u16>
+    requires whole { IsValid parts.now }
+    requires live { IsSome (process_at parts.now pid) }
+    ensures { (p : Process) → process_at parts.now pid ≡ Some p → result ≡ option_map (λ file. file.1.node) (open_file parts.now p (pos d)) }
+{
+    // A process has at most 16 descriptors.
+    if d < 16 {
+        node_at_descriptor(parts, pid, d as i32)
+    } else {
+        None
+    }
+}
+
+// Returns the node of a new descriptor, given the state after an open and its outcome.
+fn node_opened(parts: &Parts, pid: u32, outcome: Outcome) -> Option<u16>
+    requires { IsValid parts.now }
+    ensures { option_to_list result ≡ node_opened parts.now pid outcome }
+{
+    match outcome {
+        Outcome::Value(d) if parts.processes().live(pid) => node_at_number(parts, pid, d),
+        _ => None,
+    }
+}
+
+// Returns the line of a new descriptor.
+#[tactic(auto, unfolding(pv_model::specs::Trace::text_line))]
+fn opened_line(
+    alloc: Global,
+    tree: &Tree,
+    pid: u32,
+    mode: Mode,
+    node: u16,
+) -> Result<Vec<u8>, AllocError>
+    ensures { IfOk result (λ line. line.items ≡ answer_line_bytes (line_in tree.now.tree pid (opens node mode))) }
+{
+    let text = (ModeLetters(mode), Plain(b" "), NodeBrief { tree, node });
+    let line = Line {
+        pid,
+        word: *b"OPEN",
+        text,
+    };
+    text_of(alloc, &line)
+}
+
+// Adds the text of a new descriptor, if the call has opened one, given the state after it.
+fn push_opened(
+    alloc: Global,
+    texts: &mut Vec<Vec<u8>>,
+    parts: &Parts,
+    pid: u32,
+    call: CallRef<'_>,
+    outcome: Outcome,
+) -> Result<(), AllocError>
+    requires { IsValid parts.now }
+    ensures { OnOk result (texts_in texts.new.items ≡ texts_in texts.old.items ++ flat_map (texts_by (line_in parts.now.tree pid)) (accesses_by_open parts.now pid outcome (flags_of (call_of call.entry)))) }
+{
+    let Some(mode) = mode_of(call) else {
+        return Ok(());
+    };
+    let Some(node) = node_opened(parts, pid, outcome) else {
+        return Ok(());
+    };
+    let line = opened_line(alloc, parts.tree(), pid, mode, node)?;
+    texts.push(line)?;
+    Ok(())
+}
+
+// Makes the next call of a process, and returns its accesses as texts.
+fn make_call(
+    alloc: Global,
+    session: &mut Session,
+    pid: u32,
+    call: CallRef<'_>,
+) -> Result<Vec<Vec<u8>>, StepFault>
+    requires next { CallsNext call (process_at session.old pid) }
+    requires callable { IsTrue (is_call (call_of call)) }
+    ensures after { OnOk result (session.new ≡ (stepped session.old pid).after) }
+    ensures texts { IfOk result (λ texts. texts_in texts.items ≡ access_texts session.old pid (stepped session.old pid)) }
+{
+    let parts = session.parts();
+    let candidates = candidates_of(alloc, parts, pid, call)?;
+    let answer = session.call(alloc, pid, call)?;
+    let mut texts = texts_of(alloc, candidates, answer.outcome)?;
+    push_opened(
+        alloc,
+        &mut texts,
+        session.parts(),
+        pid,
+        call,
+        answer.outcome,
+    )?;
+    Ok(texts)
+}
+
+/// Makes a step of a process, and returns its accesses as texts, in the order of their lines: the line of each, and
+/// before the line of a READ or EXEC a note of the file, which begins with byte 0. A step that is not a call has none.
+///
+/// # Errors
+///
+/// `NoMemory`, if there is no memory for the program of an execve(2), or for the texts.
+pub fn step_with_accesses(
+    alloc: Global,
+    session: &mut Session,
+    pid: u32,
+) -> Result<Vec<Vec<u8>>, StepFault>
+    ensures after { OnOk result (session.new ≡ (stepped session.old pid).after) }
+    ensures texts { IfOk result (λ texts. texts_in texts.items ≡ access_texts session.old pid (stepped session.old pid)) }
+{
+    let mut texts = CallTexts::new();
+    match session.fetch(pid, &mut texts) {
+        Fetched::Call(call) => make_call(alloc, session, pid, call),
+        Fetched::Register => {
+            session.register(pid);
+            Ok(Vec::new(alloc))
+        }
+        Fetched::Gone => {
+            session.step(alloc, pid)?;
+            Ok(Vec::new(alloc))
+        }
+    }
+}
