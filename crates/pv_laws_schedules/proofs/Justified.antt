@@ -1,5 +1,5 @@
 -- Accesses to the bytes of files, and reports of nodes, are justified.
-use Rattle.std.proofs.Common.{◌≡◌, ◌∙◌, sym, ap, subst, ℕ, ℤ, Bool, true, false, if◌then◌else◌, ◌==◌, List, [], ◌∷◌, ◌++◌, map, filter_map, not, ◌&&◌, Contains, Option, None, Some, Ok, option_map, option_and_then, ◌⊎◌, inl, inr, ⊎_elim, refl}
+use Rattle.std.proofs.Common.{◌≡◌, ◌∙◌, sym, ap, subst, ℕ, ℤ, Bool, true, false, if◌then◌else◌, ◌==◌, List, [], ◌∷◌, ◌++◌, map, filter_map, not, Contains, Option, None, Some, Ok, option_map, option_and_then, ◌⊎◌, inl, inr, ⊎_elim, refl}
 use Rattle.std.specs.Prelude.{option_to_list}
 use Rattle.std.specs.List.{cons_option}
 use Rattle.pv_model.specs.declared.call.Call.{Call}
@@ -7,7 +7,6 @@ use Rattle.pv_model.specs.declared.call.Call.TheVariants as TheCall
 use Rattle.pv_model.specs.declared.errno.Errno.TheVariants.{ENOEXEC, ENOSYS, EBADF, EINVAL}
 use Rattle.pv_model.specs.declared.judgement.Judgement.{Judgement}
 use Rattle.pv_model.specs.declared.judgement.Judgement.TheVariants.{Allowed, Hidden, Denied}
-use Rattle.pv_model.specs.declared.open_flags.Mode.{Mode}
 use Rattle.pv_model.specs.declared.open_flags.OpenFlags.{OpenFlags}
 use Rattle.pv_model.specs.declared.outcome.Cause.{Cause}
 use Rattle.pv_model.specs.declared.outcome.Cause.TheVariants.{Plain, Promise as ByPromise}
@@ -17,18 +16,17 @@ use Rattle.pv_model.specs.declared.outcome.Taken.{Taken}
 use Rattle.pv_model.specs.declared.place.Place.{Place}
 use Rattle.pv_model.specs.declared.promise.Promise.{Promise}
 use Rattle.pv_model.specs.Answer.{Answered, answer, answer_of, answer_where, answer_by_attempt, at_next_line, effect}
-use Rattle.pv_model.specs.Answers.Access.{Access, reads, executes, writes, changes_name, reports, opens, touch_of, accesses, accesses_by_open, accesses_by_success, if_truncated, node_of_descriptor, node_opened, nodes_executed, nodes_of_places, nodes_read, nodes_reported, nodes_written, places_changed}
+use Rattle.pv_model.specs.Answers.Access.{Access, reads, executes, writes, changes_name, reports, opens, touch_of, accesses, accesses_by_open, accesses_by_success, node_of_descriptor, node_opened, nodes_executed, nodes_of_places, nodes_read, nodes_reported, nodes_written, places_changed}
 use Rattle.pv_model.specs.Attempt.{Attempt, done, refused, after_walks, ◌>>=◌, ◌>>◌, refuse_if, demand, give}
 use Rattle.pv_model.specs.Bytes.{Bytes}
-use Rattle.pv_model.specs.Calls.Descriptors.{open_file_for, natural}
-use Rattle.pv_model.specs.Effect.{Effect, Reply, judgement_or_refusal, name_of, node_of, open_file, place_or_refusal, end_of}
+use Rattle.pv_model.specs.Calls.Descriptors.{open_file_for}
+use Rattle.pv_model.specs.Effect.{Effect, judgement_or_refusal, name_of, node_of, open_file, place_or_refusal, end_of}
 use Rattle.pv_model.specs.Needs.{needs, permissions_of_open}
-use Rattle.pv_model.specs.Perms.{permission_x}
 use Rattle.pv_model.specs.Program.{calls_for, next}
 use Rattle.pv_model.specs.Promises.{is_lenient, missing_promise}
 use Rattle.pv_model.specs.State.{OpenFile, Program, Process, State, process_at, reads as for_reading, writes as for_writing}
 use Rattle.pv_model.specs.Step.{Stepped, step, step_by}
-use Rattle.pv_model.specs.Touch.{read_file, change_file, report_node, read_by_descriptor, read_by_execve, change_by_descriptor, change_by_open, descriptor_of, flags_of, has_succeeded, place_found, places, reports_of_descriptor, reports_of_place, IsNodeOfDescriptor, IsNodeOfPlace, Justifies, Touches}
+use Rattle.pv_model.specs.Touch.{read_file, change_file, report_node, read_by_descriptor, read_by_execve, change_by_descriptor, change_by_open, descriptor_of, flags_of, has_succeeded, place_found, places, reports_of_descriptor, reports_of_place, IsNodeOfDescriptor, IsNodeOfPlace, Justifies}
 use Rattle.pv_model.specs.Unveil.{judgement}
 use Rattle.pv_model.specs.Walk.{Walked, begins_walk}
 use Rattle.pv_model.specs.Walks.{Walk, execve_walk, walks_of}

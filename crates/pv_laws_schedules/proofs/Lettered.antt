@@ -1,7 +1,6 @@
 -- The permissions that a program needs.
-use Rattle.std.proofs.Common.{◌≡◌, ◌∙◌, sym, ap, subst, ℕ, Bool, true, false, not, ◌&&◌, ◌||◌, ◌==◌, if◌then◌else◌, List, [], ◌∷◌, ◌++◌, map, flat_map, filter, filter_map, bytes_eq, Contains, Option, None, Some, ◌⊎◌, inl, inr, refl, arith}
+use Rattle.std.proofs.Common.{◌≡◌, ◌∙◌, sym, ap, subst, ℕ, Bool, true, false, not, ◌&&◌, ◌||◌, ◌==◌, if◌then◌else◌, List, [], ◌∷◌, map, filter, filter_map, bytes_eq, Contains, Option, None, Some, ◌⊎◌, inl, inr, refl, arith}
 use Rattle.std.specs.Prelude.{take}
-use Rattle.std.specs.List.{list_any}
 use Rattle.std.proofs.lemmas.Bool.{and_parts, and_from}
 use Rattle.std.proofs.lemmas.Bool.Decides.{nat_tests}
 use Rattle.pv_model.specs.declared.call.Call.{Call}
@@ -13,7 +12,7 @@ use Rattle.pv_model.specs.declared.perms.Perms.{Perms}
 use Rattle.pv_model.specs.declared.place.Place.{Place}
 use Rattle.pv_model.specs.declared.target.Target.{Target}
 use Rattle.pv_model.specs.Answer.{answer}
-use Rattle.pv_model.specs.Answers.Explore.{Found, Move, move, states_found, is_complete}
+use Rattle.pv_model.specs.Answers.Explore.{move, states_found}
 use Rattle.pv_model.specs.Answers.Needs.{Asked, Judged, asked, asked_by, asked_next, asked_of, judged, judged_at, judged_walks, permissions_asked, same_judged, targets_in, walks_judged, walks_to}
 use Rattle.pv_model.specs.Answers.Nodes.{target_words}
 use Rattle.pv_model.specs.Answers.Observed.{Observation, observed, of_calls}
@@ -25,19 +24,17 @@ use Rattle.pv_model.specs.Program.{calls_for, next}
 use Rattle.pv_model.specs.State.{Program, Process, State, process_at}
 use Rattle.pv_model.specs.Step.{step, run}
 use Rattle.pv_model.specs.Touch.{place_found}
-use Rattle.pv_model.specs.Tree.{Tree}
 use Rattle.pv_model.specs.Unveil.{Table, permissions_at, same_target}
-use Rattle.pv_model.specs.Walks.{Walk, walks_of}
+use Rattle.pv_model.specs.Walks.{walks_of}
 use Rattle.pv_laws_trees.proofs.Entries.{bytes_eq-same, bytes_eq-itself}
 use Rattle.pv_laws_states.specs.Courses.{is_unveil}
-use Rattle.pv_laws_answers.specs.ProcessImages.{Moment, moments, and_moment, process_images_of, IsCallOf, GivesAt, GivesListed, GivesListedBut, governing_target, letters_listed, targets_listed, with_own_table}
-use Rattle.pv_laws_answers.specs.Search.{IsSearched}
+use Rattle.pv_laws_answers.specs.ProcessImages.{Moment, moments, and_moment, process_images_of, IsCallOf, GivesAt, letters_listed, targets_listed, with_own_table}
 use Rattle.pv_laws_answers.specs.Wanted.{reports_of_table}
 use Rattle.pv_laws_answers.proofs.Complete.{among-contains, all-found}
 use Rattle.pv_laws_answers.proofs.Lists.{Among, any-among, among-either, among-filter, among-flat, among-map, filter-among, map-among}
 use Rattle.pv_laws_answers.proofs.Otherwise.{enough-letters, needed-letters}
 use Rattle.pv_laws_answers.proofs.Searching.{found-there}
-use Rattle.pv_laws_schedules.specs.Policy.{programs, joined_permissions, permissions_at_words, asks_at_words, GivesAsked, GivesAskedBut, ListedPermissionsAreEnough, ListedPermissionsAreNeeded}
+use Rattle.pv_laws_schedules.specs.Policy.{programs, joined_permissions, asks_at_words, GivesAsked, GivesAskedBut, ListedPermissionsAreEnough, ListedPermissionsAreNeeded}
 use Rattle.pv_laws_schedules.proofs.Groups.{in-group, of-group}
 use Rattle.pv_laws_schedules.proofs.Happening.{IsMade, made-in, IsOfCall, of-call}
 use Rattle.pv_laws_schedules.proofs.Justified.{filter_map-among}
@@ -99,8 +96,8 @@ targets-among : (ws : List (ℕ × Judged)) (j : Judged) → Among j (targets_in
 targets-among [] j h = absurd h
 targets-among (w ∷ ws) j (inl e) = (w, inl refl, sym e)
 targets-among (w ∷ ws) j (inr h) =
-    let kept = filter-among (λ other. not (same_judged w.1 other)) j (targets_in ws) h in
-    let there = targets-among ws j kept.0 in
+    let later = filter-among (λ other. not (same_judged w.1 other)) j (targets_in ws) h in
+    let there = targets-among ws j later.0 in
     (there.0, inr there.1, there.2)
 
 walks-in : (s : State) (p : Process) (call : Call) (n : ℕ) (w : Judged) → Among w (judged_walks s p call n) → Among w (filter_map (judged s p) (take n (walks_of call)))

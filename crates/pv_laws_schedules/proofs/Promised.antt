@@ -1,7 +1,7 @@
 -- The promises that a program needs.
-use Rattle.std.proofs.Common.{◌≡◌, ◌∙◌, sym, ap, ap₂, subst, ℕ, suc, ◌^◌, Bool, true, false, ◌&&◌, ◌||◌, ◌==◌, if◌then◌else◌, List, [], ◌∷◌, ◌++◌, map, flat_map, filter, filter_map, bytes_eq, Contains, Option, None, Some, is_some, ◌⊎◌, inl, inr, refl}
+use Rattle.std.proofs.Common.{◌≡◌, ◌∙◌, sym, ap, ap₂, subst, ℕ, ◌^◌, Bool, true, false, ◌&&◌, ◌||◌, ◌==◌, if◌then◌else◌, List, [], ◌∷◌, ◌++◌, map, flat_map, filter_map, bytes_eq, Contains, Option, None, Some, is_some, inl, inr, refl}
 use Rattle.std.specs.Prelude.{bit_and}
-use Rattle.std.specs.List.{AllByRecursion, list_all, list_any, cons_option}
+use Rattle.std.specs.List.{list_all, list_any, cons_option}
 use Rattle.pv_model.specs.declared.call.Call.{Call}
 use Rattle.pv_model.specs.declared.call.Call.TheVariants as TheCall
 use Rattle.pv_model.specs.declared.open_flags.Mode.{Mode}
@@ -14,7 +14,7 @@ use Rattle.pv_model.specs.Answers.Lines.{AnswerLine}
 use Rattle.pv_model.specs.Answers.Needs.{asked_by}
 use Rattle.pv_model.specs.Answers.Nodes.{first_of}
 use Rattle.pv_model.specs.Answers.Observed.{Observation, observed, observations_at, of_next, of_process, of_calls}
-use Rattle.pv_model.specs.Answers.Policy.{Request, Requests, program_key, request, requests, same_need, needs_with, promises_in_use, with_need, need_lines, first_need, promise_lines}
+use Rattle.pv_model.specs.Answers.Policy.{Request, Requests, program_key, request, requests, same_need, needs_with, promises_in_use, with_need, need_lines, first_need}
 use Rattle.pv_model.specs.Answers.ProgramNames.{program_numbers}
 use Rattle.pv_model.specs.Bytes.{Bytes}
 use Rattle.pv_model.specs.Needs.{needs, needs_cpath, needs_of_mode}
@@ -30,7 +30,7 @@ use Rattle.pv_laws_answers.specs.Search.{IsSearched}
 use Rattle.pv_laws_answers.specs.Wanted.{reports_need, HasAllNeeds}
 use Rattle.pv_laws_answers.specs.Witnesses.{AreSteps}
 use Rattle.pv_laws_answers.proofs.Complete.{among-contains, all-found}
-use Rattle.pv_laws_answers.proofs.Lists.{Among, all-among, each-from_among, among-any, any-among, among-filter, among-flat, among-map, filter-among}
+use Rattle.pv_laws_answers.proofs.Lists.{Among, all-among, among-any, any-among, among-filter, among-flat, among-map, filter-among}
 use Rattle.pv_laws_answers.proofs.Otherwise.{next-call}
 use Rattle.pv_laws_answers.proofs.Searching.{found-there}
 use Rattle.pv_laws_answers.proofs.Sound.{witness-more}

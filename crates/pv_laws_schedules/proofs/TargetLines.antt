@@ -1,13 +1,13 @@
 -- The lines about targets are those of all permissions that are asked.
-use Rattle.std.proofs.Common.{◌≡◌, ◌∙◌, sym, ap, ap₂, Bool, true, false, not, ◌&&◌, ◌||◌, List, [], ◌∷◌, ◌++◌, flat_map, filter, refl}
+use Rattle.std.proofs.Common.{◌≡◌, ◌∙◌, sym, ap, ap₂, Bool, true, false, not, ◌&&◌, ◌||◌, List, [], ◌∷◌, ◌++◌, flat_map, refl}
 use Rattle.pv_model.specs.declared.perms.Perms.{Perms}
 use Rattle.pv_model.specs.Answers.Explain.{permissions_lacked}
 use Rattle.pv_model.specs.Answers.Lines.{AnswerLine}
 use Rattle.pv_model.specs.Answers.Needs.{Judged}
 use Rattle.pv_model.specs.Answers.Observed.{Observation, with_alike}
-use Rattle.pv_model.specs.Answers.Policy.{Requests, new_permissions, new_permissions_lines, walks_asked}
+use Rattle.pv_model.specs.Answers.Policy.{new_permissions, new_permissions_lines, walks_asked}
 use Rattle.pv_model.specs.Perms.{no_permissions, join_permissions}
-use Rattle.pv_laws_answers.proofs.Lists.{Among, map-among}
+use Rattle.pv_laws_answers.proofs.Lists.{map-among}
 use Rattle.pv_laws_schedules.specs.Policy.{joined_new, joined_permissions, newly_asked, permissions_at_words, walks_by_words, TargetLinesAreOfPermissions}
 use Rattle.pv_laws_schedules.proofs.Reached.{contains-among}
 

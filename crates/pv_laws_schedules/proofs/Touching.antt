@@ -1,20 +1,18 @@
 -- Reads of files and reports of nodes are listed.
-use Rattle.std.proofs.Common.{◌≡◌, ◌∙◌, sym, ap, subst, ℕ, ℤ, Bool, true, false, if◌then◌else◌, List, [], ◌∷◌, ◌++◌, map, filter_map, codes, Contains, Option, None, Some, option_map, option_and_then, ◌⊎◌, inl, inr, ⊎_elim, refl}
+use Rattle.std.proofs.Common.{◌≡◌, sym, subst, ℕ, ℤ, Bool, true, false, if◌then◌else◌, List, [], map, filter_map, Option, Some, option_map, option_and_then, ◌⊎◌, inl, inr, ⊎_elim, refl}
 use Rattle.std.specs.Prelude.{option_to_list}
 use Rattle.pv_model.specs.declared.call.Call.{Call}
 use Rattle.pv_model.specs.declared.call.Call.TheVariants.{Chdir, Stat, Lstat, Readlink}
-use Rattle.pv_model.specs.declared.place.Place.{Place}
-use Rattle.pv_model.specs.Answers.Access.{Access, reads, executes, writes, changes_name, reports, access_line, accesses, accesses_by_open, accesses_by_success, lines_of_accesses, node_of_descriptor, nodes_executed, nodes_of_places, nodes_read, nodes_reported, nodes_written, places_changed, reported_accesses}
+use Rattle.pv_model.specs.Answers.Access.{Access, reads, executes, changes_name, reports, access_line, accesses, accesses_by_open, accesses_by_success, lines_of_accesses, node_of_descriptor, nodes_of_places, nodes_reported, places_changed, reported_accesses}
 use Rattle.pv_model.specs.Answers.Explore.{is_complete}
-use Rattle.pv_model.specs.Answers.Files.{node_brief}
-use Rattle.pv_model.specs.Answers.Lines.{AnswerLine, answer_line, answer_line_bytes}
+use Rattle.pv_model.specs.Answers.Lines.{answer_line_bytes}
 use Rattle.pv_model.specs.Answers.Observed.{of_next, of_process, of_calls}
 use Rattle.pv_model.specs.Bytes.{Bytes}
 use Rattle.pv_model.specs.Effect.{node_of, name_of, open_file}
 use Rattle.pv_model.specs.Program.{Next, calls_for, next}
 use Rattle.pv_model.specs.State.{OpenFile, Program, Process, State, process_at}
 use Rattle.pv_model.specs.Step.{step, run}
-use Rattle.pv_model.specs.Touch.{report_node, descriptor_of, flags_of, has_succeeded, places, reports_of_descriptor, reports_of_place, IsNodeOfDescriptor, IsNodeOfPlace, Touches}
+use Rattle.pv_model.specs.Touch.{flags_of, has_succeeded, places, reports_of_descriptor, reports_of_place, IsNodeOfDescriptor, IsNodeOfPlace}
 use Rattle.pv_laws_answers.specs.Accesses.{is_listed}
 use Rattle.pv_laws_answers.specs.Search.{IsSearched}
 use Rattle.pv_laws_answers.proofs.Lists.{Among, among-left, among-map, among-right}
