@@ -1,10 +1,11 @@
 -- The lines of `exposure`: each leak of each state is listed, and each listed line leaks.
-use Rattle.std.proofs.Common.{◌≡◌, ◌∙◌, sym, ap, subst, ℕ, suc, ◌≤◌, Bool, true, false, not, ◌||◌, ◌==◌, if◌then◌else◌, max, fold, List, [], ◌∷◌, map, flat_map, Contains, Option, Some, ◌⊎◌, inl, inr, refl, arith}
+use Rattle.std.proofs.Common.{◌<◌, filter, ◌≡◌, ◌∙◌, sym, ap, subst, ℕ, suc, ◌≤◌, Bool, true, false, not, ◌||◌, ◌==◌, if◌then◌else◌, nat_le, max, fold, List, [], ◌∷◌, map, flat_map, Contains, Option, Some, ◌⊎◌, inl, inr, refl, arith}
 use Rattle.std.specs.List.{AllByRecursion, list_all, range_with_len}
 use Rattle.std.proofs.lemmas.Bool.Decides.{nat_tests}
 use Rattle.pv_model.specs.declared.verdict.Why.{Why}
 use Rattle.pv_model.specs.Answers.Explore.{Found, states_found, is_complete}
 use Rattle.pv_model.specs.Answers.Exposure.{Located, located_at, located, program_key, Leak, leak_of, leaks_at, line_of, greatest_line, onto_ranges, in_ranges, lines_leaking, is_closed_to, safe_files}
+use Rattle.pv_model.specs.Answers.Nodes.{first_of}
 use Rattle.pv_model.specs.Answers.Files.{node_brief, is_file_at, named_files, files_of_tree}
 use Rattle.pv_model.specs.Answers.ProgramNames.{program_numbers}
 use Rattle.pv_model.specs.Bytes.{Bytes, is_empty}
@@ -20,8 +21,8 @@ use Rattle.pv_laws_answers.proofs.Complete.{among-contains, all-found}
 use Rattle.pv_laws_answers.proofs.Lists.{Among, all-among, among-any, any-among, among-filter, among-flat, among-map, filter-among, flat-among, map-among}
 use Rattle.pv_laws_answers.proofs.LiveOnes.{live-listed, listed-live}
 use Rattle.pv_laws_answers.proofs.Searching.{found-there}
-use Rattle.pv_laws_schedules.specs.Exposure.{leaks_by_file, programs, IsListedLeak, IsLeak, UnlistedLinesAreClosed, ListedLinesLeak, SafeFilesAreClosed}
-use Rattle.pv_laws_schedules.proofs.Groups.{HasGroup, grouped, of-group, in-group, same-programs}
+use Rattle.pv_laws_schedules.specs.Exposure.{leaks_by_file, programs, IsListedLeak, IsLeak, IsWitnessed, WitnessesLeak, UnlistedLinesAreClosed, ListedLinesLeak, SafeFilesAreClosed}
+use Rattle.pv_laws_schedules.proofs.Groups.{HasGroup, group-head, grouped, of-group, in-group, same-programs}
 use Rattle.pv_laws_schedules.proofs.Pairs.{among-range}
 use Rattle.pv_laws_schedules.proofs.Reached.{contains-among, sound-at}
 
@@ -233,6 +234,7 @@ module _ (program_of : Bytes → Option Program) (limit : ℕ) (s : State) (it :
     pub within : Among number (files_of_tree l.found.state.tree)
     pub same_file : leak.file ≡ node_brief l.found.state.tree number
     pub some : leaks l.found.state l.process number ≡ [] → ⊥
+    pub reason : first_of (leaks l.found.state l.process number) ≡ Some leak.why
 
   of-file : (l : Located) (leak : Leak) → Among leak (leaks_at l) → IsOfFile l leak
   of-file l leak h =
@@ -247,6 +249,7 @@ module _ (program_of : Bytes → Option Program) (limit : ℕ) (s : State) (it :
         within = within;
         same_file = ap (λ (k : Leak). k.file) e;
         some = λ none. (let bad : why ∷ whys ≡ [] = sym is ∙ none in cc bad);
+        reason = ap first_of is ∙ ap (λ (k : Leak). Some k.why) (sym e);
       }
       by f within (why ∷ whys) is (inr none) = absurd none
 
@@ -283,6 +286,94 @@ module _ (program_of : Bytes → Option Program) (limit : ℕ) (s : State) (it :
       leak-at program file line l (of-located l member.0)
       (same-programs s.tree l.process.program is.group.0.process.program member.1 ∙ is.same_program)
       (ap (λ (k : Located). k.process.line) (sym of.at) ∙ line'.2) of.number of.within (sym of.same_file ∙ own.1 ∙ is.same_file) of.some
+
+-- ---- the witness of a line
+
+max-either : (k x : ℕ) → (max k x ≡ k) ⊎ (max k x ≡ x)
+max-either k x = by (nat_le k x) refl
+  where
+    by : (b : Bool) → nat_le k x ≡ b → (max k x ≡ k) ⊎ (max k x ≡ x)
+    by true is = let le : k ≤ x = grind (arith, nat_tests) in inr (omega (arith, le))
+    by false is = let less : x < k = grind (arith, nat_tests) in inl (omega (arith, less))
+
+max-attained : (xs : List ℕ) (k : ℕ) → (fold max k xs ≡ k) ⊎ Among (fold max k xs) xs
+max-attained [] k = inl refl
+max-attained (x ∷ xs) k = by (max-attained xs (max k x)) (max-either k x)
+  where
+    by : (fold max (max k x) xs ≡ max k x) ⊎ Among (fold max (max k x) xs) xs → (max k x ≡ k) ⊎ (max k x ≡ x) → (fold max (max k x) xs ≡ k) ⊎ Among (fold max (max k x) xs) (x ∷ xs)
+    by (inr h) either = inr (inr h)
+    by (inl same) (inl e) = inl (same ∙ e)
+    by (inl same) (inr e) = inr (inl (same ∙ e))
+
+-- the first element that passes a test
+first-passes : {X : Type 0} (test : X → Bool) (xs : List X) (x : X) → Among x xs → test x ≡ true → (y : X) × (first_of (filter test xs) ≡ Some y) × Among y xs × (test y ≡ true)
+first-passes {X} test xs x h is = by (filter test xs) refl (among-filter test x xs h is)
+  where
+    by : (ys : List X) → filter test xs ≡ ys → Among x ys → (y : X) × (first_of (filter test xs) ≡ Some y) × Among y xs × (test y ≡ true)
+    by [] same none = absurd none
+    by (y ∷ ys) same some =
+        let own = filter-among test y xs (subst (λ (zs : List X). Among y zs) (sym same) (inl refl)) in
+        (y, ap first_of same, own.0, own.1)
+
+module _ (program_of : Bytes → Option Program) (limit : ℕ) (s : State) (it : IsSearched program_of limit s) (group : Located × List Located) (listed : Among group (programs program_of limit s))
+    (h : Leak × List Leak) (leaks_listed : Among h (leaks_by_file group.1)) where
+  -- a leak of the group, with the process that it is of
+  record IsOfGroup (leak : Leak) : Type 0 where
+    pub placed : IsPlaced program_of limit s it leak.at
+    pub file : IsOfFile program_of limit s it leak.at leak
+    pub same_file : leak.file ≡ h.0.file
+
+  in-all : (leak : Leak) → Among leak h.1 → IsOfGroup leak
+  in-all leak own =
+      let of = of-group (λ (k : Leak). k.file) (flat_map leaks_at group.1) h leaks_listed leak own in
+      let at = flat-among leaks_at leak group.1 of.0 in
+      let member = of-group program_key (located (states_found program_of limit s)) group listed at.0 at.1 in
+      let file = of-file program_of limit s it at.0 leak at.2 in
+      let here : at.0 ≡ leak.at = sym file.at in
+      record {
+        placed = subst (IsPlaced program_of limit s it) here (of-located program_of limit s it at.0 member.0);
+        file = subst (λ (l : Located). IsOfFile program_of limit s it l leak) here file;
+        same_file = of.1;
+      }
+
+  low : (leak : Leak) → Among leak h.1 → 1 ≤ line_of leak
+  low leak own =
+      let of = in-all leak own in
+      let running = (sound-at program_of limit s it leak.at.found of.placed.within).whole.processes.running leak.at.pid leak.at.process of.placed.live in
+      running.line.0
+
+  head-in : Among h.0 h.1
+  head-in =
+      let at = group-head (λ (k : Leak). k.file) (flat_map leaks_at group.1) h leaks_listed in
+      in-group (λ (k : Leak). k.file) (flat_map leaks_at group.1) h leaks_listed h.0 at refl
+
+  witnessed : IsWitnessed program_of s h
+  witnessed =
+      let last = first-passes (λ (leak : Leak). line_of leak == greatest_line h.1) h.1 most.0 most.1 (grind (arith, nat_tests, most.2)) in
+      let of = in-all last.0 last.2 in
+      let sound = sound-at program_of limit s it last.0.at.found of.placed.within in
+      record {
+        leak = last.0;
+        is_last = last.1;
+        greatest = grind (arith, nat_tests, last.3);
+        reached = sound.witness;
+        live = of.placed.live;
+        number = of.file.number;
+        within = among-contains of.file.number (files_of_tree last.0.at.found.state.tree) of.file.within;
+        same_file = sym of.file.same_file ∙ of.same_file;
+        reason = of.file.reason;
+      }
+    where
+      most : (leak : Leak) × Among leak h.1 × (line_of leak ≡ greatest_line h.1)
+      most = by (max-attained (map line_of h.1) 0)
+        where
+          by : (greatest_line h.1 ≡ 0) ⊎ Among (greatest_line h.1) (map line_of h.1) → (leak : Leak) × Among leak h.1 × (line_of leak ≡ greatest_line h.1)
+          by (inl none) = absurd (omega (arith, none, low h.0 head-in, max-most (map line_of h.1) 0 (line_of h.0) (among-map line_of h.0 h.1 head-in)))
+          by (inr there) = let leak = map-among line_of (greatest_line h.1) h.1 there in (leak.0, leak.1, sym leak.2)
+
+pub witnesses-leak : WitnessesLeak
+witnesses-leak program_of limit s group h it listed leaks_listed =
+    witnessed program_of limit s it group (contains-among (programs program_of limit s) group listed) h (contains-among (leaks_by_file group.1) h leaks_listed)
 
 pub unlisted-lines : UnlistedLinesAreClosed
 unlisted-lines program_of limit s pids pid p f it complete live file none =

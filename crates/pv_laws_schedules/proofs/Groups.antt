@@ -8,7 +8,7 @@ use Rattle.pv_model.specs.State.{Program, Process, State, first_process, first_s
 use Rattle.pv_model.specs.Tree.{Tree}
 use Rattle.pv_laws_trees.proofs.Entries.{bytes_eq-same, bytes_eq-itself}
 use Rattle.pv_laws_answers.proofs.Lists.{Among, among-filter, filter-among, among-map, map-among}
-use Rattle.pv_laws_answers.proofs.New.{new-like}
+use Rattle.pv_laws_answers.proofs.New.{new-came, new-like}
 use Rattle.pv_laws_answers.proofs.Reading.{same-state_numbers}
 
 module _ {X : Type 0} (key : X → Numbers) where
@@ -37,6 +37,12 @@ module _ {X : Type 0} (key : X → Numbers) where
       let from = map-among (with_alike key xs) g (new_ones key [] xs) h in
       let here = filter-among (λ z. bytes_eq (key z) (key from.0)) x xs (subst (λ (p : X × List X). Among x p.1) from.2 within) in
       (here.0, bytes_eq-same (key x) (key from.0) here.1 ∙ ap (λ (p : X × List X). key p.0) (sym from.2))
+
+  -- the first element of a group is one of the list
+  pub group-head : (xs : List X) (g : X × List X) → Among g (groups key xs) → Among g.0 xs
+  group-head xs g h =
+      let from = map-among (with_alike key xs) g (new_ones key [] xs) h in
+      subst (λ (p : X × List X). Among p.0 xs) (sym from.2) (new-came key [] xs from.0 from.1)
 
   -- each element with the key of a group is in it
   pub in-group : (xs : List X) (g : X × List X) → Among g (groups key xs) → (x : X) → Among x xs → key x ≡ key g.0 → Among x g.1

@@ -2,8 +2,11 @@
 -- - `compare`: Searches (breadth-first search of any elements), Pairs (the search of pairs), Shown (what a step's text
 --   shows), AlikeRuns.
 -- - `access`: Reached (the visited states), Happening (reported observations), ReadAccess (reads are
---   accesses), UnreadFiles.
+--   accesses), UnreadFiles, Touching (reads and reports),
+--   Justified.
 -- - `exposure`: Groups (elements with equal keys), Exposed.
+-- - `policy`: Promised (promises), Lettered (permissions),
+--   TargetLines (their lines).
 pub mod Searches
 pub mod Pairs
 pub mod Shown
@@ -12,5 +15,10 @@ pub mod Reached
 pub mod Happening
 pub mod ReadAccess
 pub mod UnreadFiles
+pub mod Touching
+pub mod Justified
 pub mod Groups
 pub mod Exposed
+pub mod Promised
+pub mod Lettered
+pub mod TargetLines

@@ -238,7 +238,7 @@ module _ (program_of : Bytes → Option Program) (s : State) (pid f : ℕ) (ys :
 
 -- ---- an execve
 
-only-place : (o : Option Place) (place : Place) → Contains (cons_option o []) place → o ≡ Some place
+pub only-place : (o : Option Place) (place : Place) → Contains (cons_option o []) place → o ≡ Some place
 only-place None place has = absurd (contains-among [] place has)
 only-place (Some found) place has = by (contains-among (found ∷ []) place has)
   where
@@ -246,7 +246,7 @@ only-place (Some found) place has = by (contains-among (found ∷ []) place has)
     by (inl e) = ap (λ p. Some p) (sym e)
     by (inr none) = absurd none
 
-found-place : (r : Walked) (place : Place) → place_found r ≡ Some place → r ≡ Ok place
+pub found-place : (r : Walked) (place : Place) → place_found r ≡ Some place → r ≡ Ok place
 found-place (Ok found) place is = let same : found ≡ place = cc is in ap (λ p. Ok p) same
 found-place (Err e) place is = cc
 

@@ -1,20 +1,25 @@
 -- Laws of `access`: the accesses that it lists, and the files that it lists as unread.
-use Rattle.std.specs.Prelude.{◌≡◌, ◌≢◌, ℕ, ◌≤◌, IsTrue, List, [], ◌∷◌, ◌++◌, length, Contains, Option, Some}
+use Rattle.std.specs.Prelude.{◌≡◌, ◌≢◌, ◌⊎◌, ℕ, ◌≤◌, Bool, true, false, IsTrue, List, [], ◌∷◌, ◌++◌, length, codes, Contains, Option, None, Some}
 use Rattle.std.specs.List.{AllByRecursion}
 use Rattle.pv_model.specs.declared.call.Call.{Call}
-use Rattle.pv_model.specs.Answers.Access.{Access, accesses, access_line, lines_of_accesses, reported_accesses, unread_files}
+use Rattle.pv_model.specs.Answers.Access.{Access, changes_name, opens, touch_of, accesses, access_line, lines_of_accesses, reported_accesses, unread_files}
 use Rattle.pv_model.specs.Answers.Explore.{is_complete}
-use Rattle.pv_model.specs.Answers.Lines.{AnswerLine, answer_line_bytes}
+use Rattle.pv_model.specs.Answers.Files.{node_brief}
+use Rattle.pv_model.specs.Answers.Lines.{AnswerLine, answer_line, answer_line_bytes}
 use Rattle.pv_model.specs.Answers.Numbers.{Numbers}
 use Rattle.pv_model.specs.Answers.Observed.{Observer, Observation, of_calls}
 use Rattle.pv_model.specs.Bytes.{Bytes}
 use Rattle.pv_model.specs.Calls.Descriptors.{with_content}
 use Rattle.pv_model.specs.Effect.{bytes_of}
+use Rattle.pv_model.specs.Needs.{needs}
 use Rattle.pv_model.specs.Program.{calls_for, next}
+use Rattle.pv_model.specs.Promises.{missing_promise}
 use Rattle.pv_model.specs.State.{Program, Process, State, process_at}
 use Rattle.pv_model.specs.Step.{step, run, boot}
+use Rattle.pv_model.specs.Touch.{read_file, report_node, Justifies, Touches}
 use Rattle.pv_model.specs.Tree.{Tree, node_at}
-use Rattle.pv_laws_states.specs.States.{EncodesPrograms, IsFirstTree}
+use Rattle.pv_laws_states.specs.States.{EncodesPrograms, IsFirstTree, IsValid}
+use Rattle.pv_laws_answers.specs.Accesses.{is_listed}
 use Rattle.pv_laws_answers.specs.Search.{IsSearched}
 use Rattle.pv_laws_answers.specs.Unread.{IsReadByNone, StartsAlike}
 use Rattle.pv_laws_answers.specs.Witnesses.{AreSteps, EachToLater}
@@ -66,3 +71,36 @@ UnreadFilesChangeNothing =
     (program_of : Bytes → Option Program) (limit : ℕ) (t : Tree) (s : State) (f : ℕ) (bytes : Bytes) → EncodesPrograms program_of → 1 ≤ limit
     → IsFirstTree t → IsFirstTree (with_content t f bytes) → length bytes ≡ length (bytes_of (node_at t f))
     → boot program_of t ≡ Some s → IsTrue (is_complete program_of limit s) → Contains (unread_files program_of limit s) f → StartsAlike program_of limit s t f bytes
+
+-- ---- touches
+
+-- if the search is complete, each file that a step of a schedule reads is listed with READ or EXEC for its process
+abbrev pub ReadsAreListed : Type 0
+ReadsAreListed =
+    (program_of : Bytes → Option Program) (limit : ℕ) (s : State) (pids : List ℕ) (pid f : ℕ) → IsSearched program_of limit s → IsTrue (is_complete program_of limit s)
+    → Touches program_of (run program_of pids s).final pid (read_file f)
+    → IsTrue (is_listed (answer_line pid (codes "READ") (node_brief (run program_of pids s).final.tree f)) (reported_accesses program_of limit s))
+    ⊎ IsTrue (is_listed (answer_line pid (codes "EXEC") (node_brief (run program_of pids s).final.tree f)) (reported_accesses program_of limit s))
+
+-- and each node that a step reports is listed with TELL
+abbrev pub ReportsAreListed : Type 0
+ReportsAreListed =
+    (program_of : Bytes → Option Program) (limit : ℕ) (s : State) (pids : List ℕ) (pid n : ℕ) → IsSearched program_of limit s → IsTrue (is_complete program_of limit s)
+    → Touches program_of (run program_of pids s).final pid (report_node n)
+    → IsTrue (is_listed (answer_line pid (codes "TELL") (node_brief (run program_of pids s).final.tree n)) (reported_accesses program_of limit s))
+
+-- ---- what justifies an access
+
+-- an access to the bytes of a file, or a report of a node
+abbrev pub is_of_node : Access → Bool
+is_of_node (changes_name d name) = false
+is_of_node (opens n mode) = false
+is_of_node access = true
+
+-- each access READ, EXEC, WRIT or TELL is justified as the touch that it can be: the promises of its call are held, and a
+-- descriptor, or a place that the table allows, leads to the node
+abbrev pub AccessesAreJustified : Type 0
+AccessesAreJustified =
+    (program_of : Bytes → Option Program) (s : State) (pid : ℕ) (p : Process) (call : Call) (a : Access) → IsValid s → process_at s pid ≡ Some p → next p ≡ calls_for call
+    → Contains (accesses s pid p call (step program_of s pid)) a → IsTrue (is_of_node a)
+    → (missing_promise p.promises (needs call) ≡ None) × Justifies s p call (touch_of a)

@@ -1,15 +1,17 @@
 -- Laws of `exposure`: the lines of each program at which a process is not closed to a file.
 use Rattle.std.specs.Prelude.{◌≡◌, ℕ, ◌≤◌, IsTrue, List, flat_map, Contains, Option, Some}
 use Rattle.pv_model.specs.Answers.Explore.{states_found, is_complete}
-use Rattle.pv_model.specs.Answers.Exposure.{Located, located, program_key, Leak, leaks_at, in_ranges, lines_leaking, safe_files}
+use Rattle.pv_model.specs.Answers.Exposure.{Located, located, program_key, Leak, leaks_at, line_of, greatest_line, last_leak, in_ranges, lines_leaking, safe_files}
 use Rattle.pv_model.specs.Answers.Files.{node_brief, is_file_at, files_of_tree}
+use Rattle.pv_model.specs.Answers.Nodes.{first_of}
 use Rattle.pv_model.specs.Answers.Observed.{groups}
 use Rattle.pv_model.specs.Bytes.{Bytes}
 use Rattle.pv_model.specs.Closed.{IsClosed}
+use Rattle.pv_model.specs.Sealed.{leaks as leaks_of}
 use Rattle.pv_model.specs.State.{Program, Process, State, process_at}
 use Rattle.pv_model.specs.Step.{run}
 use Rattle.pv_laws_answers.specs.Search.{IsSearched}
-use Rattle.pv_laws_answers.specs.Witnesses.{AreSteps}
+use Rattle.pv_laws_answers.specs.Witnesses.{AreSteps, IsWitness}
 
 -- the leaks of each file, by its description
 abbrev pub leaks_by_file : List Located → List (Leak × List Leak)
@@ -69,3 +71,21 @@ SafeFilesAreClosed =
     → IsTrue (is_complete program_of limit s) → Contains (programs program_of limit s) group → Contains (safe_files program_of limit s group.1) f
     → process_at (run program_of pids s).final pid ≡ Some p → p.program ≡ group.0.process.program → IsTrue (is_file_at (run program_of pids s).final.tree f)
     → IsClosed (run program_of pids s).final p f
+
+-- the witness of a line LEAK leads to a process at the greatest of the lines that is not closed to a file with the
+-- description, for the reason that is given: its first leak
+pub record IsWitnessed (program_of : Bytes → Option Program) (s : State) (leaks : Leak × List Leak) : Type 0 where
+  pub leak : Leak
+  pub is_last : last_leak leaks.1 ≡ Some leak
+  pub greatest : line_of leak ≡ greatest_line leaks.1
+  pub reached : IsWitness program_of s leak.at.found.witness leak.at.found.state
+  pub live : process_at leak.at.found.state leak.at.pid ≡ Some leak.at.process
+  pub number : ℕ
+  pub within : Contains (files_of_tree leak.at.found.state.tree) number
+  pub same_file : node_brief leak.at.found.state.tree number ≡ leaks.0.file
+  pub reason : first_of (leaks_of leak.at.found.state leak.at.process number) ≡ Some leak.why
+
+abbrev pub WitnessesLeak : Type 0
+WitnessesLeak =
+    (program_of : Bytes → Option Program) (limit : ℕ) (s : State) (group : Located × List Located) (leaks : Leak × List Leak) → IsSearched program_of limit s
+    → Contains (programs program_of limit s) group → Contains (leaks_by_file group.1) leaks → IsWitnessed program_of s leaks

@@ -1,3 +1,4 @@
 pub mod Compare
 pub mod Access
 pub mod Exposure
+pub mod Policy

@@ -1,6 +1,6 @@
 //! Laws of what an attacker gains who takes over a process of a program, at each of its lines.
 
-ghost use Rattle.pv_laws_schedules.specs.Exposure.{UnlistedLinesAreClosed, ListedLinesLeak, SafeFilesAreClosed};
+ghost use Rattle.pv_laws_schedules.specs.Exposure.{UnlistedLinesAreClosed, ListedLinesLeak, WitnessesLeak, SafeFilesAreClosed};
 
 /// If a search is complete, in every schedule a process of a program at a line that is not listed for a file's description
 /// is closed to each file with this description.
@@ -12,6 +12,12 @@ pub fn unlisted_lines_are_closed()
 /// the description.
 pub fn listed_lines_leak()
     ensures { ListedLinesLeak }
+{}
+
+/// The witness of a line LEAK leads to a process at the greatest of its lines that is not closed to a file with the
+/// description, and the reason is its first leak.
+pub fn witnesses_leak()
+    ensures { WitnessesLeak }
 {}
 
 /// If a search is complete, in every schedule each process of a program is closed to each file that is listed as safe for

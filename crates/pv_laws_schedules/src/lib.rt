@@ -6,8 +6,10 @@
 //! - `compare`: two images with the same programs.
 //! - `access`: which process can access what, and the files that no step reads.
 //! - `exposure`: the lines of a program at which a process is not closed to a file.
+//! - `policy`: the promises and permissions that a program needs.
 #![tactic(auto)]
 
 pub mod access;
 pub mod compare;
 pub mod exposure;
+pub mod policy;

@@ -1,0 +1,349 @@
+-- The promises that a program needs.
+use Rattle.std.proofs.Common.{◌≡◌, ◌∙◌, sym, ap, ap₂, subst, ℕ, ◌^◌, Bool, true, false, ◌&&◌, ◌||◌, ◌==◌, if◌then◌else◌, List, [], ◌∷◌, ◌++◌, map, flat_map, filter_map, bytes_eq, Contains, Option, None, Some, is_some, inl, inr, refl}
+use Rattle.std.specs.Prelude.{bit_and}
+use Rattle.std.specs.List.{list_all, list_any, cons_option}
+use Rattle.pv_model.specs.declared.call.Call.{Call}
+use Rattle.pv_model.specs.declared.call.Call.TheVariants as TheCall
+use Rattle.pv_model.specs.declared.open_flags.Mode.{Mode}
+use Rattle.pv_model.specs.declared.open_flags.Mode.TheVariants.{Read, Write, ReadWrite}
+use Rattle.pv_model.specs.declared.promise.Promise.{Promise}
+use Rattle.pv_model.specs.declared.promise.Promise.TheVariants.{Stdio, Rpath, Wpath, Cpath, Proc, Exec, Unveil}
+use Rattle.pv_model.specs.Answer.{answer}
+use Rattle.pv_model.specs.Answers.Explore.{Found, Move, move, moves_of, states_found, is_complete}
+use Rattle.pv_model.specs.Answers.Lines.{AnswerLine}
+use Rattle.pv_model.specs.Answers.Needs.{asked_by}
+use Rattle.pv_model.specs.Answers.Nodes.{first_of}
+use Rattle.pv_model.specs.Answers.Observed.{Observation, observed, observations_at, of_next, of_process, of_calls}
+use Rattle.pv_model.specs.Answers.Policy.{Request, Requests, program_key, request, requests, same_need, needs_with, promises_in_use, with_need, need_lines, first_need}
+use Rattle.pv_model.specs.Answers.ProgramNames.{program_numbers}
+use Rattle.pv_model.specs.Bytes.{Bytes}
+use Rattle.pv_model.specs.Needs.{needs, needs_cpath, needs_of_mode}
+use Rattle.pv_model.specs.Program.{Next, inside, calls_for, next}
+use Rattle.pv_model.specs.Promise.{promise_bit}
+use Rattle.pv_model.specs.Promises.{Promises, Need, is_met}
+use Rattle.pv_model.specs.State.{Program, Process, State, process_at}
+use Rattle.pv_model.specs.Step.{Stepped, step, step_by, run}
+use Rattle.pv_laws_trees.proofs.Entries.{bytes_eq-same, bytes_eq-itself}
+use Rattle.pv_laws_access.proofs.Ends.{step-is, update-live}
+use Rattle.pv_laws_answers.specs.ProcessImages.{with_promises}
+use Rattle.pv_laws_answers.specs.Search.{IsSearched}
+use Rattle.pv_laws_answers.specs.Wanted.{reports_need, HasAllNeeds}
+use Rattle.pv_laws_answers.specs.Witnesses.{AreSteps}
+use Rattle.pv_laws_answers.proofs.Complete.{among-contains, all-found}
+use Rattle.pv_laws_answers.proofs.Lists.{Among, all-among, among-any, any-among, among-filter, among-flat, among-map, filter-among}
+use Rattle.pv_laws_answers.proofs.Otherwise.{next-call}
+use Rattle.pv_laws_answers.proofs.Searching.{found-there}
+use Rattle.pv_laws_answers.proofs.Sound.{witness-more}
+use Rattle.pv_laws_answers.proofs.Wants.{want-reported}
+use Rattle.pv_laws_schedules.specs.Policy.{Listed, listed_or, first_listed, needs_listed, listed_lines, PromiseLinesAreOfNeeds, MeetsAll, programs, CallingProgramsAreListed, ListedPromisesAreEnough, IsRefusedWith, ListedPromisesAreNeeded}
+use Rattle.pv_laws_schedules.proofs.Groups.{HasGroup, grouped, of-group, in-group, same-programs}
+use Rattle.pv_laws_schedules.proofs.Happening.{IsMade, made-in, IsOfCall, of-call}
+use Rattle.pv_laws_schedules.proofs.Reached.{contains-among, own-move, sound-at}
+
+-- ---- the lines
+
+module _ (rs : Requests) where
+  abbrev listed-or_none : Option Listed → List AnswerLine
+  listed-or_none None = []
+  listed-or_none (Some l) = listed_lines l
+
+  first-lines : (ns : List Need) → first_need rs ns ≡ listed-or_none (first_listed rs ns)
+  first-lines [] = refl
+  first-lines (need ∷ ns) = by (first_of (with_need rs need)) (first-lines ns)
+    where
+      by : (o : Option (Observation Request)) → first_need rs ns ≡ listed-or_none (first_listed rs ns)
+          → (if is_some o then need_lines rs need o else first_need rs ns) ≡ listed-or_none (listed_or (first_listed rs ns) need o)
+      by None rest = rest
+      by (Some r) rest = refl
+
+  some-lines : (o : Option Listed) (ls : List Listed) → flat_map listed_lines (cons_option o ls) ≡ listed-or_none o ++ flat_map listed_lines ls
+  some-lines None ls = refl
+  some-lines (Some l) ls = refl
+
+  all-lines : (ps : List Promise) → flat_map (λ p. first_need rs (needs_with p)) ps ≡ flat_map listed_lines (filter_map (λ p. first_listed rs (needs_with p)) ps)
+  all-lines [] = refl
+  all-lines (p ∷ ps) =
+      ap₂ (λ (xs ys : List AnswerLine). xs ++ ys) (first-lines (needs_with p)) (all-lines ps)
+      ∙ sym (some-lines (first_listed rs (needs_with p)) (filter_map (λ p. first_listed rs (needs_with p)) ps))
+
+pub promise-lines : PromiseLinesAreOfNeeds
+promise-lines rs = all-lines rs promises_in_use
+
+-- ---- needs of calls
+
+-- the needs that calls have
+abbrev known_needs : List Need
+known_needs = (Stdio ∷ []) ∷ (Rpath ∷ []) ∷ (Wpath ∷ []) ∷ (Cpath ∷ []) ∷ (Proc ∷ []) ∷ (Exec ∷ []) ∷ (Unveil ∷ []) ∷ (Rpath ∷ Wpath ∷ []) ∷ []
+
+abbrev is_known : Need → Bool
+is_known need = list_any (λ k. same_need k need) known_needs
+
+of-mode : (mode : Mode) (create : Bool) → list_all is_known (needs_of_mode mode ++ (if create then needs_cpath else [])) ≡ true
+of-mode Read true = refl
+of-mode Read false = refl
+of-mode Write true = refl
+of-mode Write false = refl
+of-mode ReadWrite true = refl
+of-mode ReadWrite false = refl
+
+needs-known : (call : Call) → list_all is_known (needs call) ≡ true
+unfolding needs
+needs-known (TheCall.Open path flags) = of-mode flags.mode flags.create
+needs-known (TheCall.OpenAt start path flags) = of-mode flags.mode flags.create
+needs-known call = refl
+
+-- whether a need is met depends on its bits
+met-bits : (set : Promises) (need : Need) → is_met (Some set) need ≡ list_any (λ k. bit_and set (2 ^ k) == 2 ^ k) (map promise_bit need)
+met-bits set [] = refl
+met-bits set (p ∷ need) = ap (λ b. (bit_and set (2 ^ promise_bit p) == 2 ^ promise_bit p) || b) (met-bits set need)
+
+same-met : (set : Promises) (a b : Need) → same_need a b ≡ true → is_met (Some set) a ≡ is_met (Some set) b
+same-met set a b same =
+    met-bits set a ∙ ap (list_any (λ k. bit_and set (2 ^ k) == 2 ^ k)) (bytes_eq-same (map promise_bit a) (map promise_bit b) same) ∙ sym (met-bits set b)
+
+same-turned : (a b : Need) → same_need a b ≡ true → same_need b a ≡ true
+same-turned a b same =
+    ap (bytes_eq (map promise_bit b)) (bytes_eq-same (map promise_bit a) (map promise_bit b) same) ∙ bytes_eq-itself (map promise_bit b)
+
+-- ---- listed needs are enough
+
+module _ (set : Promises) (rs : Requests) (meets : (l : Listed) → Among l (needs_listed rs) → is_met (Some set) l.0 ≡ true) where
+  listed-met : (p : Promise) → Among p promises_in_use → (l : Listed) → first_listed rs (needs_with p) ≡ Some l → is_met (Some set) l.0 ≡ true
+  listed-met p within l is = meets l (among p promises_in_use within refl)
+    where
+      some : (o : Option Listed) (ls : List Listed) → o ≡ Some l → Among l (cons_option o ls)
+      some None ls is' = cc
+      some (Some m) ls is' = let same : m ≡ l = cc is' in inl (sym same)
+
+      skip : (o : Option Listed) (ls : List Listed) → Among l ls → Among l (cons_option o ls)
+      skip None ls h = h
+      skip (Some m) ls h = inr h
+
+      among : (q : Promise) (ps : List Promise) → Among q ps → q ≡ p → Among l (filter_map (λ p. first_listed rs (needs_with p)) ps)
+      among q [] h e = absurd h
+      among q (r ∷ ps) (inl here) e = some (first_listed rs (needs_with r)) _ (ap (λ x. first_listed rs (needs_with x)) (sym here ∙ e) ∙ is)
+      among q (r ∷ ps) (inr h) e = skip (first_listed rs (needs_with r)) _ (among q ps h e)
+
+  -- a need that a call has is found
+  has-first : (need : Need) (r : Observation Request) → Among r (with_need rs need) → (first : Observation Request) × (first_of (with_need rs need) ≡ Some first)
+  has-first need r h = by (with_need rs need) h
+    where
+      by : (xs : Requests) → Among r xs → (first : Observation Request) × (first_of xs ≡ Some first)
+      by [] none = absurd none
+      by (x ∷ xs) some = (x, refl)
+
+  single-met : (p : Promise) → Among p promises_in_use → (others : List Need) → needs_with p ≡ (p ∷ []) ∷ others → (r : Observation Request) → Among r (with_need rs (p ∷ [])) → is_met (Some set) (p ∷ []) ≡ true
+  single-met p within others is r h =
+      let first = has-first (p ∷ []) r h in
+      listed-met p within ((p ∷ []), first.0) (ap (first_listed rs) is ∙ ap (listed_or (first_listed rs others) (p ∷ [])) first.1)
+
+  either-met : is_met (Some set) (Rpath ∷ []) ≡ true → is_met (Some set) (Rpath ∷ Wpath ∷ []) ≡ true
+  either-met is = by (is_met (Some set) (Rpath ∷ [])) (Rattle.pv_model.specs.Promises.contains set Rpath) refl is
+    where
+      by : (b c : Bool) → (c || false) ≡ b → b ≡ true → (c || (Rattle.pv_model.specs.Promises.contains set Wpath || false)) ≡ true
+      by b true same yes' = refl
+      by b false same yes' = let bad : false ≡ true = same ∙ yes' in absurd (cc)
+
+  alternatives-met : (r : Observation Request) → Among r (with_need rs (Rpath ∷ Wpath ∷ [])) → is_met (Some set) (Rpath ∷ Wpath ∷ []) ≡ true
+  alternatives-met r h = by (first_of (with_need rs (Rpath ∷ []))) refl
+    where
+      second : (first : Observation Request) × (first_of (with_need rs (Rpath ∷ Wpath ∷ [])) ≡ Some first)
+      second = has-first (Rpath ∷ Wpath ∷ []) r h
+
+      by : (o : Option (Observation Request)) → first_of (with_need rs (Rpath ∷ [])) ≡ o → is_met (Some set) (Rpath ∷ Wpath ∷ []) ≡ true
+      by (Some first) is = either-met (listed-met Rpath (inr (inl refl)) ((Rpath ∷ []), first) (ap (listed_or (first_listed rs ((Rpath ∷ Wpath ∷ []) ∷ [])) (Rpath ∷ [])) is))
+      by None none =
+          listed-met Rpath (inr (inl refl)) ((Rpath ∷ Wpath ∷ []), second.0)
+          (ap (listed_or (first_listed rs ((Rpath ∷ Wpath ∷ []) ∷ [])) (Rpath ∷ [])) none ∙ ap (listed_or None (Rpath ∷ Wpath ∷ [])) second.1)
+
+  known-met : (k : Need) → Among k known_needs → (r : Observation Request) → Among r (with_need rs k) → is_met (Some set) k ≡ true
+  known-met k (inl e) r h = subst (λ (n : Need). is_met (Some set) n ≡ true) (sym e) (single-met Stdio (inl refl) [] refl r (subst (λ (n : Need). Among r (with_need rs n)) e h))
+  known-met k (inr (inl e)) r h =
+      subst (λ (n : Need). is_met (Some set) n ≡ true) (sym e) (single-met Rpath (inr (inl refl)) ((Rpath ∷ Wpath ∷ []) ∷ []) refl r (subst (λ (n : Need). Among r (with_need rs n)) e h))
+  known-met k (inr (inr (inl e))) r h = subst (λ (n : Need). is_met (Some set) n ≡ true) (sym e) (single-met Wpath (inr (inr (inl refl))) [] refl r (subst (λ (n : Need). Among r (with_need rs n)) e h))
+  known-met k (inr (inr (inr (inl e)))) r h = subst (λ (n : Need). is_met (Some set) n ≡ true) (sym e) (single-met Cpath (inr (inr (inr (inl refl)))) [] refl r (subst (λ (n : Need). Among r (with_need rs n)) e h))
+  known-met k (inr (inr (inr (inr (inl e))))) r h =
+      subst (λ (n : Need). is_met (Some set) n ≡ true) (sym e) (single-met Proc (inr (inr (inr (inr (inl refl))))) [] refl r (subst (λ (n : Need). Among r (with_need rs n)) e h))
+  known-met k (inr (inr (inr (inr (inr (inl e)))))) r h =
+      subst (λ (n : Need). is_met (Some set) n ≡ true) (sym e) (single-met Exec (inr (inr (inr (inr (inr (inl refl)))))) [] refl r (subst (λ (n : Need). Among r (with_need rs n)) e h))
+  known-met k (inr (inr (inr (inr (inr (inr (inl e))))))) r h =
+      subst (λ (n : Need). is_met (Some set) n ≡ true) (sym e) (single-met Unveil (inr (inr (inr (inr (inr (inr (inl refl))))))) [] refl r (subst (λ (n : Need). Among r (with_need rs n)) e h))
+  known-met k (inr (inr (inr (inr (inr (inr (inr (inl e)))))))) r h =
+      subst (λ (n : Need). is_met (Some set) n ≡ true) (sym e) (alternatives-met r (subst (λ (n : Need). Among r (with_need rs n)) e h))
+  known-met k (inr (inr (inr (inr (inr (inr (inr (inr none)))))))) r h = absurd none
+
+  -- all needs of a call of the program are met
+  call-met : (r : Observation Request) → Among r rs → list_all (λ need. is_met (Some set) need) (needs r.item.call) ≡ true
+  call-met r h = all (needs r.item.call) (λ need within. one need within)
+    where
+      one : (need : Need) → Among need (needs r.item.call) → is_met (Some set) need ≡ true
+      one need within =
+          let known = among-any (λ k. same_need k need) known_needs (all-among is_known (needs r.item.call) (needs-known r.item.call) need within) in
+          let has = among-filter (λ r. list_any (same_need known.0) (needs r.item.call)) r rs h (any-among (same_need known.0) need (needs r.item.call) within known.2) in
+          sym (same-met set known.0 need known.2) ∙ known-met known.0 known.1 r has
+
+      all : (ns : List Need) → ((need : Need) → Among need ns → is_met (Some set) need ≡ true) → list_all (λ need. is_met (Some set) need) ns ≡ true
+      all [] each = refl
+      all (n ∷ ns) each =
+          ap₂ (λ a b. a && b) (each n (inl refl)) (all ns (λ m k. each m (inr k)))
+
+-- ---- a step with other promises
+
+module _ (program_of : Bytes → Option Program) (u : State) (pid : ℕ) (p : Process) (at : process_at u pid ≡ Some p) (set : Promises) where
+  abbrev promised : Process
+  promised = record p { promises = Some set }
+
+  abbrev v : State
+  v = with_promises u pid set
+
+  at-v : process_at v pid ≡ Some promised
+  at-v = update-live u pid (λ q. record q { promises = Some set }) p at
+
+  call-reported : (call : Call) → next p ≡ calls_for call → (reports_need (step program_of v pid).lines ≡ false → HasAllNeeds (Some set) call) × (HasAllNeeds (Some set) call → reports_need (step program_of v pid).lines ≡ false)
+  call-reported call is =
+      let it = want-reported program_of v pid promised call at-v (next-call p (Some set) p.table call is) in (it.0, it.1)
+
+  -- no step lacks a promise if its call does not
+  quiet-if : ((call : Call) → next p ≡ calls_for call → HasAllNeeds (Some set) call) → reports_need (step program_of v pid).lines ≡ false
+  quiet-if has = by (next promised) refl
+    where
+      by : (n : Next) → next promised ≡ n → reports_need (step program_of v pid).lines ≡ false
+      by (inside q) is = ap (λ (w : Stepped). reports_need w.lines) (step-is program_of v pid promised at-v ∙ ap (step_by program_of v pid promised) is)
+      by (calls_for call) is = let own = next-call promised p.promises p.table call is in (call-reported call own).1 (has call own)
+
+-- ---- calls of states
+
+module _ (program_of : Bytes → Option Program) (limit : ℕ) (s : State) (it : IsSearched program_of limit s) where
+  abbrev found : List Found
+  found = states_found program_of limit s
+
+  abbrev pub asks : State → ℕ → Process → Call → Request
+  asks u pid p call = record { before = u; process = p; call = call; asked = asked_by u p call (answer program_of u pid call) }
+
+  -- a call in a visited state is among the requests
+  pub requested : (g : Found) → Among g found → (pid : ℕ) (p : Process) (call : Call) → process_at g.state pid ≡ Some p → next p ≡ calls_for call
+      → Among (observed (move program_of g pid) (asks g.state pid p call)) (requests program_of limit s)
+  requested g within pid p call live is =
+      let m = move program_of g pid in
+      let has : Among (asks g.state pid p call) (of_calls (request program_of) g.state pid m.stepped) =
+      subst (λ (o : Option Process). Among (asks g.state pid p call) (of_process (request program_of) g.state pid m.stepped o)) (sym live)
+      (subst (λ (n : Next). Among (asks g.state pid p call) (of_next (request program_of) g.state pid m.stepped p n)) (sym is) (inl refl)) in
+      among-flat (observations_at (of_calls (request program_of)) program_of) g (observed m (asks g.state pid p call)) found within
+      (among-flat (λ (m : Move). map (observed m) (of_calls (request program_of) g.state m.pid m.stepped)) m (observed m (asks g.state pid p call)) (moves_of program_of g) (own-move program_of limit s it g pid p live)
+      (among-map (observed m) (asks g.state pid p call) (of_calls (request program_of) g.state pid m.stepped) has))
+
+  module _ (complete : is_complete program_of limit s ≡ true) (pids : List ℕ) where
+    abbrev u : State
+    u = (run program_of pids s).final
+
+    there : (g : Found) × Among g found × (g.state ≡ u)
+    there = found-there u found (all-found program_of limit s it complete pids)
+
+    -- a call of a schedule is among the requests of its program
+    request-there : (pid : ℕ) (p : Process) (call : Call) → process_at u pid ≡ Some p → next p ≡ calls_for call
+        → (r : Observation Request) × Among r (requests program_of limit s) × (r.item.call ≡ call) × (r.item.process ≡ p)
+    request-there pid p call live is =
+        (observed (move program_of there.0 pid) (asks there.0.state pid p call), requested there.0 there.1 pid p call (ap (λ v. process_at v pid) there.2 ∙ live) is, refl, refl)
+
+    calling-listed : (pid : ℕ) (p : Process) (call : Call) → process_at u pid ≡ Some p → next p ≡ calls_for call
+        → (group : Observation Request × Requests) × Contains (programs program_of limit s) group × (group.0.item.process.program ≡ p.program)
+    calling-listed pid p call live is =
+        let r = request-there pid p call live is in
+        let group : HasGroup program_key (requests program_of limit s) r.0 = grouped program_key (requests program_of limit s) r.0 r.1 in (
+          group.group,
+          among-contains group.group (programs program_of limit s) group.listed,
+          same-programs s.tree group.group.0.item.process.program p.program (group.same ∙ ap (λ (q : Process). program_numbers q.program) r.3),
+        )
+
+    enough : (group : Observation Request × Requests) → Among group (programs program_of limit s) → (pid : ℕ) (p : Process) (set : Promises) → process_at u pid ≡ Some p
+        → p.program ≡ group.0.item.process.program → MeetsAll set group.1 → reports_need (step program_of (with_promises u pid set) pid).lines ≡ false
+    enough group listed pid p set live same meets =
+        quiet-if program_of u pid p live set (λ call is.
+        let r = request-there pid p call live is in
+        let member = in-group program_key (requests program_of limit s) group listed r.0 r.1 (ap (λ (q : Process). program_numbers q.program) r.3 ∙ ap program_numbers same) in
+        let met = call-met set group.1 (λ l h. meets l (among-contains l (needs_listed group.1) h)) r.0 member in
+        inr (set, refl, ap (λ (c : Call). list_all (λ need. is_met (Some set) need) (needs c)) (sym r.2) ∙ met))
+
+  -- ---- listed needs are needed
+
+  -- a listed need is one of its call
+  record IsListedOf (rs : Requests) (l : Listed) : Type 0 where
+    pub within : Among l.1 rs
+    pub has : list_any (same_need l.0) (needs l.1.item.call) ≡ true
+
+  first-of : (rs : Requests) (ns : List Need) (l : Listed) → first_listed rs ns ≡ Some l → IsListedOf rs l
+  first-of rs [] l is = cc
+  first-of rs (need ∷ ns) l is = by (with_need rs need) refl is (first-of rs ns l)
+    where
+      by : (xs : Requests) → with_need rs need ≡ xs → listed_or (first_listed rs ns) need (first_of xs) ≡ Some l → (first_listed rs ns ≡ Some l → IsListedOf rs l) → IsListedOf rs l
+      by [] none is' later = later is'
+      by (x ∷ xs) some is' later =
+          let same : ◌≡◌ {A = Listed} (need, x) l = cc is' in
+          let own = filter-among (λ r. list_any (same_need need) (needs r.item.call)) x rs (subst (λ (ys : Requests). Among x ys) (sym some) (inl refl)) in
+          subst (IsListedOf rs) same (record { within = own.0; has = own.1 })
+
+  listed-of : (rs : Requests) (ps : List Promise) (l : Listed) → Among l (filter_map (λ p. first_listed rs (needs_with p)) ps) → IsListedOf rs l
+  listed-of rs [] l h = absurd h
+  listed-of rs (p ∷ ps) l h = by (first_listed rs (needs_with p)) refl h (listed-of rs ps l)
+    where
+      by : (o : Option Listed) → first_listed rs (needs_with p) ≡ o → Among l (cons_option o (filter_map (λ p. first_listed rs (needs_with p)) ps))
+          → (Among l (filter_map (λ p. first_listed rs (needs_with p)) ps) → IsListedOf rs l) → IsListedOf rs l
+      by None none h later = later h
+      by (Some m) some (inl e) later = first-of rs (needs_with p) l (some ∙ ap (λ (x : Listed). Some x) (sym e))
+      by (Some m) some (inr h) later = later h
+
+  refused : (group : Observation Request × Requests) → Among group (programs program_of limit s) → (l : Listed) → Among l (needs_listed group.1) → (set : Promises) → is_met (Some set) l.0 ≡ false
+      → IsRefusedWith program_of s set l.1
+  refused group listed l h set unmet =
+      let of = listed-of group.1 promises_in_use l h in
+      let member = of-group program_key (requests program_of limit s) group listed l.1 of.within in
+      let made : IsMade (of_calls (request program_of)) program_key' program_of limit s it l.1 = made-in (of_calls (request program_of)) program_key' program_of limit s it l.1 member.0 in
+      let sound = sound-at program_of limit s it made.from made.within in
+      let witness : l.1.move.witness ≡ made.from.witness ++ l.1.move.pid ∷ [] = ap (λ (m : Move). m.witness) made.is in
+      let call : IsOfCall (request program_of) made.from.state l.1.move.pid (step program_of made.from.state l.1.move.pid) l.1.item = of-call (request program_of) made.from.state l.1.move.pid (step program_of made.from.state l.1.move.pid) l.1.item made.item in
+      let leads : made.from.state ≡ (run program_of made.from.witness s).final = sym sound.witness.leads in
+      record {
+        before = made.from.witness;
+        witness = witness;
+        steps = subst (λ (w : List ℕ). AreSteps program_of w s) (sym witness) (witness-more program_of s made.from.state made.from.witness l.1.move.pid sound.witness (ap is_some made.lives)).steps;
+        refused = subst (λ (v : State). reports_need (step program_of (with_promises v l.1.move.pid set) l.1.move.pid).lines ≡ true) leads
+            (lacks made.from.state l.1.move.pid call.process call.call call.live call.calls (ap (λ (r : Request). r.call) (only call.has)) of.has);
+      }
+    where
+      program_key' : Request → Rattle.pv_model.specs.Answers.Numbers.Numbers
+      program_key' r = program_numbers r.process.program
+
+      only : {x y : Request} → Among x (y ∷ []) → x ≡ y
+      only (inl e) = e
+      only (inr none) = absurd none
+
+      unmet-all : (ns : List Need) → list_any (same_need l.0) ns ≡ true → list_all (λ need. is_met (Some set) need) ns ≡ true → ⊥
+      unmet-all ns has all =
+          let need = among-any (same_need l.0) ns has in
+          let met = all-among (λ need. is_met (Some set) need) ns all need.0 need.1 in
+          let bad : true ≡ false = sym met ∙ sym (same-met set l.0 need.0 need.2) ∙ unmet in absurd (cc)
+
+      has-not : (call : Call) → list_any (same_need l.0) (needs call) ≡ true → HasAllNeeds (Some set) call → ⊥
+      has-not call has (inl none) = cc none
+      has-not call has (inr (other, same, all)) =
+          let e : set ≡ other = cc same in
+          unmet-all (needs call) has (ap (λ (k : Promises). list_all (λ need. is_met (Some k) need) (needs call)) e ∙ all)
+
+      lacks : (u : State) (pid : ℕ) (p : Process) (call : Call) → process_at u pid ≡ Some p → next p ≡ calls_for call → l.1.item.call ≡ call → list_any (same_need l.0) (needs l.1.item.call) ≡ true
+          → reports_need (step program_of (with_promises u pid set) pid).lines ≡ true
+      lacks u pid p call live is same has = by (reports_need (step program_of (with_promises u pid set) pid).lines) refl
+        where
+          by : (b : Bool) → reports_need (step program_of (with_promises u pid set) pid).lines ≡ b → b ≡ true
+          by true reported = refl
+          by false quiet = absurd (has-not call (ap (λ c. list_any (same_need l.0) (needs c)) (sym same) ∙ has) ((call-reported program_of u pid p live set call is).0 quiet))
+
+pub calling-programs : CallingProgramsAreListed
+calling-programs program_of limit s pids pid p call it complete live is = calling-listed program_of limit s it complete pids pid p call live is
+
+pub enough-promises : ListedPromisesAreEnough
+enough-promises program_of limit s group pids pid p set it complete listed live same meets =
+    enough program_of limit s it complete pids group (contains-among (programs program_of limit s) group listed) pid p set live same meets
+
+pub needed-promises : ListedPromisesAreNeeded
+needed-promises program_of limit s group l set it listed h unmet =
+    refused program_of limit s it group (contains-among (programs program_of limit s) group listed) l (contains-among (needs_listed group.1) l h) set unmet

@@ -1,0 +1,5 @@
+use Rattle.pv_laws_schedules.proofs.Exposed.{witnesses-leak}
+use Rattle.pv_laws_schedules.proofs.exposure.witnesses_leak.Goals as goal
+
+pub returns : goal.returns
+returns c = witnesses-leak

@@ -1,0 +1,5 @@
+use Rattle.pv_laws_schedules.proofs.Lettered.{needed-permissions}
+use Rattle.pv_laws_schedules.proofs.policy.listed_permissions_are_needed.Goals as goal
+
+pub returns : goal.returns
+returns c = needed-permissions
