@@ -118,3 +118,19 @@ pub fn command_line_of<'a, S: AsStr>(
     }
     parsed(alloc, words)
 }
+
+/// Returns the command that the words of a command line ask for. The first word is the name of the program. Without
+/// further words, the command is to run the bundle on the standard input.
+///
+/// # Errors
+///
+/// As for `command_line_of`.
+pub fn command_of<'a, S: AsStr>(alloc: Global, words: &'a [S]) -> Result<Command<'a>, LineFault>
+    ensures asked { IfOk result (IsAsked (map S.text words.entry.now)) }
+    ensures refused { IfErr result (RefusesLine (map S.text words.entry.now)) }
+{
+    match command_line_of(alloc, words) {
+        Ok(line) => Ok(line.command),
+        Err(fault) => Err(fault),
+    }
+}
