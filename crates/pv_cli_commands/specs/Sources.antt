@@ -1,10 +1,11 @@
 -- Manifests and bundles of sources.
-use Rattle.std.specs.Prelude.{◌≡◌, ◌⊎◌, Result, Err, IfSome, OnOk, IfErr}
+use Rattle.std.specs.Prelude.{◌≡◌, ◌⊎◌, [], Result, Err, IfSome, OnOk, IfErr}
 use Rattle.pv_model.specs.declared.stream.Sink.{Ghosts as Writing}
 use Rattle.pv_model.specs.declared.stream.Source.{Ghosts as Reading}
 use Rattle.pv_model.specs.Bytes.{Bytes}
 use Rattle.pv_source.specs.declared.source.SourceStop.TheVariants.{Read, Refused, Write}
 use Rattle.pv_source.specs.Outcome.{BeginsFaults, BeginsText, IsBefore, ReportsFaults, WritesText}
+use Rattle.pv_source.specs.Warnings.{BeginsWarnings, Warns, warned_lines}
 use Rattle.pv_streams.specs.Sources.{FailsToGive}
 use Rattle.pv_cli_commands.specs.declared.fault.Fault.TheVariants.{Source}
 use Rattle.pv_cli_commands.specs.Faults.{Answer, IsOfSource}
@@ -14,9 +15,10 @@ use Rattle.pv_cli_commands.specs.Streams.{Disk, FailsToTake, IsOpened, IsUnknown
 -- the manifest or bundle of a source was written to a sink, or its lines in error were reported to another
 pub record WritesSource {S W E : Type 0} (reading : Reading S) (writing : Writing W) (reporting : Writing E) (name : Bytes) (first last : S) (before after : W)
     (unreported reported : E) (answer : Answer) : Type 0 where
-  -- success: the sink received exactly this text, and nothing was reported
+  -- success: the sink received exactly this text, and the warnings were reported
   pub written : OnOk answer (IfSome (reading.remaining first) (λ bytes. WritesText bytes (writing.written before) (writing.written after)))
-  pub silent : OnOk answer (reported ≡ unreported)
+  pub warned : OnOk answer (IfSome (reading.remaining first) (λ bytes. Warns name bytes (reporting.written unreported) (reporting.written reported)))
+  pub silent : OnOk answer (IfSome (reading.remaining first) (λ bytes. warned_lines bytes ≡ [] → reported ≡ unreported))
   -- the source is refused: its lines in error were reported, and nothing was written
   pub refused : answer ≡ Err (Source Refused) → IfSome (reading.remaining first) (λ bytes.
       ReportsFaults name bytes (reporting.written unreported) (reporting.written reported))
@@ -24,7 +26,8 @@ pub record WritesSource {S W E : Type 0} (reading : Reading S) (writing : Writin
   -- after a failed read or out of memory, nothing was written or reported; after a failed write, a prefix was
   pub kind : IfErr answer (IsOfSource (λ stop. IsBefore stop → (after ≡ before) × (reported ≡ unreported)))
   pub begun : answer ≡ Err (Source Write) → IfSome (reading.remaining first) (λ bytes.
-      BeginsText bytes (writing.written before) (writing.written after) ⊎ BeginsFaults name bytes (reporting.written unreported) (reporting.written reported))
+      BeginsText bytes (writing.written before) (writing.written after)
+      ⊎ (BeginsFaults name bytes (reporting.written unreported) (reporting.written reported) ⊎ BeginsWarnings name bytes (reporting.written unreported) (reporting.written reported)))
   pub flushed : Flushes writing before after answer
   -- a failed read or write was counted
   pub read : answer ≡ Err (Source Read) → FailsToGive reading first last

@@ -61,7 +61,7 @@ unfolding questions_on_literals
 each_call_is_met = refl
 
 -- a byte that is not printable, a path that two targets have, and a target without a path
-pub paths_are_spelled : restraints_text true (
+pub paths_are_quoted : restraints_text true (
     codes "image 64 64" ∷
     codes "bytes \"/caf\\xe9\" \"x\"" ∷
     codes "exec \"/init\" 6" ∷
@@ -86,7 +86,7 @@ pub paths_are_spelled : restraints_text true (
     codes "unveil null null" ∷
     codes "pledge \"rpath cpath\" null" ∷ []))
 unfolding questions_on_literals
-paths_are_spelled = refl
+paths_are_quoted = refl
 
 -- the statement of a theorem
 abbrev pub Stated : {A : Type 0} → A → Type 0
@@ -95,4 +95,4 @@ Stated {A} theorem = A
 pub record AllWorked : Type 0 where
   pub refused_calls_are_left_out : Stated refused_calls_are_left_out
   pub each_call_is_met : Stated each_call_is_met
-  pub paths_are_spelled : Stated paths_are_spelled
+  pub paths_are_quoted : Stated paths_are_quoted

@@ -61,6 +61,12 @@ pub ReportedSoFar-step : (before now after left all : List ℕ) (t : Bool) (n : 
 ReportedSoFar-step before now after left all true n reports preserved = record { is = λ rest. reports.is (left ++ rest) ∙ preserved.is rest }
 ReportedSoFar-step before now after left all false n reports preserved = record { is = λ rest. reports.is (left ++ rest) ∙ preserved.is rest }
 
+-- some lines are reported
+pub ReportedSoFar-more : (before now after some left all : List ℕ) → Reports now after some → ReportedSoFar before now (some ++ left) all → ReportedSoFar before after left all
+ReportedSoFar-more before now after some left all reports preserved = record {
+  is = λ rest. reports.is (left ++ rest) ∙ ap (λ ls. take REPORTED (now ++ ls)) (sym (append_assoc some left rest)) ∙ preserved.is rest;
+}
+
 pub ReportedSoFar-end : (before now all : List ℕ) → ReportedSoFar before now [] all → Reports before now all
 ReportedSoFar-end before now all preserved = record { is = preserved.is }
 

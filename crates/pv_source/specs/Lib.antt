@@ -5,4 +5,6 @@ pub mod ReadEntries
 pub mod ReadPrograms
 pub mod Reading
 pub mod Saying
+pub mod Warnings
+pub mod Worked
 pub mod Reporting

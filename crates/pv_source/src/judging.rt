@@ -208,8 +208,8 @@ fn report_turns(alloc: Global, lines: Lines, faults: &mut Faults) -> Result<(), 
     Ok(())
 }
 
-// Returns whether the second word of a line is the text `/init`.
-fn names_init(words: &[u8]) -> bool
+/// Returns whether the second word of a line is the text `/init`.
+pub fn names_init(words: &[u8]) -> bool
     ensures { result ≡ is_init (second_text (words_from words.now between)) }
 {
     let Some(path) = second_text(words) else {

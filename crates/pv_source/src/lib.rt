@@ -5,7 +5,8 @@
 //! those that belong to it. `programs` handles labels and instructions, and `entries` the entry of a block. `judging`
 //! checks the lines of programs and of the schedule, `so_far` the lines of the manifest with the tree that they build,
 //! and `whole` the whole source. `faults` collects the errors, and `explaining` writes their messages, each proved to
-//! be one printable line. `texts` produces the translated text, and `source` reads a source and writes the result.
+//! be one printable line. `warnings` finds what is valid but fails in every run. `texts` produces the translated text,
+//! and `source` reads a source and writes the result. `worked` states what the definitions compute on small sources.
 #![tactic(auto)]
 
 mod blocks;
@@ -18,11 +19,15 @@ mod programs;
 mod so_far;
 mod source;
 mod texts;
+mod warnings;
 mod whole;
 mod words;
+mod worked;
 
 pub use explaining::Saying;
 pub use faults::{Fault, Faults, REPORTED};
 pub use source::{SourceStop, write_source};
 pub use texts::text_of;
+pub use warnings::warnings_of;
 pub use whole::faults_of;
+pub use worked::worked_sources_are_as_they_are_written;

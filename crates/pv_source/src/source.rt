@@ -1,13 +1,18 @@
 //! Reading a source to its end and writing its translation.
-ghost use Rattle.std.specs.Prelude.{◌≡◌, ◌≢◌, ◌⊎◌, ◌++◌, ◌≤◌, length, map, IfOk, IfErr, IfSome, OnOk, Err};
+ghost use Rattle.std.specs.Prelude.{◌≡◌, ◌≢◌, ◌⊎◌, ◌++◌, ◌+◌, ◌<◌, ◌≤◌, ◌^◌, [], length, map, IfOk, IfErr, IfSome, OnOk, Err};
+ghost use Rattle.pv_model.specs.Source.Blocks.{blocks_of};
+ghost use Rattle.pv_model.specs.Source.Written.{text_of_blocks};
 ghost use Rattle.pv_model.specs.Stream.{Rose};
 ghost use Rattle.pv_source.specs.Outcome.{reported_of, fault_line, fault_lines, AreLines, WritesText, ReportsFaults, BeginsText, BeginsFaults, IsBefore, stop_of};
 ghost use Rattle.pv_source.specs.Saying.{IsPrintable};
+ghost use Rattle.pv_source.specs.Warnings.{BeginsWarnings, Warns, warned_lines};
 ghost use Rattle.pv_source.specs.declared.source.SourceStop.TheVariants.{Memory as MemoryStop, Write as WriteStop};
+ghost use Rattle.pv_streams.specs.Sinks.{WritesPrefix, and_all};
 ghost use Rattle.pv_streams.specs.Sources.{FailsToGive};
 
 use crate::faults::Fault;
 use crate::texts::text_of;
+use crate::warnings::warnings_of;
 use crate::whole::faults_of;
 use itoa::Buffer;
 use pv_model::{Failed, ManifestFault, RunFault};
@@ -89,6 +94,35 @@ fn faults_text(alloc: Global, name: &[u8], reported: &[Fault]) -> Result<Vec<u8>
     Ok(text)
 }
 
+// Writes the translation of a source without errors, and then reports its warnings.
+fn write_right<W: Sink, E: Sink>(
+    alloc: Global,
+    name: &[u8],
+    source: &[u8],
+    out: &mut W,
+    reported: &mut E,
+) -> Result<(), SourceStop>
+    requires { length source.now + 1 < 2 ^ 31 }
+    ensures written { OnOk result (W.written out.new ≡ and_all (W.written out.old) (text_of_blocks (blocks_of source.now))) }
+    ensures warned { OnOk result (Warns name.now source.now (E.written reported.old) (E.written reported.new)) }
+    ensures silent { OnOk result (warned_lines source.now ≡ [] → reported.new ≡ reported.old) }
+    ensures empty { OnOk result (W.buffered out.new ≡ 0) }
+    ensures kind { IfErr result (λ stop. (stop ≡ SourceStop.Memory) ⊎ (stop ≡ SourceStop.Write)) }
+    ensures stopped { result ≡ Err SourceStop.Memory → (out.new ≡ out.old) × (reported.new ≡ reported.old) }
+    ensures write { result ≡ Err SourceStop.Write → Rose (W.failures out.old) (W.failures out.new) ⊎ Rose (E.failures reported.old) (E.failures reported.new) }
+    ensures begun { result ≡ Err SourceStop.Write → WritesPrefix (text_of_blocks (blocks_of source.now)) (W.written out.old) (W.written out.new) ⊎ BeginsWarnings name.now source.now (E.written reported.old) (E.written reported.new) }
+{
+    let text = text_of(alloc, source)?;
+    let warnings = warnings_of(alloc, source)?;
+    let warned = faults_text(alloc, name, warnings.reported())?;
+    write_through(out, &text)?;
+    if warnings.is_empty() {
+        return Ok(());
+    }
+    write_through(reported, &warned)?;
+    Ok(())
+}
+
 // Writes the translation of a source, or reports the lines with errors.
 fn write_bytes<W: Sink, E: Sink>(
     alloc: Global,
@@ -102,33 +136,33 @@ fn write_bytes<W: Sink, E: Sink>(
     ensures refused { result ≡ Err SourceStop.Refused → ReportsFaults name.now source.now (E.written reported.old) (E.written reported.new) }
     ensures empty { OnOk result (W.buffered out.new ≡ 0) }
     ensures unwritten { result ≡ Err SourceStop.Refused → out.new ≡ out.old }
-    ensures unreported { OnOk result (reported.new ≡ reported.old) }
+    ensures warned { OnOk result (Warns name.now source.now (E.written reported.old) (E.written reported.new)) }
+    ensures silent { OnOk result (warned_lines source.now ≡ [] → reported.new ≡ reported.old) }
     ensures unread { result ≢ Err SourceStop.Read }
     ensures stopped { result ≡ Err SourceStop.Memory → (out.new ≡ out.old) × (reported.new ≡ reported.old) }
     ensures write { result ≡ Err SourceStop.Write → Rose (W.failures out.old) (W.failures out.new) ⊎ Rose (E.failures reported.old) (E.failures reported.new) }
-    ensures begun { result ≡ Err SourceStop.Write → BeginsText source.now (W.written out.old) (W.written out.new) ⊎ BeginsFaults name.now source.now (E.written reported.old) (E.written reported.new) }
+    ensures begun { result ≡ Err SourceStop.Write → BeginsText source.now (W.written out.old) (W.written out.new) ⊎ (BeginsFaults name.now source.now (E.written reported.old) (E.written reported.new) ⊎ BeginsWarnings name.now source.now (E.written reported.old) (E.written reported.new)) }
 {
     let faults = faults_of(alloc, source)?;
     if faults.is_empty() {
-        let text = text_of(alloc, source)?;
-        write_through(out, &text)?;
-        return Ok(());
+        return write_right(alloc, name, source, out, reported);
     }
     let text = faults_text(alloc, name, faults.reported())?;
     write_through(reported, &text)?;
     Err(SourceStop::Refused)
 }
 
-/// Reads a source to its end, and writes the manifest or bundle that it translates to, to `out`. If lines have errors,
-/// nothing is written to `out`, and the first twenty of them are reported in order on `reported`, each in a line
-/// `pvsim: NAME:LINE: WHAT`. The sink that was written to is flushed.
+/// Reads a source to its end, and writes the manifest or bundle that it translates to, to `out`. Then the first twenty
+/// lines with a pledge(2) that names a promise which does not exist are reported in order on `reported`, each in a line
+/// `pvsim: NAME:LINE: WHAT`. If lines have errors, nothing is written to `out`, and the first twenty of them are
+/// reported instead. Each sink that was written to is flushed.
 ///
 /// # Errors
 ///
 /// - `Read`: a read failed, or the source has more than 67,108,864 bytes.
 /// - `Refused`: lines have errors, which were reported.
 /// - `Memory`: memory cannot be allocated.
-/// - `Write`: a write of the translation or of the errors failed. The sink has received a prefix of it.
+/// - `Write`: a write of the translation, of the errors or of the warnings failed. The sink has received a prefix of it.
 ///
 /// If the error is `Read` or `Memory`, nothing was written.
 pub fn write_source<S: Source, W: Sink, E: Sink>(
@@ -142,13 +176,14 @@ pub fn write_source<S: Source, W: Sink, E: Sink>(
     ensures refused { result ≡ Err SourceStop.Refused → IfSome (S.remaining source.old) (λ bytes. ReportsFaults name.now bytes (E.written reported.old) (E.written reported.new)) }
     ensures empty { OnOk result (W.buffered out.new ≡ 0) }
 
-    // If lines have errors, nothing is written to `out`. If no line has one, nothing is written to `reported`.
+    // If lines have errors, nothing is written to `out`. If no line has one, only warnings are written to `reported`.
     ensures unwritten { result ≡ Err SourceStop.Refused → out.new ≡ out.old }
-    ensures unreported { OnOk result (reported.new ≡ reported.old) }
+    ensures warned { OnOk result (IfSome (S.remaining source.old) (λ bytes. Warns name.now bytes (E.written reported.old) (E.written reported.new))) }
+    ensures silent { OnOk result (IfSome (S.remaining source.old) (λ bytes. warned_lines bytes ≡ [] → reported.new ≡ reported.old)) }
     ensures read { result ≡ Err SourceStop.Read → FailsToGive S.Source source.old source.new }
     ensures stopped { IfErr result (λ stop. IsBefore stop → (out.new ≡ out.old) × (reported.new ≡ reported.old)) }
     ensures write { result ≡ Err SourceStop.Write → Rose (W.failures out.old) (W.failures out.new) ⊎ Rose (E.failures reported.old) (E.failures reported.new) }
-    ensures begun { result ≡ Err SourceStop.Write → IfSome (S.remaining source.old) (λ bytes. BeginsText bytes (W.written out.old) (W.written out.new) ⊎ BeginsFaults name.now bytes (E.written reported.old) (E.written reported.new)) }
+    ensures begun { result ≡ Err SourceStop.Write → IfSome (S.remaining source.old) (λ bytes. BeginsText bytes (W.written out.old) (W.written out.new) ⊎ (BeginsFaults name.now bytes (E.written reported.old) (E.written reported.new) ⊎ BeginsWarnings name.now bytes (E.written reported.old) (E.written reported.new))) }
 {
     let bytes = read_whole(alloc, source)?;
     write_bytes(alloc, name, &bytes, out, reported)

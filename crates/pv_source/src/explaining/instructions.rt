@@ -7,6 +7,9 @@ use super::words::{NAMES, Want, say_invalid, wants_of};
 use crate::programs::{Label, begins_with_letter, is_jump, label_of};
 use crate::words::{content, last_word, next_word, push_words};
 use pv_model::limits::LINES;
+use pv_model::{Instruction, Text};
+use pv_promises::{ALL, read_promises};
+use pv_script::instruction::instruction as parsed;
 use pv_text::lines::{after_one_space, split_word};
 use pv_text::texts::text;
 use pv_text::words::{flags, number, operand, origin, register, whence};
@@ -21,6 +24,41 @@ pub fn second_label(alloc: Global, label: Option<&[u8]>) -> Result<Saying, Alloc
     let mut out = Saying::new(alloc);
     let after = b" is already defined above in this program";
     say_word(&mut out, b"label ", label.unwrap_or(b""), after)?;
+    Ok(out)
+}
+
+// Returns the first word of a promises argument that is no keyword.
+fn unknown_word(promises: &Option<Text>) -> Option<&[u8]> {
+    let Some(promises) = promises else {
+        return None;
+    };
+    promises
+        .as_slice()
+        .split(|byte| *byte == b' ')
+        .find(|word| read_promises(word).is_err())
+}
+
+// Writes that a word is no keyword of pledge(2).
+fn say_unknown_promise(alloc: Global, out: &mut Saying, word: &[u8]) -> Result<(), AllocError> {
+    let mut keywords = Vec::new(alloc);
+    for promise in ALL {
+        keywords.push(promise.name().as_bytes())?;
+    }
+    say_word(out, b"warning: unknown promise ", word, b"")?;
+    say_nearest(alloc, out, word, &keywords)
+}
+
+/// Returns the message that a line is a pledge(2) with a word that is no keyword.
+///
+/// # Errors
+///
+/// Returns `AllocError` if memory cannot be allocated.
+pub fn unknown_promise(alloc: Global, line: &[u8]) -> Result<Saying, AllocError> {
+    let mut out = Saying::new(alloc);
+    if let Ok(Instruction::Pledge(promises, execpromises)) = parsed(LINES as u16, line) {
+        let word = unknown_word(&promises).or(unknown_word(&execpromises));
+        say_unknown_promise(alloc, &mut out, word.unwrap_or(b""))?;
+    }
     Ok(out)
 }
 

@@ -5,5 +5,5 @@ pub returns : goal.returns
 returns c = record {
   refused_calls_are_left_out = Worked.refused_calls_are_left_out;
   each_call_is_met = Worked.each_call_is_met;
-  paths_are_spelled = Worked.paths_are_spelled;
+  paths_are_quoted = Worked.paths_are_quoted;
 }

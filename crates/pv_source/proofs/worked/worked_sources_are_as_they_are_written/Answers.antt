@@ -1,0 +1,5 @@
+use Rattle.pv_source.specs.Worked
+use Rattle.pv_source.proofs.worked.worked_sources_are_as_they_are_written.Goals as goal
+
+pub returns : goal.returns
+returns c = record { unknown_promises_are_warned_of = Worked.unknown_promises_are_warned_of }

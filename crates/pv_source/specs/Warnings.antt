@@ -1,0 +1,55 @@
+-- The warnings about a source without errors: the lines with a pledge(2) that names a promise which does not exist.
+use Rattle.std.specs.Prelude.{◌≡◌, ℕ, Bool, false, ◌||◌, if◌then◌else◌, List, [], ◌++◌, map, flat_map, take, is_none, Option, None, Some, Result, Ok}
+use Rattle.pv_model.specs.declared.fault.What.{What}
+use Rattle.pv_model.specs.declared.instruction.Instruction.{Instruction}
+use Rattle.pv_model.specs.declared.instruction.Instruction.TheVariants.{Pledge}
+use Rattle.pv_model.specs.declared.limits.TheConstants.{LINES}
+use Rattle.pv_model.specs.Answers.Lines.{spaced}
+use Rattle.pv_model.specs.Bytes.{Bytes}
+use Rattle.pv_model.specs.Grammar.Instructions.{instruction_of}
+use Rattle.pv_model.specs.Promises.{read_promises}
+use Rattle.pv_model.specs.Source.Blocks.{Block, single, program, taken, cut_off, schedule, blocks_of}
+use Rattle.pv_model.specs.Source.Judged.{REPORTED, is_init, second_text}
+use Rattle.pv_model.specs.Source.Programs.{LabelledLine, labelled_lines, reported_if}
+use Rattle.pv_model.specs.Source.Words.{NumberedLine}
+use Rattle.pv_source.specs.Outcome.{AreLines, WritesText, fault_lines}
+use Rattle.pv_streams.specs.Sinks.{WritesPrefix, and_all}
+
+-- a word of a promises argument is no keyword
+abbrev pub lacks_keyword : Option Bytes → Bool
+lacks_keyword None = false
+lacks_keyword (Some text) = is_none (read_promises text)
+
+abbrev pub is_warned : Result Instruction What → Bool
+is_warned (Ok (Pledge promises execpromises)) = lacks_keyword promises || lacks_keyword execpromises
+is_warned instruction = false
+
+-- the line with this number, if its instruction is a pledge(2) with such a word
+abbrev pub warned_line : ℕ → Bytes → List ℕ
+warned_line n text = reported_if (is_warned (instruction_of LINES text)) n []
+
+abbrev pub warned_labelled : LabelledLine → List ℕ
+warned_labelled line = warned_line line.number (spaced line.words)
+
+abbrev pub warned_taken : NumberedLine → List ℕ
+warned_taken line = warned_line line.0 line.1
+
+-- such lines of the programs between <<END and END, and of the program of `/init`
+abbrev pub warned_in : Block → List ℕ
+warned_in (program n words body) = flat_map warned_labelled (labelled_lines body)
+warned_in (taken n words body) = if is_init (second_text words) then flat_map warned_taken body else []
+warned_in block = []
+
+-- the lines of the warnings: the first twenty
+unfoldable pub warned_lines : Bytes → List ℕ
+warned_lines source = take REPORTED (flat_map warned_in (blocks_of source))
+
+-- the warnings were reported in order, each in a line with a message
+abbrev pub Warns : Bytes → Bytes → Option Bytes → Option Bytes → Type 0
+Warns name source before after =
+    (reported : List (ℕ × Bytes)) × (warned_lines source ≡ map (λ t. t.0) reported) × (after ≡ and_all before (fault_lines name reported)) × AreLines reported
+
+-- a prefix of the warnings was reported
+abbrev pub BeginsWarnings : Bytes → Bytes → Option Bytes → Option Bytes → Type 0
+BeginsWarnings name source before after =
+    (reported : List (ℕ × Bytes)) × (warned_lines source ≡ map (λ t. t.0) reported) × WritesPrefix (fault_lines name reported) before after × AreLines reported
