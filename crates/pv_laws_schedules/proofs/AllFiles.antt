@@ -1,10 +1,9 @@
 -- The files of a tree are all listed.
-use Rattle.std.proofs.Common.{◌≡◌, ◌∙◌, sym, ap, subst, ℕ, Bool, true, false, ◌&&◌, List, [], ◌∷◌, ◌++◌, map, filter, cond, Contains, Option, None, Some, option_and_then, ◌⊎◌, inl, inr, refl}
+use Rattle.std.proofs.Common.{◌≡◌, ◌∙◌, sym, ap, subst, ℕ, Bool, true, false, ◌&&◌, List, [], ◌∷◌, ◌++◌, map, filter, cond, Option, None, Some, option_and_then, ◌⊎◌, inl, inr, refl}
 use Rattle.std.specs.FinMap.Entries.{find}
 use Rattle.std.specs.Ordering.{eq_by_cmp}
 use Rattle.std.specs.declared.cmp.Ordering.{Ordering}
 use Rattle.std.proofs.lemmas.Bool.{and_from}
-use Rattle.pv_model.specs.Answers.Explore.{new_ones}
 use Rattle.pv_model.specs.Answers.Files.{files_of_tree, is_file_at, named_files, unnamed_files}
 use Rattle.pv_model.specs.Answers.Numbers.{number_numbers}
 use Rattle.pv_model.specs.Answers.Reach.{ListedName, listed_names}
