@@ -4,7 +4,7 @@
 -- - `access`: Reached (the visited states), Happening (reported observations), ReadAccess (reads are
 --   accesses), UnreadFiles, Touching (reads and reports),
 --   Justified.
--- - `exposure`: Groups (elements with equal keys), Exposed.
+-- - `exposure`: Groups (elements with equal keys), Exposed, AllFiles.
 -- - `policy`: Promised (promises), Lettered (permissions),
 --   TargetLines (their lines).
 pub mod Searches
@@ -19,6 +19,7 @@ pub mod Touching
 pub mod Justified
 pub mod Groups
 pub mod Exposed
+pub mod AllFiles
 pub mod Promised
 pub mod Lettered
 pub mod TargetLines

@@ -10,6 +10,7 @@ use Rattle.pv_model.specs.Closed.{IsClosed}
 use Rattle.pv_model.specs.Sealed.{leaks as leaks_of}
 use Rattle.pv_model.specs.State.{Program, Process, State, process_at}
 use Rattle.pv_model.specs.Step.{run}
+use Rattle.pv_model.specs.Tree.{Tree, IsWellFormed}
 use Rattle.pv_laws_answers.specs.Search.{IsSearched}
 use Rattle.pv_laws_answers.specs.Witnesses.{AreSteps, IsWitness}
 
@@ -89,3 +90,7 @@ abbrev pub WitnessesLeak : Type 0
 WitnessesLeak =
     (program_of : Bytes → Option Program) (limit : ℕ) (s : State) (group : Located × List Located) (leaks : Leak × List Leak) → IsSearched program_of limit s
     → Contains (programs program_of limit s) group → Contains (leaks_by_file group.1) leaks → IsWitnessed program_of s leaks
+
+-- the files of a tree, named or held, are all its files: so the laws above are about each file of a state
+abbrev pub EachFileIsListed : Type 0
+EachFileIsListed = (t : Tree) → IsWellFormed t → (f : ℕ) → IsTrue (is_file_at t f) → Contains (files_of_tree t) f

@@ -1,6 +1,6 @@
 //! Laws of what an attacker gains who takes over a process of a program, at each of its lines.
 
-ghost use Rattle.pv_laws_schedules.specs.Exposure.{UnlistedLinesAreClosed, ListedLinesLeak, WitnessesLeak, SafeFilesAreClosed};
+ghost use Rattle.pv_laws_schedules.specs.Exposure.{UnlistedLinesAreClosed, ListedLinesLeak, WitnessesLeak, SafeFilesAreClosed, EachFileIsListed};
 
 /// If a search is complete, in every schedule a process of a program at a line that is not listed for a file's description
 /// is closed to each file with this description.
@@ -24,4 +24,9 @@ pub fn witnesses_leak()
 /// it.
 pub fn safe_files_are_closed()
     ensures { SafeFilesAreClosed }
+{}
+
+/// The files of a tree, by which leaks are listed, are all its files, named or held.
+pub fn each_file_is_listed()
+    ensures { EachFileIsListed }
 {}
