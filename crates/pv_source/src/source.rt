@@ -109,8 +109,10 @@ fn write_right<W: Sink, E: Sink>(
     ensures empty { OnOk result (W.buffered out.new ≡ 0) }
     ensures kind { IfErr result (λ stop. (stop ≡ SourceStop.Memory) ⊎ (stop ≡ SourceStop.Write)) }
     ensures stopped { result ≡ Err SourceStop.Memory → (out.new ≡ out.old) × (reported.new ≡ reported.old) }
-    ensures write { result ≡ Err SourceStop.Write → Rose (W.failures out.old) (W.failures out.new) ⊎ Rose (E.failures reported.old) (E.failures reported.new) }
-    ensures begun { result ≡ Err SourceStop.Write → WritesPrefix (text_of_blocks (blocks_of source.now)) (W.written out.old) (W.written out.new) ⊎ BeginsWarnings name.now source.now (E.written reported.old) (E.written reported.new) }
+    ensures write { result ≡ Err SourceStop.Write → (Rose (W.failures out.old) (W.failures out.new) × (reported.new ≡ reported.old))
+        ⊎ (Rose (E.failures reported.old) (E.failures reported.new) × (W.written out.new ≡ and_all (W.written out.old) (text_of_blocks (blocks_of source.now)))) }
+    ensures begun { result ≡ Err SourceStop.Write → (WritesPrefix (text_of_blocks (blocks_of source.now)) (W.written out.old) (W.written out.new) × (reported.new ≡ reported.old))
+        ⊎ (BeginsWarnings name.now source.now (E.written reported.old) (E.written reported.new) × (W.written out.new ≡ and_all (W.written out.old) (text_of_blocks (blocks_of source.now)))) }
 {
     let text = text_of(alloc, source)?;
     let warnings = warnings_of(alloc, source)?;
@@ -140,8 +142,11 @@ fn write_bytes<W: Sink, E: Sink>(
     ensures silent { OnOk result (warned_lines source.now ≡ [] → reported.new ≡ reported.old) }
     ensures unread { result ≢ Err SourceStop.Read }
     ensures stopped { result ≡ Err SourceStop.Memory → (out.new ≡ out.old) × (reported.new ≡ reported.old) }
-    ensures write { result ≡ Err SourceStop.Write → Rose (W.failures out.old) (W.failures out.new) ⊎ Rose (E.failures reported.old) (E.failures reported.new) }
-    ensures begun { result ≡ Err SourceStop.Write → BeginsText source.now (W.written out.old) (W.written out.new) ⊎ (BeginsFaults name.now source.now (E.written reported.old) (E.written reported.new) ⊎ BeginsWarnings name.now source.now (E.written reported.old) (E.written reported.new)) }
+    ensures write { result ≡ Err SourceStop.Write → (Rose (W.failures out.old) (W.failures out.new) × (reported.new ≡ reported.old))
+        ⊎ (Rose (E.failures reported.old) (E.failures reported.new) × ((out.new ≡ out.old) ⊎ WritesText source.now (W.written out.old) (W.written out.new))) }
+    ensures begun { result ≡ Err SourceStop.Write → (BeginsText source.now (W.written out.old) (W.written out.new) × (reported.new ≡ reported.old))
+        ⊎ ((BeginsFaults name.now source.now (E.written reported.old) (E.written reported.new) × (out.new ≡ out.old))
+        ⊎ (BeginsWarnings name.now source.now (E.written reported.old) (E.written reported.new) × WritesText source.now (W.written out.old) (W.written out.new))) }
 {
     let faults = faults_of(alloc, source)?;
     if faults.is_empty() {
@@ -162,7 +167,8 @@ fn write_bytes<W: Sink, E: Sink>(
 /// - `Read`: a read failed, or the source has more than 67,108,864 bytes.
 /// - `Refused`: lines have errors, which were reported.
 /// - `Memory`: memory cannot be allocated.
-/// - `Write`: a write of the translation, of the errors or of the warnings failed. The sink has received a prefix of it.
+/// - `Write`: a write of the translation, of the errors or of the warnings failed. The sink has received a prefix of it,
+///   and nothing was written to the other sink, except that warnings follow the whole translation.
 ///
 /// If the error is `Read` or `Memory`, nothing was written.
 pub fn write_source<S: Source, W: Sink, E: Sink>(
@@ -182,8 +188,13 @@ pub fn write_source<S: Source, W: Sink, E: Sink>(
     ensures silent { OnOk result (IfSome (S.remaining source.old) (λ bytes. warned_lines bytes ≡ [] → reported.new ≡ reported.old)) }
     ensures read { result ≡ Err SourceStop.Read → FailsToGive S.Source source.old source.new }
     ensures stopped { IfErr result (λ stop. IsBefore stop → (out.new ≡ out.old) × (reported.new ≡ reported.old)) }
-    ensures write { result ≡ Err SourceStop.Write → Rose (W.failures out.old) (W.failures out.new) ⊎ Rose (E.failures reported.old) (E.failures reported.new) }
-    ensures begun { result ≡ Err SourceStop.Write → IfSome (S.remaining source.old) (λ bytes. BeginsText bytes (W.written out.old) (W.written out.new) ⊎ (BeginsFaults name.now bytes (E.written reported.old) (E.written reported.new) ⊎ BeginsWarnings name.now bytes (E.written reported.old) (E.written reported.new))) }
+
+    // After a failed write nothing was written to the other sink, except that warnings follow the whole text.
+    ensures write { result ≡ Err SourceStop.Write → IfSome (S.remaining source.old) (λ bytes. (Rose (W.failures out.old) (W.failures out.new) × (reported.new ≡ reported.old))
+        ⊎ (Rose (E.failures reported.old) (E.failures reported.new) × ((out.new ≡ out.old) ⊎ WritesText bytes (W.written out.old) (W.written out.new)))) }
+    ensures begun { result ≡ Err SourceStop.Write → IfSome (S.remaining source.old) (λ bytes. (BeginsText bytes (W.written out.old) (W.written out.new) × (reported.new ≡ reported.old))
+        ⊎ ((BeginsFaults name.now bytes (E.written reported.old) (E.written reported.new) × (out.new ≡ out.old))
+        ⊎ (BeginsWarnings name.now bytes (E.written reported.old) (E.written reported.new) × WritesText bytes (W.written out.old) (W.written out.new)))) }
 {
     let bytes = read_whole(alloc, source)?;
     write_bytes(alloc, name, &bytes, out, reported)

@@ -24,8 +24,11 @@ returns-clause-warned g c = (
 
 pub returns-in_err-write_through-2-clause-begun : goal.returns-in_err-write_through-2-clause-begun
 returns-in_err-write_through-2-clause-begun g c = λ _. inr (
-  map reported_of c.reported.result.now,
-  sym (reported_faults c.reported.result.now ∙ c.reported.ensures ∙ c.in_ok-warnings.ensures),
-  subst (λ text. WritesPrefix text (g.E.Sink.written c.args.reported.now) (g.E.Sink.written c.write_through-2.new.sink)) (c.deref-2.ensures.value ∙ c.in_ok-warned.ensures.text) c.in_err-write_through-2.ensures.written.prefix,
-  c.in_ok-warned.ensures.lines,
+  (
+    map reported_of c.reported.result.now,
+    sym (reported_faults c.reported.result.now ∙ c.reported.ensures ∙ c.in_ok-warnings.ensures),
+    subst (λ text. WritesPrefix text (g.E.Sink.written c.args.reported.now) (g.E.Sink.written c.write_through-2.new.sink)) (c.deref-2.ensures.value ∙ c.in_ok-warned.ensures.text) c.in_err-write_through-2.ensures.written.prefix,
+    c.in_ok-warned.ensures.lines,
+  ),
+  c.in_ok-write_through.ensures.written.whole ∙ ap (and_all (g.W.Sink.written c.args.out.now)) (c.deref.ensures.value ∙ c.in_ok-text.ensures),
 )
