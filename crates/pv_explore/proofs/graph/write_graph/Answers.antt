@@ -1,4 +1,7 @@
-use Rattle.std.proofs.Common.{◌∙◌, ap, subst}
+use Rattle.std.proofs.Common.{◌∙◌, ap, subst, sym}
+use Rattle.std.proofs.lemmas.Result.{err_from_is_err_and}
+use Rattle.pv_session.specs.Running.{FailsBy}
+use Rattle.pv_session.specs.declared.session.Stop.{Stop}
 use Rattle.pv_explore.specs.Observing.{no_text}
 use Rattle.pv_explore.specs.Searches.{visited_of}
 use Rattle.pv_explore.proofs.Graphed.{graph-bytes, graph-complete, graph-many}
@@ -23,3 +26,8 @@ returns-in_err-write_found-clause-prefix g c =
 
 pub returns-clause-complete : goal.returns-clause-complete
 returns-clause-complete g c = graph-complete no_text c.args.states c.args.first_machine.now c.args.tree (visited_of c.in_ok-search.search) c.requires c.in_ok-search.ensures
+
+pub returns-in_err-write_found-clause-failed : goal.returns-in_err-write_found-clause-failed
+returns-in_err-write_found-clause-failed g c =
+    let p = err_from_is_err_and c.from_residual-in_err-write_found.result c.from_residual-in_err-write_found.ensures.1 in
+    rw p.1 (subst (λ (stop : Stop). FailsBy stop (g.W.Sink.failures c.args.out.now) (g.W.Sink.failures c.write_found.new.out)) (sym p.2) c.in_err-write_found.ensures.failed)

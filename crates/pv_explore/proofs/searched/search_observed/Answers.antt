@@ -1,4 +1,7 @@
 use Rattle.std.proofs.Common.{◌∙◌, ap, rules, sym, subst}
+use Rattle.std.proofs.lemmas.Result.{err_from_is_err_and}
+use Rattle.pv_session.specs.Running.{FailsBy}
+use Rattle.pv_session.specs.declared.session.Stop.{Stop}
 use Rattle.pv_explore.specs.Searches.{visited_of}
 use Rattle.pv_explore.proofs.Planned.{plan-found, plan-finds}
 use Rattle.pv_explore.proofs.Reported.{bytes-observed, is-searched}
@@ -25,11 +28,12 @@ returns-in_err-search_all-clause-written g c =
     let limit = c.args.states in
     let s = c.args.first_machine.now in
     let is = (plan-finds observe program_of limit s c.requires).bytes_are ∙ bytes-observed limit s observe in
+    let p = err_from_is_err_and c.from_residual-in_err-search_all.result c.from_residual-in_err-search_all.ensures.1 in
     record {
-      whole = search rules;
+      whole = rw p.1 tt;
       prefix = on_err c.from_residual-in_err-search_all.result (subst (λ (bs : Bytes). WritesPrefix bs (g.W.Sink.written c.args.out.now) (g.W.Sink.written c.search_all.new.out)) is c.in_err-search_all.ensures.prefix);
-      failed = search rules;
-      quiet = search rules;
+      failed = rw p.1 (subst (λ (stop : Stop). FailsBy stop (g.W.Sink.failures c.args.out.now) (g.W.Sink.failures c.search_all.new.out)) (sym p.2) c.in_err-search_all.ensures.failed);
+      quiet = rw p.1 tt;
     }
 
 pub returns-clause-written : goal.returns-clause-written

@@ -29,7 +29,7 @@ returns-in_err-report-clause-prefix g c =
     let long = longer old.witnesses c.args.number c.args.pid in
     let may = subst (λ (o : Option Followed). MayFollow g.O.Observer.observe c.args.limit c.args.self.now.states c.follow.new.self c.args.number c.args.pid o) c.in-Some.is c.in_ok-followed.ensures in
     let it = may t (whole-at s witness c.requires.whole) c.requires.there in
-    let texts_are = ap (λ (ts : List (Vec ℕ)). texts_in ts) c.deref-2.ensures.value ∙ ap (λ (ts : Vec (Vec ℕ)). texts_in ts.items) c.deref.ensures.value in
+    let texts_are = ap (λ (ts : List (Vec ℕ)). texts_in ts) c.deref-2.ensures.value ∙ ap (λ (ts : Vec (Vec ℕ)). texts_in ts.items) c.deref.ensures in
     let is = ap (reported_bytes old.reported c.args.pid long) (texts_are ∙ it.texts_are) in
     on_err c.from_residual-in_err-report.result
     (subst (λ (bs : Bytes). WritesPrefix bs (g.W.Sink.written c.args.out.now) (g.W.Sink.written c.report.new.out)) is c.in_err-report.ensures.prefix)
@@ -43,7 +43,7 @@ returns-in_err-keep_witness-clause-prefix g c =
     let long = longer old.witnesses c.args.number c.args.pid in
     let may = subst (λ (o : Option Followed). MayFollow g.O.Observer.observe c.args.limit c.args.self.now.states c.follow.new.self c.args.number c.args.pid o) c.in-Some.is c.in_ok-followed.ensures in
     let it = may t (whole-at s witness c.requires.whole) c.requires.there in
-    let texts_are = ap (λ (ts : List (Vec ℕ)). texts_in ts) c.deref-2.ensures.value ∙ ap (λ (ts : Vec (Vec ℕ)). texts_in ts.items) c.deref.ensures.value in
+    let texts_are = ap (λ (ts : List (Vec ℕ)). texts_in ts) c.deref-2.ensures.value ∙ ap (λ (ts : Vec (Vec ℕ)). texts_in ts.items) c.deref.ensures in
     let is = ap (reported_bytes old.reported c.args.pid long) (texts_are ∙ it.texts_are) in
     on_err c.from_residual-in_err-keep_witness.result (begins_whole _ _ _ (c.in_ok-report.ensures.whole ∙ ap (and_all (g.W.Sink.written c.args.out.now)) is))
 
@@ -56,7 +56,7 @@ returns-clause-visited g c =
     let long = longer old.witnesses c.args.number c.args.pid in
     let may = subst (λ (o : Option Followed). MayFollow g.O.Observer.observe c.args.limit c.args.self.now.states c.follow.new.self c.args.number c.args.pid o) c.in-Some.is c.in_ok-followed.ensures in
     let it = may t (whole-at s witness c.requires.whole) c.requires.there in
-    let texts_are = ap (λ (ts : List (Vec ℕ)). texts_in ts) c.deref-2.ensures.value ∙ ap (λ (ts : Vec (Vec ℕ)). texts_in ts.items) c.deref.ensures.value in
+    let texts_are = ap (λ (ts : List (Vec ℕ)). texts_in ts) c.deref-2.ensures.value ∙ ap (λ (ts : Vec (Vec ℕ)). texts_in ts.items) c.deref.ensures in
     visited-followed g.O.Observer.observe c.args.limit old (visited_of c.keep_witness.new.self) long c.args.pid t (texts_in c.in-Some.followed.texts.value.items) c.follow.new.self c.report.new.reported c.in-Some.followed.found it
     (c.in_ok-report.ensures.reported ∙ ap (reported_after old.reported) texts_are) c.in_ok-keep_witness.ensures
 
@@ -69,6 +69,6 @@ returns-clause-whole g c =
     let long = longer old.witnesses c.args.number c.args.pid in
     let may = subst (λ (o : Option Followed). MayFollow g.O.Observer.observe c.args.limit c.args.self.now.states c.follow.new.self c.args.number c.args.pid o) c.in-Some.is c.in_ok-followed.ensures in
     let it = may t (whole-at s witness c.requires.whole) c.requires.there in
-    let texts_are = ap (λ (ts : List (Vec ℕ)). texts_in ts) c.deref-2.ensures.value ∙ ap (λ (ts : Vec (Vec ℕ)). texts_in ts.items) c.deref.ensures.value in
+    let texts_are = ap (λ (ts : List (Vec ℕ)). texts_in ts) c.deref-2.ensures.value ∙ ap (λ (ts : Vec (Vec ℕ)). texts_in ts.items) c.deref.ensures in
     let is = ap (reported_bytes old.reported c.args.pid long) (texts_are ∙ it.texts_are) in
     c.in_ok-report.ensures.whole ∙ ap (and_all (g.W.Sink.written c.args.out.now)) is
