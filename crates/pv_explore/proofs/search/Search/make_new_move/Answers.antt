@@ -7,7 +7,7 @@ use Rattle.pv_explore.specs.Witnesses.{longer}
 use Rattle.pv_explore.proofs.Finding.{visited-is}
 use Rattle.pv_model.specs.Bytes.{Bytes}
 use Rattle.pv_session.specs.Running.{stepped}
-use Rattle.pv_state_encoding.specs.Encoded.{encoded_all}
+use Rattle.pv_state_encoding.specs.Encoded.{encoded, encoded_all}
 use Rattle.pv_step_cache.specs.Steps.{texts_in}
 use Rattle.pv_streams.specs.Sinks.{and_all, WritesPrefix}
 use Rattle.pv_streams.proofs.Sinks.{begins_whole, written_nothing}
@@ -20,7 +20,7 @@ keep_step-requires g c = record {
   whole = c.parts.ensures.whole;
   number_is = subst (λ (keys : List Bytes). HasNumber keys c.args.number c.args.from) (sym c.observe.ensures.unchanged) c.requires.there;
   texts_are = c.in_ok-position.ensures.texts;
-  after_is = ap encoded_all c.deref-2.ensures.value ∙ c.in_ok-encoded.ensures;
+  after_is = ap encoded_all c.deref-2.ensures.value ∙ c.in_ok-encoded.ensures ∙ ap encoded c.in_ok-position.ensures.after;
 }
 
 pub returns-in_err-position-clause-prefix : goal.returns-in_err-position-clause-prefix
