@@ -5,7 +5,7 @@ use Rattle.std.proofs.lemmas.Option.{slice_get-get_or, slice_get-map, slice_get_
 use Rattle.pv_explore.specs.declared.states.Visit.{Visit}
 use Rattle.pv_explore.specs.declared.states.Visit.TheVariants.{Known, Full, New}
 use Rattle.pv_explore.specs.VisitedStates.{HasNumber, IsFollowed, IsFoundIn}
-use Rattle.pv_explore.specs.Plan.{Visited, added_to, first_visited, is_known, visited_after, visited_after_steps, move_at, state_at, state_key, reported_after, tree_key, with_found_at, with_state_at}
+use Rattle.pv_explore.specs.Plan.{Visited, added_to, first_visited, is_known, visited_after, visited_after_steps, visited_at, state_at, state_key, reported_after, texts_at, tree_key, with_found_at, with_state_at}
 use Rattle.pv_explore.specs.Searches.{AreAt, endings_found, move_of, witness_at, with_witness}
 use Rattle.pv_explore.proofs.Finding.{found-full, found-known, found-new}
 use Rattle.pv_explore.proofs.VisitedStates.{get-left}
@@ -13,7 +13,8 @@ use Rattle.pv_laws_runs.proofs.Ranges.{program_of-encodes}
 use Rattle.pv_laws_states.proofs.BySteps.{run-keeps_whole}
 use Rattle.pv_laws_states.specs.States.{IsValid}
 use Rattle.pv_model.proofs.Runs.{run-append}
-use Rattle.pv_model.specs.Answers.Explore.{Move, has_ended, move_text}
+use Rattle.pv_model.specs.Answers.Explore.{Move, has_ended}
+use Rattle.pv_model.specs.Answers.Observed.{Observer}
 use Rattle.pv_model.specs.Bytes.{Bytes}
 use Rattle.pv_model.specs.Grammar.Programs.{program_of}
 use Rattle.pv_model.specs.Held.{named_tree}
@@ -51,19 +52,19 @@ witness-reported Known witness visited reported = refl
 witness-reported Full witness visited reported = refl
 witness-reported New witness visited reported = refl
 
-pub visited-followed : (limit : ℕ) (visited after : Visited) (witness : List ℕ) (pid : ℕ) (t : State) (text : Bytes) (keys reported : List Bytes) (found : Visit) → IsFollowed limit visited.keys keys t pid text found → reported ≡ reported_after visited.reported text
-    → after ≡ with_witness found witness (record visited { keys = keys; reported = reported }) → after ≡ visited_after limit visited (move_of witness pid t)
-visited-followed limit visited after witness pid t text keys reported found it reported_is after_is =
+pub visited-followed : (observe : Observer Bytes) (limit : ℕ) (visited after : Visited) (witness : List ℕ) (pid : ℕ) (t : State) (texts : List Bytes) (keys reported : List Bytes) (found : Visit) → IsFollowed observe limit visited.keys keys t pid texts found → reported ≡ reported_after visited.reported texts
+    → after ≡ with_witness found witness (record visited { keys = keys; reported = reported }) → after ≡ visited_after limit visited (move_of witness pid t) (observe t pid (stepped t pid))
+visited-followed observe limit visited after witness pid t texts keys reported found it reported_is after_is =
     after_is ∙ witness-reported found witness (record visited { keys = keys }) reported
-    ∙ ap₂ (λ (k : Visited) (ts : List Bytes). record k { reported = ts }) (witness-found limit visited witness (stepped t pid).after it.live keys found it.found_is) (reported_is ∙ ap (reported_after visited.reported) it.text_is)
+    ∙ ap₂ (λ (k : Visited) (ts : List Bytes). record k { reported = ts }) (witness-found limit visited witness (stepped t pid).after it.live keys found it.found_is) (reported_is ∙ ap (reported_after visited.reported) it.texts_are)
 
 -- ---- the states at the ends of witnesses
 
 pub whole-at : (s : State) (witness : List ℕ) → IsValid s → IsValid (state_at program_of s witness)
 whole-at s witness whole = run-keeps_whole program_of program_of-encodes witness s whole
 
-pub first-at : (limit : ℕ) (s : State) → AreAt s (first_visited limit program_of s)
-first-at limit s = refl
+pub first-at : (s : State) → AreAt s (first_visited s)
+first-at s = refl
 
 module _ (s : State) where
   abbrev key-at : List ℕ → Bytes
@@ -81,7 +82,7 @@ module _ (s : State) where
   pub found-none : (visited : Visited) (number : ℕ) → AreAt s visited → length visited.keys ≤ number → slice_get visited.witnesses number ≡ None
   found-none visited number at past = slice_get_past visited.witnesses number (let long = at-long visited at in omega (arith, long, past))
 
-  module _ (limit : ℕ) where
+  module _ (observe : Observer Bytes) (limit : ℕ) where
     at-found : (visited : Visited) (witness : List ℕ) (u : State) → u ≡ state_at program_of s witness → AreAt s visited → (reported : List Bytes) → AreAt s (record (with_found_at limit visited witness u) { reported = reported })
     at-found visited witness u is at reported = by (is_known visited u) (nat_le limit (length visited.keys))
       where
@@ -90,19 +91,19 @@ module _ (s : State) where
         by false true = at
         by false false = ap₂ (λ (ks : List Bytes) (v : State). ks ++ state_key v ∷ []) at is ∙ sym (map-append key-at visited.witnesses (witness ∷ []))
 
-    at-steps : (witness pids : List ℕ) (visited : Visited) → AreAt s visited → AreAt s (visited_after_steps limit program_of s witness pids visited)
+    at-steps : (witness pids : List ℕ) (visited : Visited) → AreAt s visited → AreAt s (visited_after_steps observe limit program_of s witness pids visited)
     at-steps witness [] visited at = at
     at-steps witness (pid ∷ pids) visited at =
-        at-steps witness pids (visited_after limit visited (move_at program_of s witness pid))
+        at-steps witness pids (visited_at observe limit program_of s witness pid visited)
         (at-found visited (witness ++ pid ∷ []) (stepped (state_at program_of s witness) pid).after (ap (λ (r : Run). r.final) (sym (run-append program_of witness (pid ∷ []) s))) at
-        (reported_after visited.reported (move_text (move_at program_of s witness pid))))
+        (reported_after visited.reported (texts_at observe limit program_of s witness pid)))
 
-    pub at-after : (witness pids : List ℕ) (visited after : Visited) → AreAt s visited → after ≡ visited_after_steps limit program_of s witness pids visited → AreAt s after
+    pub at-after : (witness pids : List ℕ) (visited after : Visited) → AreAt s visited → after ≡ visited_after_steps observe limit program_of s witness pids visited → AreAt s after
     at-after witness pids visited after at is = subst (AreAt s) (sym is) (at-steps witness pids visited at)
 
 -- a state keeps its number
-pub number-after : (limit : ℕ) (visited after : Visited) (m : Move) (k : ℕ) (t : State) → HasNumber visited.keys k t → after ≡ visited_after limit visited m → HasNumber after.keys k t
-number-after limit visited after m k t there is = ap (λ (x : Visited). slice_get x.keys k) is ∙ by (is_known visited m.stepped.after) (nat_le limit (length visited.keys))
+pub number-after : (limit : ℕ) (visited after : Visited) (m : Move) (texts : List Bytes) (k : ℕ) (t : State) → HasNumber visited.keys k t → after ≡ visited_after limit visited m texts → HasNumber after.keys k t
+number-after limit visited after m texts k t there is = ap (λ (x : Visited). slice_get x.keys k) is ∙ by (is_known visited m.stepped.after) (nat_le limit (length visited.keys))
   where
     by : (a b : Bool) → slice_get (if a then visited else if b then record visited { complete = false } else with_state_at visited m.witness m.stepped.after).keys k ≡ Some (state_key t)
     by true b = there

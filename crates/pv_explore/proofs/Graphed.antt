@@ -8,13 +8,14 @@ use Rattle.std.proofs.lemmas.List.{drop_all, length-map}
 use Rattle.std.proofs.Math.Seq.{drop-cons}
 use Rattle.pv_explore.specs.Plan.{Visited, first_visited, visited_from, state_key, state_at, live_at, reported_from}
 use Rattle.pv_explore.specs.Vertices.{found_lines, listed_bytes, step_of, steps_at, vertex_at, vertices_from}
-use Rattle.pv_explore.proofs.KeyLists.{position-mapped}
-use Rattle.pv_explore.proofs.Planned.{Finds, plan-finds, same-known, state_of_found, witness_of_found}
-use Rattle.pv_model.specs.Answers.Explore.{Found, move, states_found, states_line}
+use Rattle.pv_step_cache.proofs.KeyLists.{position-mapped}
+use Rattle.pv_explore.proofs.Planned.{Finds, plan-found, same-known, state_of_found, witness_of_found}
+use Rattle.pv_model.specs.Answers.Explore.{Found, is_complete, move, states_found, states_line}
 use Rattle.pv_model.specs.Answers.Explain.{explained_step}
 use Rattle.pv_model.specs.Answers.Graph.{graph_lines, leads_to_text, listing_lines, number_found, step_lines, tree_lines, unreported, vertex_lines}
 use Rattle.pv_model.specs.Answers.Lines.{AnswerLine, answer_bytes, answer_line, answer_line_bytes, counted_from}
 use Rattle.pv_model.specs.Answers.Numbers.{same_state}
+use Rattle.pv_model.specs.Answers.Observed.{Observer}
 use Rattle.pv_model.specs.Answers.ProcessRecord.{state_lines}
 use Rattle.pv_model.specs.Answers.Reach.{reach_lines}
 use Rattle.pv_model.specs.Bytes.{Bytes}
@@ -86,7 +87,7 @@ module _ (keys : List Bytes) (s : State) (trees : Bool) (witnesses : List (List 
 
 -- ---- the graph
 
-module _ (limit : ℕ) (s : State) (trees : Bool) (lines : List AnswerLine) (visited : Visited) (it : Finds program_of limit s lines visited) where
+module _ (observe : Observer Bytes) (limit : ℕ) (s : State) (trees : Bool) (bytes : Bytes) (visited : Visited) (it : Finds observe program_of limit s bytes visited) where
   pub as-many : length visited.witnesses ≡ length visited.keys
   as-many = ap length it.keeps.witnesses ∙ length-map (states_found program_of limit s) witness_of_found ∙ sym (ap length it.keeps.keys ∙ length-map (states_found program_of limit s) state_of_found)
 
@@ -135,12 +136,18 @@ module _ (keys : List Bytes) (s : State) (witness : List ℕ) where
 
 -- ---- the whole output, as bytes
 
-module _ (limit : ℕ) (s : State) (trees : Bool) (visited : Visited) (some : 1 ≤ limit) (is : visited ≡ visited_from limit program_of s limit 0 (first_visited limit program_of s)) where
-  found-visited : Finds program_of limit s (reported_from limit program_of s limit 0 (first_visited limit program_of s)) visited
-  found-visited = subst (Finds program_of limit s (reported_from limit program_of s limit 0 (first_visited limit program_of s))) (sym is) (plan-finds program_of limit s some)
+module _ (observe : Observer Bytes) (limit : ℕ) (s : State) (trees : Bool) (visited : Visited) (some : 1 ≤ limit) (is : visited ≡ visited_from observe limit program_of s limit 0 (first_visited s)) where
+  abbrev bytes : Bytes
+  bytes = reported_from observe limit program_of s limit 0 (first_visited s)
+
+  found-visited : Finds observe program_of limit s bytes visited
+  found-visited = plan-found observe program_of limit s some visited is
 
   pub graph-many : length visited.witnesses ≡ length visited.keys
-  graph-many = as-many limit s trees (reported_from limit program_of s limit 0 (first_visited limit program_of s)) visited found-visited
+  graph-many = as-many observe limit s trees bytes visited found-visited
 
   pub graph-bytes : answer_bytes (found_lines visited s trees) ≡ answer_bytes (graph_lines program_of limit trees s)
-  graph-bytes = ap answer_bytes (graph-are limit s trees (reported_from limit program_of s limit 0 (first_visited limit program_of s)) visited found-visited)
+  graph-bytes = ap answer_bytes (graph-are observe limit s trees bytes visited found-visited)
+
+  pub graph-complete : visited.complete ≡ is_complete program_of limit s
+  graph-complete = found-visited.keeps.complete

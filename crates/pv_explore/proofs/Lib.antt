@@ -1,13 +1,12 @@
--- Lemmas about the search: Planned (the search visits the states and writes the lines of the definitions), Turns
--- (witnesses as turns), KeyLists (byte strings in tables), LastNumbers (the last process number given), LiveOnes
+-- Lemmas about the search: Planned (the search visits the states and observes the texts of the definitions), Turns
+-- (witnesses as turns), LastNumbers (the last process number given), LiveOnes
 -- (the numbers of live processes, and the tree without live processes), Along (states along a schedule, and
 -- checkpoints), Booting (the rebuilt machine), Finding (the search, step by step), Graphed (the state graph),
--- Explained (the lines of its steps), Rows (states as rows of small numbers), VisitedStates (the data stored with
+-- Explained (the lines of its steps), Reported (the bytes of texts, and of `explore`), Rows (states as rows of small numbers), VisitedStates (the data stored with
 -- visited states), Followed (steps from the cache, and the states at the ends of witnesses), LastSteps (witnesses
 -- stored as their last steps), Sizes (of images, which runs leave unchanged).
 pub mod Planned
 pub mod Turns
-pub mod KeyLists
 pub mod LastNumbers
 pub mod LiveOnes
 pub mod Along
@@ -16,6 +15,7 @@ pub mod Finding
 pub mod Followed
 pub mod Graphed
 pub mod Explained
+pub mod Reported
 pub mod Rows
 pub mod VisitedStates
 pub mod LastSteps

@@ -1,4 +1,4 @@
--- The lines and data of the search are those of the definitions.
+-- The bytes and data of the search are those of the definitions.
 use Rattle.std.proofs.Common.{◌≡◌, ◌∙◌, sym, ap, ap₂, subst, ℕ, zero, suc, ◌+◌, ◌<◌, ◌≤◌, Bool, true, false, ◌&&◌, ◌||◌, cond, if◌then◌else◌, nat_le, bytes_eq, List, [], ◌∷◌, ◌++◌, length, map, filter, flat_map, fold, take, append_assoc, append-nil, length-append, slice_get, Option, None, Some, option_map, ◌⊎◌, inl, inr, ⊎_elim, refl, arith}
 use Rattle.std.specs.List.{AllByRecursion, list_any, list_all}
 use Rattle.std.proofs.lemmas.Bool.{and_parts, and_from}
@@ -8,9 +8,9 @@ use Rattle.std.proofs.lemmas.List.{length-map, map-append, take_all}
 use Rattle.std.proofs.lemmas.List.Elements.{filter-append}
 use Rattle.std.proofs.lemmas.List.Folds.{list_any-append}
 use Rattle.std.proofs.lemmas.Option.{slice_get-map, slice_get_cases}
-use Rattle.pv_model.specs.Answers.Explore.{Found, Move, is_found, found_by, move, moves_of, with_move, found_after, found_from, states_found, moves, new_ones, move_text, reported_moves, move_lines, has_ended, endings, done_line, explore_lines, states_line, endings_line}
-use Rattle.pv_model.specs.Answers.Lines.{AnswerLine}
+use Rattle.pv_model.specs.Answers.Explore.{Found, Move, is_found, found_by, move, moves_of, with_move, found_after, found_from, states_found, moves, new_ones, has_ended, endings}
 use Rattle.pv_model.specs.Answers.Numbers.{Numbers, same_state, state_numbers, tree_numbers}
+use Rattle.pv_model.specs.Answers.Observed.{Observation, Observer, observations, observations_at, observed}
 use Rattle.pv_model.specs.Bytes.{Bytes}
 use Rattle.pv_model.specs.Held.{live_processes, named_tree}
 use Rattle.pv_model.specs.State.{Program, Process, State}
@@ -22,7 +22,7 @@ use Rattle.pv_laws_answers.proofs.Complete.{there-found}
 use Rattle.pv_laws_answers.proofs.Lists.{among-right, each-append}
 use Rattle.pv_state_encoding.specs.Packed.{packed_all}
 use Rattle.pv_state_encoding.proofs.Apart.{packed-apart}
-use Rattle.pv_explore.specs.Plan.{state_key, tree_key, Visited, added_to, is_reported, reported_after, lines_at, endings_after, with_state, is_known, visited_after, state_at, move_at, reported_steps, visited_after_steps, live_at, done_lines, and_report, reported_from, and_visit, visited_from, first_visited}
+use Rattle.pv_explore.specs.Plan.{state_key, tree_key, Visited, added_to, new_bytes, reported_after, reported_bytes, endings_after, with_state, is_known, visited_after, state_at, move_at, texts_at, visited_at, reported_steps, visited_after_steps, live_at, and_report, reported_from, and_visit, visited_from, first_visited}
 
 -- ---- comparison of bytes
 
@@ -93,14 +93,6 @@ module _ {X : Type 0} (key : X → Numbers) where
           ∙ ap (λ b. y ∷ (new_ones key (key y ∷ had) ys ++ one_or_none b x))
           (sym (or-between (bytes_eq (key x) (key y)) (list_any (bytes_eq (key x)) had) (list_any (bytes_eq (key x)) (map key (new_ones key (key y ∷ had) ys)))))
 
--- the steps that are written, with one more
-reported-last : (made : List Move) (m : Move) → reported_moves (made ++ m ∷ []) ≡ reported_moves made ++ (if is_reported (map move_text (reported_moves made)) (move_text m) then [] else m ∷ [])
-reported-last made m = new-last move_text ([] ∷ []) made m ∙ ap (λ b. reported_moves made ++ (if b then [] else m ∷ [])) (shift (bytes_eq (move_text m) []) (list_any (bytes_eq (move_text m)) (map move_text (reported_moves made))))
-  where
-    shift : (a b : Bool) → ((a || false) || b) ≡ (a || b)
-    shift true b = refl
-    shift false b = refl
-
 first-states : (program_of : Bytes → Option Program) (limit : ℕ) (s : State) → found_from program_of limit limit 0 (record { witness = []; state = s } ∷ []) ≡ states_found program_of limit s
 unfolding states_found
 first-states program_of limit s = refl
@@ -116,7 +108,6 @@ witness_of_found f = f.witness
 pub record Keeps (limit : ℕ) (found : List Found) (made : List Move) (visited : Visited) : Type 0 where
   pub keys : visited.keys ≡ map state_of_found found
   pub witnesses : visited.witnesses ≡ map witness_of_found found
-  pub reported : visited.reported ≡ map move_text (reported_moves made)
   pub endings : visited.endings ≡ map tree_key (endings found)
   pub complete : visited.complete ≡ list_all (λ m. is_found m.stepped.after found) made
   pub full : (visited.complete ≡ true) ⊎ (limit ≤ length found)
@@ -143,18 +134,6 @@ true-last false = refl
 false-last : (a : Bool) → (a && false) ≡ false
 false-last true = refl
 false-last false = refl
-
--- the texts that were written, with one more step
-reported-visited : (made : List Move) (m : Move) (reported : List Bytes) → reported ≡ map move_text (reported_moves made) → reported_after reported (move_text m) ≡ map move_text (reported_moves (made ++ m ∷ []))
-reported-visited made m reported is =
-    ap (λ ts. reported_after ts (move_text m)) is
-    ∙ by (is_reported (map move_text (reported_moves made)) (move_text m))
-    ∙ sym (ap (map move_text) (reported-last made m) ∙ map-append move_text (reported_moves made) (if is_reported (map move_text (reported_moves made)) (move_text m) then [] else m ∷ []))
-  where
-    by : (b : Bool) → (if b then map move_text (reported_moves made) else map move_text (reported_moves made) ++ move_text m ∷ [])
-        ≡ map move_text (reported_moves made) ++ map move_text (if b then [] else m ∷ [])
-    by true = sym (append-nil (map move_text (reported_moves made)))
-    by false = refl
 
 -- the trees at ends, with one more state
 endings-visited : (found : List Found) (f : Found) (visited : List Bytes) → visited ≡ map tree_key (endings found) → endings_after visited f.state ≡ map tree_key (endings (found ++ f ∷ []))
@@ -193,9 +172,9 @@ endings-visited found f visited is =
 
 module _ (program_of : Bytes → Option Program) (limit : ℕ) where
   -- a step preserves the data
-  keeps-move : (found : List Found) (made : List Move) (visited : Visited) (m : Move) → Keeps limit found made visited
-      → Keeps limit (with_move program_of limit found m) (made ++ m ∷ []) (visited_after limit visited m)
-  keeps-move found made visited m it =
+  keeps-move : (found : List Found) (made : List Move) (visited : Visited) (m : Move) (texts : List Bytes) → Keeps limit found made visited
+      → Keeps limit (with_move program_of limit found m) (made ++ m ∷ []) (visited_after limit visited m texts)
+  keeps-move found made visited m texts it =
       subst (λ (c : Bool). Keeps limit (with_move program_of limit found m) (made ++ m ∷ []) (after c (nat_le limit (length visited.keys)))) (sym known)
       (subst (λ (n : ℕ). Keeps limit (with_move program_of limit found m) (made ++ m ∷ []) (after (is_found m.stepped.after found) (nat_le limit n))) (sym long)
       (by (is_found m.stepped.after found) refl (nat_le limit (length found)) refl))
@@ -207,10 +186,7 @@ module _ (program_of : Bytes → Option Program) (limit : ℕ) where
       long = ap length it.keys ∙ length-map found state_of_found
 
       after : Bool → Bool → Visited
-      after a b = record (if a then visited else if b then record visited { complete = false } else with_state visited m) { reported = reported_after visited.reported (move_text m) }
-
-      reported : reported_after visited.reported (move_text m) ≡ map move_text (reported_moves (made ++ m ∷ []))
-      reported = reported-visited made m visited.reported it.reported
+      after a b = record (if a then visited else if b then record visited { complete = false } else with_state visited m) { reported = reported_after visited.reported texts }
 
       test : List Found → Move → Bool
       test fs n = is_found n.stepped.after fs
@@ -238,7 +214,6 @@ module _ (program_of : Bytes → Option Program) (limit : ℕ) where
       by true is b le = record {
         keys = it.keys;
         witnesses = it.witnesses;
-        reported = reported;
         endings = it.endings;
         complete = it.complete ∙ sym (all-last (test found) made m ∙ and-with (list_all (test found) made) (test found m) true is ∙ true-last (list_all (test found) made));
         full = it.full;
@@ -246,7 +221,6 @@ module _ (program_of : Bytes → Option Program) (limit : ℕ) where
       by false is true le = record {
         keys = it.keys;
         witnesses = it.witnesses;
-        reported = reported;
         endings = it.endings;
         complete = sym (all-last (test found) made m ∙ and-with (list_all (test found) made) (test found m) false is ∙ false-last (list_all (test found) made));
         full = inr (grind (arith, nat_tests, le));
@@ -256,7 +230,6 @@ module _ (program_of : Bytes → Option Program) (limit : ℕ) where
           record {
             keys = ap (λ ks. ks ++ state_key m.stepped.after ∷ []) it.keys ∙ sym (map-append state_of_found found (found_by m ∷ []));
             witnesses = ap (λ ws. ws ++ m.witness ∷ []) it.witnesses ∙ sym (map-append witness_of_found found (found_by m ∷ []));
-            reported = reported;
             endings = endings-visited found (found_by m) visited.endings it.endings;
             complete =
                 complete
@@ -265,20 +238,42 @@ module _ (program_of : Bytes → Option Program) (limit : ℕ) where
             full = inl complete;
           }
 
-  -- ---- the steps in a state
+-- the numbers of visited states and of trees at ends
+pub tree_key-many : (limit : ℕ) (found : List Found) (made : List Move) (visited : Visited) → Keeps limit found made visited
+    → (length visited.keys ≡ length found) × (length visited.endings ≡ length (endings found))
+tree_key-many limit found made visited it = (ap length it.keys ∙ length-map found state_of_found, ap length it.endings ∙ length-map (endings found) tree_key)
 
-  reported-more : (made : List Move) (m : Move) (reported : List Bytes) → reported ≡ map move_text (reported_moves made)
-      → flat_map move_lines (reported_moves (made ++ m ∷ [])) ≡ flat_map move_lines (reported_moves made) ++ lines_at reported m
-  reported-more made m reported is =
-      ap (flat_map move_lines) (reported-last made m)
-      ∙ flat_map-append move_lines (reported_moves made) (if is_reported (map move_text (reported_moves made)) (move_text m) then [] else m ∷ [])
-      ∙ ap (λ ls. flat_map move_lines (reported_moves made) ++ ls) (by (is_reported (map move_text (reported_moves made)) (move_text m)))
-      ∙ ap (λ ts. flat_map move_lines (reported_moves made) ++ lines_at ts m) (sym is)
-    where
-      by : (b : Bool) → flat_map move_lines (if b then [] else m ∷ []) ≡ (if b then [] else move_lines m)
-      by true = refl
-      by false = append-nil (move_lines m)
+-- ---- the texts of steps
 
+abbrev pub items : List (Observation Bytes) → List Bytes
+items os = map (λ o. o.item) os
+
+-- the bytes written of observations, given the texts that were observed before
+abbrev pub written : List Bytes → List (Observation Bytes) → Bytes
+written had [] = []
+written had (o ∷ os) = new_bytes had o.move.pid o.move.witness o.item ++ written (added_to had o.item) os
+
+written-append : (had : List Bytes) (xs ys : List (Observation Bytes)) → written had (xs ++ ys) ≡ written had xs ++ written (reported_after had (items xs)) ys
+written-append had [] ys = refl
+written-append had (x ∷ xs) ys =
+    ap (λ bs. new_bytes had x.move.pid x.move.witness x.item ++ bs) (written-append (added_to had x.item) xs ys)
+    ∙ sym (append_assoc (new_bytes had x.move.pid x.move.witness x.item) (written (added_to had x.item) xs) (written (reported_after (added_to had x.item) (items xs)) ys))
+
+reported-append : (had : List Bytes) (xs ys : List (Observation Bytes)) → reported_after had (items (xs ++ ys)) ≡ reported_after (reported_after had (items xs)) (items ys)
+reported-append had [] ys = refl
+reported-append had (x ∷ xs) ys = reported-append (added_to had x.item) xs ys
+
+written-step : (m : Move) (had texts : List Bytes) → written had (map (observed m) texts) ≡ reported_bytes had m.pid m.witness texts
+written-step m had [] = refl
+written-step m had (t ∷ ts) = ap (λ bs. new_bytes had m.pid m.witness t ++ bs) (written-step m (added_to had t) ts)
+
+items-step : (m : Move) (texts : List Bytes) → items (map (observed m) texts) ≡ texts
+items-step m [] = refl
+items-step m (t ∷ ts) = ap (λ us. t ∷ us) (items-step m ts)
+
+-- ---- the steps in a state
+
+module _ (observe : Observer Bytes) (program_of : Bytes → Option Program) (limit : ℕ) where
   module _ (s : State) where
     -- the state at the end of a witness
     pub found_at : List ℕ → Found
@@ -290,26 +285,40 @@ module _ (program_of : Bytes → Option Program) (limit : ℕ) where
     abbrev pub moves_from : List ℕ → List ℕ → List Move
     moves_from witness pids = map (move_from witness) pids
 
+    abbrev pub observed_from : List ℕ → ℕ → List (Observation Bytes)
+    observed_from witness pid = map (observed (move_from witness pid)) (texts_at observe limit program_of s witness pid)
+
+    abbrev pub observed_steps : List ℕ → List ℕ → List (Observation Bytes)
+    observed_steps witness pids = flat_map (observed_from witness) pids
+
     pub record StepsCached (witness : List ℕ) (pids : List ℕ) (found : List Found) (made : List Move) (visited : Visited) : Type 0 where
-      pub keeps : Keeps limit (fold (with_move program_of limit) found (moves_from witness pids)) (made ++ moves_from witness pids) (visited_after_steps limit program_of s witness pids visited)
-      pub lines : flat_map move_lines (reported_moves (made ++ moves_from witness pids)) ≡ flat_map move_lines (reported_moves made) ++ reported_steps limit program_of s witness pids visited
+      pub keeps :
+          Keeps limit (fold (with_move program_of limit) found (moves_from witness pids)) (made ++ moves_from witness pids) (visited_after_steps observe limit program_of s witness pids visited)
+      pub reported : (visited_after_steps observe limit program_of s witness pids visited).reported ≡ reported_after visited.reported (items (observed_steps witness pids))
+      pub bytes : reported_steps observe limit program_of s witness pids visited ≡ written visited.reported (observed_steps witness pids)
 
     steps-visited : (witness pids : List ℕ) (found : List Found) (made : List Move) (visited : Visited) → Keeps limit found made visited → StepsCached witness pids found made visited
     steps-visited witness [] found made visited it = record {
       keeps = subst (λ (ms : List Move). Keeps limit found ms visited) (sym (append-nil made)) it;
-      lines = ap (λ ms. flat_map move_lines (reported_moves ms)) (append-nil made) ∙ sym (append-nil (flat_map move_lines (reported_moves made)));
+      reported = refl;
+      bytes = refl;
     }
     steps-visited witness (pid ∷ pids) found made visited it =
         let m : Move = move_at program_of s witness pid in
-        let rest = steps-visited witness pids (with_move program_of limit found m) (made ++ m ∷ []) (visited_after limit visited m) (keeps-move found made visited m it) in
+        let texts : List Bytes = texts_at observe limit program_of s witness pid in
+        let now : Visited = visited_after limit visited m texts in
+        let rest = steps-visited witness pids (with_move program_of limit found m) (made ++ m ∷ []) now (keeps-move program_of limit found made visited m texts it) in
         let ms : List Move = map (move_at program_of s witness) pids in
+        let os : List (Observation Bytes) = observed_steps witness pids in
         let join : (made ++ m ∷ []) ++ ms ≡ made ++ m ∷ ms = append_assoc made (m ∷ []) ms in
+        let had : reported_after visited.reported (items (map (observed m) texts)) ≡ now.reported = ap (reported_after visited.reported) (items-step m texts) in
         record {
-          keeps = subst (λ (ns : List Move). Keeps limit (fold (with_move program_of limit) found (m ∷ ms)) ns (visited_after_steps limit program_of s witness (pid ∷ pids) visited)) join rest.keeps;
-          lines =
-              ap (λ ns. flat_map move_lines (reported_moves ns)) (sym join) ∙ rest.lines
-              ∙ ap (λ ls. ls ++ reported_steps limit program_of s witness pids (visited_after limit visited m)) (reported-more made m visited.reported it.reported)
-              ∙ append_assoc (flat_map move_lines (reported_moves made)) (lines_at visited.reported m) (reported_steps limit program_of s witness pids (visited_after limit visited m));
+          keeps =
+              subst (λ (ns : List Move). Keeps limit (fold (with_move program_of limit) found (m ∷ ms)) ns (visited_after_steps observe limit program_of s witness (pid ∷ pids) visited)) join rest.keeps;
+          reported = rest.reported ∙ ap (λ ts. reported_after ts (items os)) (sym had) ∙ sym (reported-append visited.reported (map (observed m) texts) os);
+          bytes =
+              ap₂ (λ (a b : Bytes). a ++ b) (sym (written-step m visited.reported texts)) (rest.bytes ∙ ap (λ ts. written ts os) (sym had))
+              ∙ sym (written-append visited.reported (map (observed m) texts) os);
         }
 
     -- ---- all states
@@ -364,20 +373,26 @@ module _ (program_of : Bytes → Option Program) (limit : ℕ) where
         map-map [] = refl
         map-map (p ∷ ps) = ap (λ ms. move program_of (record { witness = f.witness; state = state_at program_of s f.witness }) p.0 ∷ ms) (map-map ps)
 
-    -- the lines and the data at the end of the search
-    pub record Finds (lines : List AnswerLine) (visited : Visited) : Type 0 where
+    map-flat : {X Y Z : Type 0} (f : X → Y) (h : Y → List Z) (xs : List X) → flat_map h (map f xs) ≡ flat_map (λ x. h (f x)) xs
+    map-flat f h [] = refl
+    map-flat f h (x ∷ xs) = ap (λ zs. h (f x) ++ zs) (map-flat f h xs)
+
+    -- the observations of the steps from a visited state
+    observed-at : (f : Found) → IsSound f → observations_at observe program_of f ≡ observed_steps f.witness (live_at program_of s f.witness)
+    observed-at f sound =
+        let of_state : State → Move → List (Observation Bytes) = λ t m. map (observed m) (observe t m.pid m.stepped) in
+        ap₂ (λ (t : State) (ms : List Move). flat_map (of_state t) ms) sound (moves-at f sound)
+        ∙ map-flat (move_from f.witness) (of_state (state_at program_of s f.witness)) (live_at program_of s f.witness)
+
+    abbrev pub observed_of : List Found → List (Observation Bytes)
+    observed_of found = flat_map (observations_at observe program_of) found
+
+    -- the bytes and the data at the end of the search
+    pub record Finds (bytes : Bytes) (visited : Visited) : Type 0 where
       pub keeps : Keeps limit (states_found program_of limit s) (moves program_of limit s) visited
       pub sound : AllByRecursion IsSound (states_found program_of limit s)
-      pub lines_are : lines ≡ flat_map move_lines (reported_moves (moves program_of limit s))
-
-    found-all : (found : List Found) (made : List Move) (visited : Visited) → Keeps limit found made visited → AllByRecursion IsSound found → found ≡ states_found program_of limit s → made ≡ moves program_of limit s
-        → Finds (flat_map move_lines (reported_moves made) ++ []) visited
-    found-all found made visited it sound all every = record {
-      keeps =
-          subst (λ (fs : List Found). Keeps limit fs (moves program_of limit s) visited) all (subst (λ (ms : List Move). Keeps limit found ms visited) every it);
-      sound = subst (AllByRecursion IsSound) all sound;
-      lines_are = append-nil (flat_map move_lines (reported_moves made)) ∙ ap (λ ms. flat_map move_lines (reported_moves ms)) every;
-    }
+      pub reported_are : visited.reported ≡ reported_after [] (items (observations observe program_of limit s))
+      pub bytes_are : bytes ≡ written [] (observations observe program_of limit s)
 
     -- the states before a number are done
     pub record Underway (k : ℕ) (found : List Found) (made : List Move) (visited : Visited) : Type 0 where
@@ -385,11 +400,20 @@ module _ (program_of : Bytes → Option Program) (limit : ℕ) where
       pub sound : AllByRecursion IsSound found
       pub few : length found ≤ limit
       pub made_is : made ≡ flat_map (moves_of program_of) (take k found)
+      pub reported_are : visited.reported ≡ reported_after [] (items (observed_of (take k found)))
 
     past-end : (k : ℕ) (found : List Found) (made : List Move) (visited : Visited) → Underway k found made visited → length found ≤ k → found ≡ states_found program_of limit s
-        → Finds (flat_map move_lines (reported_moves made) ++ []) visited
+        → Finds (written [] (observed_of (take k found)) ++ []) visited
     past-end k found made visited it past all =
-        found-all found made visited it.keeps it.sound all (it.made_is ∙ ap (flat_map (moves_of program_of)) (take_all k found past ∙ all))
+        let every : take k found ≡ states_found program_of limit s = take_all k found past ∙ all in
+        record {
+          keeps =
+              subst (λ (fs : List Found). Keeps limit fs (moves program_of limit s) visited) all
+              (subst (λ (ms : List Move). Keeps limit found ms visited) (it.made_is ∙ ap (flat_map (moves_of program_of)) every) it.keeps);
+          sound = subst (AllByRecursion IsSound) all it.sound;
+          reported_are = it.reported_are ∙ ap (λ fs. reported_after [] (items (observed_of fs))) every;
+          bytes_are = append-nil (written [] (observed_of (take k found))) ∙ ap (λ fs. written [] (observed_of fs)) every;
+        }
 
     take-next : (k : ℕ) (found new : List Found) (f : Found) → slice_get found k ≡ Some f → take (suc k) (found ++ new) ≡ take k found ++ f ∷ []
     take-next k [] new f at = cc
@@ -401,42 +425,54 @@ module _ (program_of : Bytes → Option Program) (limit : ℕ) where
     sound-at zero (g ∷ gs) f all at = let same : g ≡ f = cc in subst IsSound same all.0
     sound-at (suc k) (g ∷ gs) f all at = sound-at k gs f all.1 at
 
-    -- the lines from state k on
+    -- the bytes from state k on
     abbrev ReportsAll : ℕ → Type 0
     ReportsAll states =
         (k : ℕ) (found : List Found) (made : List Move) (visited : Visited) → Underway k found made visited → limit ≤ states + k
         → found_from program_of limit states k found ≡ states_found program_of limit s
-        → Finds (flat_map move_lines (reported_moves made) ++ reported_from limit program_of s states k visited) (visited_from limit program_of s states k visited)
+        → Finds (written [] (observed_of (take k found)) ++ reported_from observe limit program_of s states k visited) (visited_from observe limit program_of s states k visited)
 
-    abbrev ReportsThen : (states k : ℕ) (made : List Move) (visited : Visited) → Option (List ℕ) → Type 0
-    ReportsThen states k made visited w =
-        Finds (flat_map move_lines (reported_moves made) ++ and_report limit program_of s (reported_from limit program_of s states (suc k)) visited w)
-        (and_visit limit program_of s (visited_from limit program_of s states (suc k)) visited w)
+    abbrev ReportsThen : (states k : ℕ) (found : List Found) (visited : Visited) → Option (List ℕ) → Type 0
+    ReportsThen states k found visited w =
+        Finds (written [] (observed_of (take k found)) ++ and_report observe limit program_of s (reported_from observe limit program_of s states (suc k)) visited w)
+        (and_visit observe limit program_of s (visited_from observe limit program_of s states (suc k)) visited w)
 
     next-state : (states k : ℕ) (found : List Found) (made : List Move) (visited : Visited) → ReportsAll states → Underway k found made visited → limit ≤ suc states + k
         → (f : Found) → slice_get found k ≡ Some f
         → found_from program_of limit states (suc k) (fold (with_move program_of limit) found (moves_of program_of f)) ≡ states_found program_of limit s
-        → ReportsThen states k made visited (Some f.witness)
+        → ReportsThen states k found visited (Some f.witness)
     next-state states k found made visited again it enough f at final =
         let pids = live_at program_of s f.witness in
         let ms = moves_from f.witness pids in
-        let moves_is : moves_of program_of f ≡ ms = moves-at f (sound-at k found f it.sound at) in
+        let sound : IsSound f = sound-at k found f it.sound at in
+        let moves_is : moves_of program_of f ≡ ms = moves-at f sound in
         let steps = steps-visited f.witness pids found made visited it.keeps in
         let later : List Found = fold (with_move program_of limit) found ms in
         let more = more-found ms found in
-        let after : Visited = visited_after_steps limit program_of s f.witness pids visited in
+        let after : Visited = visited_after_steps observe limit program_of s f.witness pids visited in
+        let os : List (Observation Bytes) = observed_steps f.witness pids in
+        let before : List (Observation Bytes) = observed_of (take k found) in
+        let taken : take (suc k) later ≡ take k found ++ f ∷ [] = ap (take (suc k)) more.1 ∙ take-next k found more.0 f at in
+        let all : observed_of (take (suc k) later) ≡ before ++ os =
+        ap observed_of taken ∙ flat_map-append (observations_at observe program_of) (take k found) (f ∷ [])
+        ∙ ap (λ (xs : List (Observation Bytes)). before ++ xs) (append-nil (observations_at observe program_of f) ∙ observed-at f sound) in
         let following : Underway (suc k) later (made ++ ms) after = record {
           keeps = steps.keeps;
           sound = sound-found ms found (sound-steps f.witness pids) it.sound;
           few = few-found ms found it.few;
           made_is =
               ap₂ (λ (a b : List Move). a ++ b) it.made_is (sym moves_is ∙ sym (append-nil (moves_of program_of f)))
-              ∙ sym (ap (flat_map (moves_of program_of)) (ap (take (suc k)) more.1 ∙ take-next k found more.0 f at) ∙ flat_map-append (moves_of program_of) (take k found) (f ∷ []));
+              ∙ sym (ap (flat_map (moves_of program_of)) taken ∙ flat_map-append (moves_of program_of) (take k found) (f ∷ []));
+          reported_are =
+              steps.reported ∙ ap (λ ts. reported_after ts (items os)) it.reported_are ∙ sym (reported-append [] before os)
+              ∙ ap (λ (xs : List (Observation Bytes)). reported_after [] (items xs)) (sym all);
         } in
-        let rest : List AnswerLine = reported_from limit program_of s states (suc k) after in
-        let lines : flat_map move_lines (reported_moves (made ++ ms)) ++ rest ≡ flat_map move_lines (reported_moves made) ++ (reported_steps limit program_of s f.witness pids visited ++ rest) =
-        ap (λ ls. ls ++ rest) steps.lines ∙ append_assoc (flat_map move_lines (reported_moves made)) (reported_steps limit program_of s f.witness pids visited) rest in
-        subst (λ (ls : List AnswerLine). Finds ls (visited_from limit program_of s states (suc k) after)) lines
+        let rest : Bytes = reported_from observe limit program_of s states (suc k) after in
+        let bytes : written [] (observed_of (take (suc k) later)) ++ rest ≡ written [] before ++ (reported_steps observe limit program_of s f.witness pids visited ++ rest) =
+        ap (λ (xs : List (Observation Bytes)). written [] xs ++ rest) all
+        ∙ ap (λ bs. bs ++ rest) (written-append [] before os ∙ ap (λ bs. written [] before ++ bs) (ap (λ ts. written ts os) (sym it.reported_are) ∙ sym steps.bytes))
+        ∙ append_assoc (written [] before) (reported_steps observe limit program_of s f.witness pids visited) rest in
+        subst (λ (bs : Bytes). Finds bs (visited_from observe limit program_of s states (suc k) after)) bytes
         (again (suc k) later (made ++ ms) after following (omega arith)
         (ap (λ ns. found_from program_of limit states (suc k) (fold (with_move program_of limit) found ns)) (sym moves_is) ∙ final))
 
@@ -451,22 +487,21 @@ module _ (program_of : Bytes → Option Program) (limit : ℕ) where
         stop none = ⊎_elim (λ there. let at = there.2 in cc) (λ past. past.0) (slice_get_cases found k).1
 
         by : ((f : Found) → slice_get found k ≡ Some f
-            → found_from program_of limit states (suc k) (fold (with_move program_of limit) found (moves_of program_of f)) ≡ states_found program_of limit s → ReportsThen states k made visited (Some f.witness))
+            → found_from program_of limit states (suc k) (fold (with_move program_of limit) found (moves_of program_of f)) ≡ states_found program_of limit s → ReportsThen states k found visited (Some f.witness))
             → (o : Option Found) → slice_get found k ≡ o → found_after program_of limit (found_from program_of limit states (suc k)) found o ≡ states_found program_of limit s
-            → ReportsThen states k made visited (slice_get visited.witnesses k)
-        by on None none final = subst (ReportsThen states k made visited) (sym (at-witness ∙ ap (option_map witness_of_found) none)) (past-end k found made visited it (stop none) final)
-        by on (Some f) at final = subst (ReportsThen states k made visited) (sym (at-witness ∙ ap (option_map witness_of_found) at)) (on f at final)
+            → ReportsThen states k found visited (slice_get visited.witnesses k)
+        by on None none final = subst (ReportsThen states k found visited) (sym (at-witness ∙ ap (option_map witness_of_found) none)) (past-end k found made visited it (stop none) final)
+        by on (Some f) at final = subst (ReportsThen states k found visited) (sym (at-witness ∙ ap (option_map witness_of_found) at)) (on f at final)
 
-    -- the lines and data of the search from its first state are those of the definitions
-    pub plan-finds : 1 ≤ limit → Finds (reported_from limit program_of s limit 0 (first_visited limit program_of s)) (visited_from limit program_of s limit 0 (first_visited limit program_of s))
+    -- the bytes and data of the search from its first state are those of the definitions
+    pub plan-finds : 1 ≤ limit → Finds (reported_from observe limit program_of s limit 0 (first_visited s)) (visited_from observe limit program_of s limit 0 (first_visited s))
     plan-finds some =
         let start : Found = record { witness = []; state = s } in
-        reported-all limit 0 (start ∷ []) [] (first_visited limit program_of s)
+        reported-all limit 0 (start ∷ []) [] (first_visited s)
         (record {
           keeps = record {
             keys = refl;
             witnesses = refl;
-            reported = refl;
             endings = endings-visited [] start [] refl;
             complete = refl;
             full = inl refl;
@@ -474,16 +509,8 @@ module _ (program_of : Bytes → Option Program) (limit : ℕ) where
           sound = (refl, tt);
           few = some;
           made_is = refl;
+          reported_are = refl;
         }) (omega arith) (first-states program_of limit s)
 
-    -- the last lines
-    pub done-are : (lines : List AnswerLine) (visited : Visited) → Finds lines visited
-        → done_lines visited ≡ done_line program_of limit s ∷ endings_line (length (endings (states_found program_of limit s))) ∷ []
-    done-are lines visited it =
-        ap₂ (λ (a b : AnswerLine). a ∷ b ∷ [])
-        (ap₂ states_line (ap length it.keeps.keys ∙ length-map (states_found program_of limit s) state_of_found) it.keeps.complete)
-        (ap endings_line (ap length it.keeps.endings ∙ length-map (endings (states_found program_of limit s)) tree_key))
-
-    pub explore-are : (lines : List AnswerLine) (visited : Visited) → Finds lines visited → lines ++ done_lines visited ≡ explore_lines program_of limit s
-    unfolding explore_lines
-    explore-are lines visited it = ap₂ (λ (a b : List AnswerLine). a ++ b) it.lines_are (done-are lines visited it)
+    pub plan-found : 1 ≤ limit → (visited : Visited) → visited ≡ visited_from observe limit program_of s limit 0 (first_visited s) → Finds (reported_from observe limit program_of s limit 0 (first_visited s)) visited
+    plan-found some visited is = subst (Finds (reported_from observe limit program_of s limit 0 (first_visited s))) (sym is) (plan-finds some)

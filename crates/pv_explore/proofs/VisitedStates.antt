@@ -17,7 +17,7 @@ use Rattle.pv_explore.proofs.Rows.{all-next, any-row, visited-grew, numbers-grew
 use Rattle.pv_step_cache.specs.declared.cells.Cell.{Cell}
 use Rattle.pv_step_cache.specs.declared.steps.CachedStep.{CachedStep}
 use Rattle.pv_step_cache.specs.Edits.{cell_of, number_of_cell, owners}
-use Rattle.pv_step_cache.specs.Cached.{AreApart, IsCachedBoth, KeepsMore}
+use Rattle.pv_step_cache.specs.Cached.{AreApart, DependsOnSeen, IsCachedBoth, KeepsMore}
 use Rattle.pv_step_cache.proofs.Again.{IsAgain, cells-more, cells-same, cached-more}
 use Rattle.pv_step_cache.proofs.Keys.{groups-encoded}
 use Rattle.pv_step_cache.proofs.LiveOwners.{owners-are}
@@ -26,9 +26,9 @@ use Rattle.pv_step_cache.specs.Steps.{Adds}
 use Rattle.pv_laws_states.specs.States.{IsValid}
 use Rattle.pv_procs.proofs.Loads.{slice_get-set_other, slice_get-set_same}
 use Rattle.pv_model.specs.Answers.Explore.{has_ended}
+use Rattle.pv_model.specs.Answers.Observed.{Observer}
 use Rattle.pv_model.specs.Bytes.{Bytes, is_empty}
 use Rattle.pv_model.specs.State.{State}
-use Rattle.pv_model.specs.Trace.{trace_bytes}
 use Rattle.pv_laws_answers.proofs.Reading.{same-state_numbers}
 use Rattle.pv_session.specs.Running.{stepped}
 use Rattle.pv_state_encoding.specs.Groups.{state_groups}
@@ -67,7 +67,7 @@ module _ (parts groups : List Bytes) where
   some-of f None b is = cc
   some-of f (Some a) b is = let same : f a ≡ b = cc in (a, refl, same)
 
-  module _ (rows : List Bytes) (cells : List (Vec Cell)) (steps : List CachedStep) (fine : IsFine parts groups rows cells steps) where
+  module _ {observe : Observer Bytes} (rows : List Bytes) (cells : List (Vec Cell)) (steps : List CachedStep) (fine : IsFine observe parts groups rows cells steps) where
     pub cells-at : (k : ℕ) (cs : Vec Cell) (t : State) → HasNumber (map (state_bytes parts groups) rows) k t → slice_get cells k ≡ Some cs → cs.items ≢ [] → AreCellsOf parts groups t cs.items
     cells-at k cs t number at there =
         let row = some-of (state_bytes parts groups) (slice_get rows k) (state_key t) (sym (slice_get-map (state_bytes parts groups) rows k) ∙ number) in
@@ -80,10 +80,10 @@ module _ (parts groups : List Bytes) where
             subst (λ (s : State). AreCellsOf parts groups s cs.items) (same-keys it.state t keys) it.cells_are
 
     -- a result from the cache is that of the step
-    pub recalled-at : (number pid : ℕ) (text : Bytes) (after : List Cell) → IsRecalled cells steps number pid text after → (t : State) → IsValid t → HasNumber (map (state_bytes parts groups) rows) number t
-        → IsAgain (number_of parts groups) (IsGroupVisited parts groups) apart pid t text after
-    recalled-at number pid text after it t whole there =
-        recalled-again (number_of parts groups) (IsGroupVisited parts groups) apart steps fine.steps_are t pid it.before.items text after whole (cells-at number it.before t there it.at it.there) it.was
+    pub recalled-at : DependsOnSeen observe → (number pid : ℕ) (texts : List Bytes) (after : List Cell) → IsRecalled cells steps number pid texts after → (t : State) → IsValid t → HasNumber (map (state_bytes parts groups) rows) number t
+        → IsAgain (number_of parts groups) (IsGroupVisited parts groups) apart observe pid t texts after
+    recalled-at depends number pid texts after it t whole there =
+        recalled-again (number_of parts groups) (IsGroupVisited parts groups) observe apart depends steps fine.steps_are t pid it.before.items texts after whole (cells-at number it.before t there it.at it.there) it.was
 
     -- a row of cells is stored exactly if its state was visited
     pub known-row : (u : State) (after : List Cell) → AreCellsOf parts groups u after
@@ -156,25 +156,25 @@ module _ (parts groups parts_now groups_now : List Bytes) (parts_grew : Grew par
     cells_are = cells-grew it.state cells it.cells_are;
   }
 
-  pub steps-grew : (steps : List CachedStep) → AreCachedSteps parts groups steps → AreCachedSteps parts_now groups_now steps
-  steps-grew steps all = steps-more (number_of parts groups) (IsGroupVisited parts groups) (number_of parts_now groups_now) (IsGroupVisited parts_now groups_now) keeps-more steps all
+  pub steps-grew : (observe : Observer Bytes) (steps : List CachedStep) → AreCachedSteps observe parts groups steps → AreCachedSteps observe parts_now groups_now steps
+  steps-grew observe steps all = steps-more (number_of parts groups) (IsGroupVisited parts groups) (number_of parts_now groups_now) (IsGroupVisited parts_now groups_now) keeps-more observe steps all
 
   -- one more step
-  pub step-visited : (t : State) (pid : ℕ) (before after : List Cell) (text : Bytes) (old new : List CachedStep) → IsValid t → AreCellsOf parts groups t before → AreCellsOf parts_now groups_now (stepped t pid).after after
-      → text ≡ trace_bytes (stepped t pid).lines → AreCachedSteps parts groups old → Adds old new pid before after text → AreCachedSteps parts_now groups_now new
-  step-visited t pid before after text old new whole there left reported all adds =
-      steps-added (number_of parts_now groups_now) (IsGroupVisited parts_now groups_now) (apart parts_now groups_now) t pid before after text old new whole (cells-grew t before there) left reported (steps-grew old all) adds
+  pub step-visited : (observe : Observer Bytes) (t : State) (pid : ℕ) (before after : List Cell) (texts : List Bytes) (old new : List CachedStep) → IsValid t → AreCellsOf parts groups t before → AreCellsOf parts_now groups_now (stepped t pid).after after
+      → texts ≡ observe t pid (stepped t pid) → AreCachedSteps observe parts groups old → Adds old new pid before after texts → AreCachedSteps observe parts_now groups_now new
+  step-visited observe t pid before after texts old new whole there left observed all adds =
+      steps-added (number_of parts_now groups_now) (IsGroupVisited parts_now groups_now) observe (apart parts_now groups_now) t pid before after texts old new whole (cells-grew t before there) left observed (steps-grew observe old all) adds
 
-  pub fine-grew : (rows : List Bytes) (cells : List (Vec Cell)) (steps : List CachedStep) → IsFine parts groups rows cells steps → IsFine parts_now groups_now rows cells steps
-  fine-grew rows cells steps fine = record {
+  pub fine-grew : {observe : Observer Bytes} (rows : List Bytes) (cells : List (Vec Cell)) (steps : List CachedStep) → IsFine observe parts groups rows cells steps → IsFine observe parts_now groups_now rows cells steps
+  fine-grew {observe} rows cells steps fine = record {
     rows_are = rows-grew parts groups parts_now groups_now parts_grew groups_grew rows fine.rows_are;
     few = fine.few;
     cells_are = λ k cs row at there. ⊎_elim inl (λ it. inr (cells-at-grew row cs.items it)) (fine.cells_are k cs row at there);
-    steps_are = steps-grew steps fine.steps_are;
+    steps_are = steps-grew observe steps fine.steps_are;
   }
 
 -- other cached transitions
-pub fine-steps : (parts groups rows : List Bytes) (cells : List (Vec Cell)) (steps new : List CachedStep) → IsFine parts groups rows cells steps → AreCachedSteps parts groups new → IsFine parts groups rows cells new
+pub fine-steps : {observe : Observer Bytes} (parts groups rows : List Bytes) (cells : List (Vec Cell)) (steps new : List CachedStep) → IsFine observe parts groups rows cells steps → AreCachedSteps observe parts groups new → IsFine observe parts groups rows cells new
 fine-steps parts groups rows cells steps new fine all = record { rows_are = fine.rows_are; few = fine.few; cells_are = fine.cells_are; steps_are = all }
 
 -- ---- one more row
@@ -184,8 +184,8 @@ get-left [] ys k within = absurd (omega arith)
 get-left (x ∷ xs) ys zero within = refl
 get-left (x ∷ xs) ys (suc k) within = get-left xs ys k (omega arith)
 
-pub fine-row : (parts groups rows new : List Bytes) (row : Bytes) (cells : List (Vec Cell)) (steps : List CachedStep) → IsFine parts groups rows cells steps → new ≡ rows ++ row ∷ [] → AllByRecursion (IsRow parts groups) new
-    → IsFine parts groups new cells steps
+pub fine-row : {observe : Observer Bytes} (parts groups rows new : List Bytes) (row : Bytes) (cells : List (Vec Cell)) (steps : List CachedStep) → IsFine observe parts groups rows cells steps → new ≡ rows ++ row ∷ [] → AllByRecursion (IsRow parts groups) new
+    → IsFine observe parts groups new cells steps
 fine-row parts groups rows new row cells steps fine is all = record {
   rows_are = all;
   few = (let few = fine.few in omega (arith, ap length is, length-append rows (row ∷ [])));
@@ -222,7 +222,7 @@ let-go old new number v within is none = record { long = ap length is ∙ length
             inl (ap (λ (c : Vec Cell). c.items) (sym v_is) ∙ none)
         by false other = inr (sym (slice_get-set_other old number k v (eqb-false k number other)) ∙ at)
 
-pub fine-unreference : (parts groups rows : List Bytes) (cells new : List (Vec Cell)) (steps : List CachedStep) → IsFine parts groups rows cells steps → AreReleased cells new → IsFine parts groups rows new steps
+pub fine-unreference : {observe : Observer Bytes} (parts groups rows : List Bytes) (cells new : List (Vec Cell)) (steps : List CachedStep) → IsFine observe parts groups rows cells steps → AreReleased cells new → IsFine observe parts groups rows new steps
 fine-unreference parts groups rows cells new steps fine it = record {
   rows_are = fine.rows_are;
   few = (let few = fine.few in let long = it.long in omega (arith, few, long));
@@ -230,8 +230,8 @@ fine-unreference parts groups rows cells new steps fine it = record {
   steps_are = fine.steps_are;
 }
 
-module _ (parts groups rows : List Bytes) (cells : List (Vec Cell)) (steps : List CachedStep) (fine : IsFine parts groups rows cells steps) where
-  pub fine-cells : (cs : Vec Cell) (row : Bytes) (new : List (Vec Cell)) → new ≡ cells ++ cs ∷ [] → slice_get rows (length cells) ≡ Some row → AreCellsAt parts groups row cs.items → IsFine parts groups rows new steps
+module _ {observe : Observer Bytes} (parts groups rows : List Bytes) (cells : List (Vec Cell)) (steps : List CachedStep) (fine : IsFine observe parts groups rows cells steps) where
+  pub fine-cells : (cs : Vec Cell) (row : Bytes) (new : List (Vec Cell)) → new ≡ cells ++ cs ∷ [] → slice_get rows (length cells) ≡ Some row → AreCellsAt parts groups row cs.items → IsFine observe parts groups rows new steps
   fine-cells cs row new is at it = record {
     rows_are = fine.rows_are;
     few = (let within = slice_get_within rows (length cells) row at in omega (arith, within, ap length is, length-append cells (cs ∷ [])));
@@ -246,18 +246,18 @@ module _ (parts groups rows : List Bytes) (cells : List (Vec Cell)) (steps : Lis
           let row_same : row ≡ r = cc in
           subst (λ (x : Vec Cell). AreCellsAt parts groups r x.items) cells_same (subst (λ (x : Bytes). AreCellsAt parts groups x cs.items) row_same it)
 
-module _ (parts groups rows : List Bytes) (cells : List (Vec Cell)) (steps : List CachedStep) (fine : IsFine parts groups rows cells steps) where
+module _ {observe : Observer Bytes} (parts groups rows : List Bytes) (cells : List (Vec Cell)) (steps : List CachedStep) (fine : IsFine observe parts groups rows cells steps) where
   -- a transition is cached
-  pub fine-visited : (number pid : ℕ) (t : State) (after : List Cell) (text : Bytes) (new : List CachedStep) → IsValid t → HasNumber (map (state_bytes parts groups) rows) number t
-      → AreCellsOf parts groups (stepped t pid).after after → text ≡ trace_bytes (stepped t pid).lines → MayKeep cells number pid after text steps new → IsFine parts groups rows cells new
-  fine-visited number pid t after text new whole there left reported (inl same) = subst (IsFine parts groups rows cells) (sym same) fine
-  fine-visited number pid t after text new whole there left reported (inr it) = record {
+  pub fine-visited : (number pid : ℕ) (t : State) (after : List Cell) (texts : List Bytes) (new : List CachedStep) → IsValid t → HasNumber (map (state_bytes parts groups) rows) number t
+      → AreCellsOf parts groups (stepped t pid).after after → texts ≡ observe t pid (stepped t pid) → MayKeep cells number pid after texts steps new → IsFine observe parts groups rows cells new
+  fine-visited number pid t after texts new whole there left observed (inl same) = subst (IsFine observe parts groups rows cells) (sym same) fine
+  fine-visited number pid t after texts new whole there left observed (inr it) = record {
     rows_are = fine.rows_are;
     few = fine.few;
     cells_are = fine.cells_are;
     steps_are =
-        steps-added (number_of parts groups) (IsGroupVisited parts groups) (apart parts groups) t pid it.before.items after text steps new whole
-        (cells-at parts groups rows cells steps fine number it.before t there it.at it.there) left reported fine.steps_are it.adds;
+        steps-added (number_of parts groups) (IsGroupVisited parts groups) observe (apart parts groups) t pid it.before.items after texts steps new whole
+        (cells-at parts groups rows cells steps fine number it.before t there it.at it.there) left observed fine.steps_are it.adds;
   }
 
   -- a state is added
@@ -268,16 +268,16 @@ module _ (parts groups rows : List Bytes) (cells : List (Vec Cell)) (steps : Lis
     visited-of : AreVisited parts groups (state_groups u)
     visited-of = state-visited parts groups u are.cached
 
-    pub fine-placed : (rows_now : List Bytes) (cells_now : List (Vec Cell)) → ArePlaced row cs rows rows_now cells cells_now → IsFine parts groups rows_now cells_now steps
+    pub fine-placed : (rows_now : List Bytes) (cells_now : List (Vec Cell)) → ArePlaced row cs rows rows_now cells cells_now → IsFine observe parts groups rows_now cells_now steps
     fine-placed rows_now cells_now (inl same) =
-        subst (λ (rs : List Bytes). IsFine parts groups rs cells_now steps) (sym same.0) (subst (λ (all : List (Vec Cell)). IsFine parts groups rows all steps) (sym same.1) fine)
+        subst (λ (rs : List Bytes). IsFine observe parts groups rs cells_now steps) (sym same.0) (subst (λ (all : List (Vec Cell)). IsFine observe parts groups rows all steps) (sym same.1) fine)
     fine-placed rows_now cells_now (inr (is, pushed)) =
         let all = rows-added parts groups rows fine.rows_are (state_groups u) u refl visited-of rows_now (is ∙ ap (λ (r : Bytes). rows ++ r ∷ []) row-of) in
         let fine_now = fine-row parts groups rows rows_now row cells steps fine is all in
         fine-pushed-now rows_now fine_now is pushed
       where
-        fine-pushed-now : (rs : List Bytes) → IsFine parts groups rs cells steps → rs ≡ rows ++ row ∷ [] → ArePushed (length rows) cs cells cells_now → IsFine parts groups rs cells_now steps
-        fine-pushed-now rs fine_now is (inl same) = subst (λ (all : List (Vec Cell)). IsFine parts groups rs all steps) (sym same) fine_now
+        fine-pushed-now : (rs : List Bytes) → IsFine observe parts groups rs cells steps → rs ≡ rows ++ row ∷ [] → ArePushed (length rows) cs cells cells_now → IsFine observe parts groups rs cells_now steps
+        fine-pushed-now rs fine_now is (inl same) = subst (λ (all : List (Vec Cell)). IsFine observe parts groups rs all steps) (sym same) fine_now
         fine-pushed-now rs fine_now is (inr (more, next)) =
             fine-cells parts groups rs cells steps fine_now cs row cells_now more (ap (slice_get rs) next ∙ ap (λ (x : List Bytes). slice_get x (length rows)) is ∙ get-end rows row) (record { state = u; row_is = row-of; cells_are = are })
 

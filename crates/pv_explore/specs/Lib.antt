@@ -1,5 +1,6 @@
 pub mod Checkpoints
 pub mod FirstMachines
+pub mod Observing
 pub mod Plan
 pub mod Rows
 pub mod Searches

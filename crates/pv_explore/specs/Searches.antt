@@ -1,28 +1,21 @@
--- The data of a search, and the bytes of a step that is written.
-use Rattle.std.specs.Prelude.{◌≡◌, ℕ, false, if◌then◌else◌, List, [], ◌∷◌, ◌++◌, get_or, map, codes}
+-- The data of a search.
+use Rattle.std.specs.Prelude.{◌≡◌, ℕ, false, List, [], ◌∷◌, ◌++◌, get_or, map}
 use Rattle.pv_explore.specs.declared.search.Search.{Search}
 use Rattle.pv_explore.specs.declared.states.Visit.{Visit}
 use Rattle.pv_explore.specs.declared.states.Visit.TheVariants.{Known, Full, New}
-use Rattle.pv_explore.specs.Plan.{Visited, endings_after, is_reported, state_at, state_key}
-use Rattle.pv_model.specs.Answers.Explore.{Move, witness_text}
+use Rattle.pv_explore.specs.Plan.{Visited, endings_after, state_at, state_key}
+use Rattle.pv_model.specs.Answers.Explore.{Move}
 use Rattle.pv_model.specs.Bytes.{Bytes}
 use Rattle.pv_model.specs.Grammar.Programs.{program_of}
 use Rattle.pv_model.specs.State.{State}
-use Rattle.pv_model.specs.Trace.{text_line}
 use Rattle.pv_session.specs.Running.{stepped}
 
-abbrev pub visited_of : Search → Visited
+abbrev pub visited_of : {O : Type 0} → Search O → Visited
 visited_of s = record { keys = s.states; witnesses = s.witnesses; reported = s.reported; endings = s.endings; complete = s.complete }
 
 -- the step of a process in the state at the end of a witness
 abbrev pub move_of : List ℕ → ℕ → State → Move
 move_of witness pid s = record { witness = witness; pid = pid; stepped = stepped s pid }
-
-abbrev pub move_bytes : ℕ → List ℕ → Bytes → Bytes
-move_bytes pid witness text = text_line pid (codes "BY") (witness_text witness) ++ text
-
-abbrev pub reported_bytes : List Bytes → ℕ → List ℕ → Bytes → Bytes
-reported_bytes reported pid witness text = if is_reported reported text then [] else move_bytes pid witness text
 
 -- the witness of state `number`
 abbrev pub witness_at : Visited → ℕ → List ℕ

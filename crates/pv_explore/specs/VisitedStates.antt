@@ -11,13 +11,13 @@ use Rattle.pv_step_cache.specs.declared.steps.CachedStep.{CachedStep}
 use Rattle.pv_step_cache.specs.Edits.{cell_of, owners, step_key}
 use Rattle.pv_step_cache.specs.Cached.{AreCells, IsCachedBoth, IsStep}
 use Rattle.pv_explore.specs.declared.states.Followed.{Followed}
-use Rattle.pv_step_cache.specs.Steps.{Adds, WasCached}
+use Rattle.pv_step_cache.specs.Steps.{Adds, WasCached, texts_in, texts_of}
 use Rattle.pv_laws_states.specs.States.{IsValid}
 use Rattle.pv_model.specs.Answers.Explore.{has_ended}
+use Rattle.pv_model.specs.Answers.Observed.{Observer}
 use Rattle.pv_model.specs.Bytes.{Bytes}
 use Rattle.pv_model.specs.Held.{live_processes}
 use Rattle.pv_model.specs.State.{State}
-use Rattle.pv_model.specs.Trace.{trace_bytes}
 use Rattle.pv_session.specs.Running.{stepped}
 use Rattle.pv_state_encoding.specs.Groups.{state_groups}
 use Rattle.pv_state_encoding.specs.Encoded.{Encoded, encoded}
@@ -45,8 +45,9 @@ module _ (parts groups : List Bytes) where
     pub row_is : row ≡ state_row parts groups (state_groups state)
     pub cells_are : AreCellsOf state cells
 
+module _ (observe : Observer Bytes) (parts groups : List Bytes) where
   abbrev pub IsCachedStepOf : CachedStep → Type 0
-  IsCachedStepOf k = IsStep number_of (IsGroupVisited parts groups) k.key.items k.text.items k.edits.items
+  IsCachedStepOf k = IsStep (number_of parts groups) (IsGroupVisited parts groups) observe k.key.items (texts_of k) k.edits.items
 
   abbrev pub AreCachedSteps : List CachedStep → Type 0
   AreCachedSteps steps = AllByRecursion IsCachedStepOf steps
@@ -56,15 +57,15 @@ module _ (parts groups : List Bytes) where
   pub record IsFine (rows : List Bytes) (cells : List (Vec Cell)) (steps : List CachedStep) : Type 0 where
     pub rows_are : AllByRecursion (IsRow parts groups) rows
     pub few : length cells ≤ length rows
-    pub cells_are : (k : ℕ) (cs : Vec Cell) (row : Bytes) → slice_get cells k ≡ Some cs → slice_get rows k ≡ Some row → (cs.items ≡ []) ⊎ AreCellsAt row cs.items
+    pub cells_are : (k : ℕ) (cs : Vec Cell) (row : Bytes) → slice_get cells k ≡ Some cs → slice_get rows k ≡ Some row → (cs.items ≡ []) ⊎ AreCellsAt parts groups row cs.items
     pub steps_are : AreCachedSteps steps
 
 -- the result of a step is that of a cached transition, and some process is live after it
-pub record IsRecalled (cells : List (Vec Cell)) (steps : List CachedStep) (number pid : ℕ) (text : Bytes) (after : List Cell) : Type 0 where
+pub record IsRecalled (cells : List (Vec Cell)) (steps : List CachedStep) (number pid : ℕ) (texts : List Bytes) (after : List Cell) : Type 0 where
   pub before : Vec Cell
   pub at : slice_get cells number ≡ Some before
   pub there : before.items ≢ []
-  pub was : WasCached steps (step_key pid before.items) before.items text after
+  pub was : WasCached steps (step_key pid before.items) before.items texts after
   pub live : owners after ≢ []
 
 -- the cells of each state are unchanged or released
@@ -81,15 +82,15 @@ abbrev pub ArePlaced : Bytes → Vec Cell → List Bytes → List Bytes → List
 ArePlaced row cs rows rows_now cells cells_now = ((rows_now ≡ rows) × (cells_now ≡ cells)) ⊎ ((rows_now ≡ rows ++ row ∷ []) × ArePushed (length rows) cs cells cells_now)
 
 -- a transition is cached with the cells of state `number`
-pub record IsCachedBy (cells : List (Vec Cell)) (number pid : ℕ) (after : List Cell) (text : Bytes) (old new : List CachedStep) : Type 0 where
+pub record IsCachedBy (cells : List (Vec Cell)) (number pid : ℕ) (after : List Cell) (texts : List Bytes) (old new : List CachedStep) : Type 0 where
   pub before : Vec Cell
   pub at : slice_get cells number ≡ Some before
   pub there : before.items ≢ []
-  pub adds : Adds old new pid before.items after text
+  pub adds : Adds old new pid before.items after texts
 
 -- the cache is unchanged, or has this transition
-abbrev pub MayKeep : List (Vec Cell) → ℕ → ℕ → List Cell → Bytes → List CachedStep → List CachedStep → Type 0
-MayKeep cells number pid after text old new = (new ≡ old) ⊎ IsCachedBy cells number pid after text old new
+abbrev pub MayKeep : List (Vec Cell) → ℕ → ℕ → List Cell → List Bytes → List CachedStep → List CachedStep → Type 0
+MayKeep cells number pid after texts old new = (new ≡ old) ⊎ IsCachedBy cells number pid after texts old new
 
 -- ---- by the encodings of states
 
@@ -115,18 +116,18 @@ IsFoundIn limit old new key New = (list_any (bytes_eq key) old ≡ false) × (le
 abbrev pub IsFoundBy : ℕ → List Bytes → List Bytes → List Encoded → Visit → Type 0
 IsFoundBy limit old new cs found = (t : State) → cs ≡ encoded t → IsFoundIn limit old new (state_key t) found
 
--- a step was taken from the cache: its text, and the visit of the state after it, in which some process is live
-pub record IsFollowed (limit : ℕ) (old new : List Bytes) (t : State) (pid : ℕ) (text : Bytes) (found : Visit) : Type 0 where
-  pub text_is : text ≡ trace_bytes (stepped t pid).lines
+-- a step was taken from the cache: its texts, and the visit of the state after it, in which some process is live
+pub record IsFollowed (observe : Observer Bytes) (limit : ℕ) (old new : List Bytes) (t : State) (pid : ℕ) (texts : List Bytes) (found : Visit) : Type 0 where
+  pub texts_are : texts ≡ observe t pid (stepped t pid)
   pub live : has_ended (stepped t pid).after ≡ false
   pub found_is : IsFoundIn limit old new (state_key (stepped t pid).after) found
 
--- a process made a step in state `number`, with this text and these groups after it
-pub record IsMade (keys : List Bytes) (number pid : ℕ) (text : Bytes) (after : List Encoded) : Type 0 where
+-- a process made a step in state `number`, with these texts and these groups after it
+pub record IsMade (observe : Observer Bytes) (keys : List Bytes) (number pid : ℕ) (texts : List Bytes) (after : List Encoded) : Type 0 where
   pub state : State
   pub whole : IsValid state
   pub number_is : HasNumber keys number state
-  pub text_is : text ≡ trace_bytes (stepped state pid).lines
+  pub texts_are : texts ≡ observe state pid (stepped state pid)
   pub after_is : after ≡ encoded (stepped state pid).after
 
 -- state `number` satisfies the invariant
@@ -134,6 +135,6 @@ abbrev pub IsValidAt : List Bytes → ℕ → Type 0
 IsValidAt keys number = (t : State) × IsValid t × HasNumber keys number t
 
 -- a step of a process in state `number` was taken from the cache, or is not in the cache
-abbrev pub MayFollow : ℕ → List Bytes → List Bytes → ℕ → ℕ → Option Followed → Type 0
-MayFollow limit old new number pid None = new ≡ old
-MayFollow limit old new number pid (Some f) = (t : State) → IsValid t → HasNumber old number t → IsFollowed limit old new t pid f.text.items f.found
+abbrev pub MayFollow : Observer Bytes → ℕ → List Bytes → List Bytes → ℕ → ℕ → Option Followed → Type 0
+MayFollow observe limit old new number pid None = new ≡ old
+MayFollow observe limit old new number pid (Some f) = (t : State) → IsValid t → HasNumber old number t → IsFollowed observe limit old new t pid (texts_in f.texts.value.items) f.found

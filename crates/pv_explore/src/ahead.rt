@@ -3,11 +3,12 @@ ghost use Rattle.std.specs.Prelude.{IfOk};
 ghost use Rattle.pv_explore.specs.VisitedStates.{AreCellsOf, AreCachedSteps};
 ghost use Rattle.pv_explore.specs.Rows.{Grew};
 
-use crate::keys::Keys;
+use crate::observer::Observer;
 use crate::position::Position;
 use crate::states::learn_cells;
 use pv_model::StepFault;
 use pv_step_cache::{CachedSteps, Cell};
+use pv_step_cache::tables::Keys;
 use std::alloc::{AllocError, Global};
 
 // The maximum number of speculative steps.
@@ -29,8 +30,9 @@ fn next_ahead(
 
 // Makes a step of a process in the state of these cells, and caches the transition. Returns the machine and the cells
 // after it.
-fn make_one(
+fn make_one<O: Observer>(
     alloc: Global,
+    observer: &mut O,
     parts: &mut Keys,
     groups: &mut Keys,
     steps: &mut CachedSteps,
@@ -39,17 +41,17 @@ fn make_one(
     pid: u32,
 ) -> Result<(Position, Vec<Cell>), StepFault>
     requires cells { AreCellsOf parts.old groups.old position cells.now }
-    requires steps { AreCachedSteps parts.old groups.old steps.old.steps.items }
+    requires steps { AreCachedSteps O.observe parts.old groups.old steps.old.steps.items }
     ensures parts_grew { Grew parts.old parts.new }
     ensures groups_grew { Grew groups.old groups.new }
-    ensures steps { AreCachedSteps parts.new groups.new steps.new.steps.items }
+    ensures steps { AreCachedSteps O.observe parts.new groups.new steps.new.steps.items }
     ensures cells { IfOk result (λ made. AreCellsOf parts.new groups.new made.0 made.1.items) }
 {
     let _ = position.parts();
-    let (next, text) = position.trace(alloc, pid)?;
+    let (next, texts) = position.observe(alloc, observer, pid)?;
     let encoded = next.encoded(alloc)?;
     let after = learn_cells(alloc, parts, groups, &encoded)?;
-    steps.keep(alloc, cells, &after, pid, &text)?;
+    steps.keep(alloc, cells, &after, pid, texts)?;
     Ok((next, after))
 }
 
@@ -61,8 +63,9 @@ fn make_one(
 /// # Errors
 ///
 /// `NoMemory`, if there is no memory.
-pub(crate) fn make_ahead(
+pub(crate) fn make_ahead<O: Observer>(
     alloc: Global,
+    observer: &mut O,
     parts: &mut Keys,
     groups: &mut Keys,
     steps: &mut CachedSteps,
@@ -70,10 +73,10 @@ pub(crate) fn make_ahead(
     cells: Vec<Cell>,
 ) -> Result<Position, StepFault>
     requires cells { AreCellsOf parts.old groups.old position cells.items }
-    requires steps { AreCachedSteps parts.old groups.old steps.old.steps.items }
+    requires steps { AreCachedSteps O.observe parts.old groups.old steps.old.steps.items }
     ensures parts_grew { Grew parts.old parts.new }
     ensures groups_grew { Grew groups.old groups.new }
-    ensures steps { AreCachedSteps parts.new groups.new steps.new.steps.items }
+    ensures steps { AreCachedSteps O.observe parts.new groups.new steps.new.steps.items }
 {
     let mut position = position;
     let mut cells = cells;
@@ -81,7 +84,7 @@ pub(crate) fn make_ahead(
         let Some(pid) = next_ahead(alloc, steps, &cells)? else {
             return Ok(position);
         };
-        let (next, after) = make_one(alloc, parts, groups, steps, position, &cells, pid)?;
+        let (next, after) = make_one(alloc, observer, parts, groups, steps, position, &cells, pid)?;
         position = next;
         cells = after;
     }

@@ -1,8 +1,7 @@
 //! The search of all states, and its answer: what can happen under any schedule.
-ghost use Rattle.std.specs.Prelude.{◌≡◌, ◌≤◌, IfErr, OnErr, OnOk};
-ghost use Rattle.pv_explore.specs.Plan.{done_lines, first_visited};
-ghost use Rattle.pv_explore.specs.Searches.{visited_of};
-ghost use Rattle.pv_model.specs.Answers.Explore.{completeness_text, endings_line, explore_lines, states_line};
+ghost use Rattle.std.specs.Prelude.{◌≡◌, ◌≤◌, IfErr, IfOk, OnErr, OnOk};
+ghost use Rattle.pv_explore.specs.Plan.{result_lines};
+ghost use Rattle.pv_model.specs.Answers.Explore.{completeness_text, endings_line, explore_lines, is_complete, states_line};
 ghost use Rattle.pv_model.specs.Answers.Lines.{answer_bytes, answer_line_bytes};
 ghost use Rattle.pv_model.specs.Grammar.Programs.{program_of};
 ghost use Rattle.pv_model.specs.Stream.{Rose};
@@ -10,8 +9,9 @@ ghost use Rattle.pv_session.specs.Running.{FailsBy};
 ghost use Rattle.pv_streams.specs.Sinks.{and_all, WritesPrefix};
 
 use crate::first_machine::FirstMachine;
+use crate::observer::TraceLines;
 use crate::progress::Progress;
-use crate::search::Search;
+use crate::searched::{Searched, search_observed};
 use crate::witness::Count;
 use pv_answers::{Fragment, Line, Plain};
 use pv_session::Stop;
@@ -63,42 +63,21 @@ fn write_endings<W: Sink>(out: &mut W, count: usize) -> Result<(), Failed>
 }
 
 // Writes the result of a search.
-fn write_done<W: Sink>(out: &mut W, search: &Search) -> Result<(), Failed>
-    ensures whole { OnOk result (W.written out.new ≡ and_all (W.written out.old) (answer_bytes (done_lines (visited_of search.now)))) }
-    ensures prefix { OnErr result (WritesPrefix (answer_bytes (done_lines (visited_of search.now))) (W.written out.old) (W.written out.new)) }
+fn write_done<W: Sink>(out: &mut W, searched: &Searched) -> Result<(), Failed>
+    ensures whole { OnOk result (W.written out.new ≡ and_all (W.written out.old) (answer_bytes (result_lines searched.now.states searched.now.complete searched.now.endings))) }
+    ensures prefix { OnErr result (WritesPrefix (answer_bytes (result_lines searched.now.states searched.now.complete searched.now.endings)) (W.written out.old) (W.written out.new)) }
     ensures failed { OnErr result (Rose (W.failures out.old) (W.failures out.new)) }
     ensures quiet { OnOk result (W.failures out.new ≡ W.failures out.old) }
 {
-    write_states(out, search.states.len(), search.complete)?;
-    write_endings(out, search.endings.len())
-}
-
-// Searches from the first state, and writes the step texts and the result.
-fn write_search<W: Sink, P: Progress>(
-    alloc: Global,
-    first_machine: &FirstMachine,
-    states: u32,
-    search: &mut Search,
-    progress: &mut P,
-    out: &mut W,
-) -> Result<(), Stop>
-    requires states { 1 ≤ states }
-    requires first { visited_of search.old ≡ first_visited states program_of first_machine.now }
-    ensures whole { OnOk result (W.written out.new ≡ and_all (W.written out.old) (answer_bytes (explore_lines program_of states first_machine.now))) }
-    ensures prefix { OnErr result (WritesPrefix (answer_bytes (explore_lines program_of states first_machine.now)) (W.written out.old) (W.written out.new)) }
-    ensures failed { IfErr result (λ stop. FailsBy stop (W.failures out.old) (W.failures out.new)) }
-    ensures quiet { OnOk result (W.failures out.new ≡ W.failures out.old) }
-{
-    let end = search.search(alloc, first_machine, states, progress, out);
-    progress.end();
-    end?;
-    Ok(write_done(out, search)?)
+    write_states(out, searched.states, searched.complete)?;
+    write_endings(out, searched.endings)
 }
 
 /// Writes what can happen under any schedule. The search visits at most `states` states, in breadth-first order from
 /// the first state of a machine. For each step text that no earlier step had, it writes a BY line with a shortest
 /// witness, that is, a schedule that leads to this step, and then the text. The last two lines, DONE, have the number
-/// of visited states, whether these are all, and the number of different trees in which no process is live.
+/// of visited states, whether these are all, and the number of different trees in which no process is live. Returns
+/// whether the visited states are all.
 ///
 /// If the visited states are all states, the text of each step of a live process in each schedule is among the texts
 /// written: see `pv_laws_explore`.
@@ -115,13 +94,15 @@ pub fn write_explore<W: Sink, P: Progress>(
     states: u32,
     progress: &mut P,
     out: &mut W,
-) -> Result<(), Stop>
+) -> Result<bool, Stop>
     requires { 1 ≤ states }
     ensures whole { OnOk result (W.written out.new ≡ and_all (W.written out.old) (answer_bytes (explore_lines program_of states first_machine.now))) }
     ensures prefix { OnErr result (WritesPrefix (answer_bytes (explore_lines program_of states first_machine.now)) (W.written out.old) (W.written out.new)) }
     ensures failed { IfErr result (λ stop. FailsBy stop (W.failures out.old) (W.failures out.new)) }
     ensures quiet { OnOk result (W.failures out.new ≡ W.failures out.old) }
+    ensures complete { IfOk result (λ complete. complete ≡ is_complete program_of states first_machine.now) }
 {
-    let mut search = Search::new(alloc, states, first_machine)?;
-    write_search(alloc, first_machine, states, &mut search, progress, out)
+    let searched = search_observed(alloc, first_machine, states, TraceLines, progress, out)?;
+    write_done(out, &searched)?;
+    Ok(searched.complete)
 }

@@ -1,9 +1,11 @@
 //! The state graph: the states that are reachable from a machine's first state, and their transitions.
 ghost use Rattle.std.specs.Prelude.{◌≡◌, ◌≤◌, [], Some, codes, length, OnErr, OnOk, IfErr, IfOk};
 ghost use Rattle.std.specs.Fmt.{decimal};
+ghost use Rattle.pv_explore.specs.Observing.{no_text};
 ghost use Rattle.pv_explore.specs.Plan.{first_visited, visited_from, live_at};
 ghost use Rattle.pv_explore.specs.Searches.{visited_of};
 ghost use Rattle.pv_explore.specs.Vertices.{found_lines, listed_bytes, steps_at, vertex_at, vertices_from};
+ghost use Rattle.pv_model.specs.Answers.Explore.{is_complete};
 ghost use Rattle.pv_model.specs.Answers.Graph.{graph_lines, tree_lines};
 ghost use Rattle.pv_model.specs.Answers.Lines.{answer_bytes, answer_line, answer_line_bytes};
 ghost use Rattle.pv_model.specs.Grammar.Lines.{lines_of};
@@ -16,8 +18,10 @@ ghost use Rattle.pv_streams.specs.Sinks.{and_all, WritesPrefix};
 use crate::checkpoints::Checkpoints;
 use crate::explore::write_states;
 use crate::first_machine::FirstMachine;
+use crate::observer::{Observer, Unobserved};
 use crate::progress::Progress;
 use crate::search::Search;
+use crate::searched::search_all;
 use crate::states::States;
 use crate::unheard::Unheard;
 use crate::witness::Count;
@@ -94,10 +98,10 @@ fn write_tree<W: Sink>(alloc: Global, parts: &Parts, tree: bool, out: &mut W) ->
 // ---- a state with its steps
 
 // Writes the steps from the state at the end of a witness.
-fn write_steps<W: Sink>(
+fn write_steps<O: Observer + Drop, W: Sink>(
     alloc: Global,
     checkpoints: &mut Checkpoints<'_>,
-    states: &States,
+    states: &States<O>,
     witness: &[u32],
     line_buffer: &mut LineBuffer,
     out: &mut W,
@@ -137,10 +141,10 @@ fn write_number<W: Sink>(out: &mut W, number: usize) -> Result<(), Failed>
 }
 
 // Writes the state at the end of a witness, with its number and its steps.
-fn write_vertex<W: Sink>(
+fn write_vertex<O: Observer + Drop, W: Sink>(
     alloc: Global,
     checkpoints: &mut Checkpoints<'_>,
-    states: &States,
+    states: &States<O>,
     tree: bool,
     number: usize,
     witness: &[u32],
@@ -162,10 +166,10 @@ fn write_vertex<W: Sink>(
 }
 
 // Writes the states of a search.
-fn write_vertices<W: Sink>(
+fn write_vertices<O: Observer + Drop, W: Sink>(
     alloc: Global,
     first_machine: &FirstMachine,
-    search: &Search,
+    search: &Search<O>,
     tree: bool,
     out: &mut W,
 ) -> Result<(), Stop>
@@ -203,29 +207,34 @@ fn new_line_buffer(alloc: Global) -> Result<Box<LineBuffer>, StepFault> {
     }
 }
 
-// Searches all states without writing step texts.
-fn search_all<P: Progress>(
+// Searches all states without observing the steps.
+fn search_states<P: Progress>(
     alloc: Global,
     first_machine: &FirstMachine,
     states: u32,
     progress: &mut P,
-) -> Result<Search, StepFault>
-    ensures { IfOk result (λ search. visited_of search ≡ visited_from states program_of first_machine.now states 0 (first_visited states program_of first_machine.now)) }
+) -> Result<Search<Unobserved>, StepFault>
+    ensures { IfOk result (λ search. visited_of search ≡ visited_from no_text states program_of first_machine.now states 0 (first_visited first_machine.now)) }
 {
-    let mut search = Search::new(alloc, states, first_machine)?;
-    let end = search.search(alloc, first_machine, states, progress, &mut Unheard);
-    progress.end();
-    match end {
+    let mut search = Search::new(alloc, Unobserved, first_machine)?;
+    match search_all(
+        alloc,
+        first_machine,
+        states,
+        &mut search,
+        progress,
+        &mut Unheard,
+    ) {
         Ok(()) => Ok(search),
         Err(_) => Err(StepFault::NoMemory),
     }
 }
 
 // Writes the states that a search visited, and whether these are all.
-fn write_found<W: Sink>(
+fn write_found<O: Observer + Drop, W: Sink>(
     alloc: Global,
     first_machine: &FirstMachine,
-    search: &Search,
+    search: &Search<O>,
     tree: bool,
     out: &mut W,
 ) -> Result<(), Stop>
@@ -246,7 +255,7 @@ fn write_found<W: Sink>(
 /// the step. The last line, DONE, has the number of visited states and whether these are all.
 ///
 /// The search is complete before the first line is written. `progress` shows the state of the search. It ends with the
-/// search, also if the search fails.
+/// search, also if the search fails. Returns whether the visited states are all.
 ///
 /// # Errors
 ///
@@ -259,13 +268,15 @@ pub fn write_graph<W: Sink, P: Progress>(
     tree: bool,
     progress: &mut P,
     out: &mut W,
-) -> Result<(), Stop>
+) -> Result<bool, Stop>
     requires { 1 ≤ states }
     ensures whole { OnOk result (W.written out.new ≡ and_all (W.written out.old) (answer_bytes (graph_lines program_of states tree first_machine.now))) }
     ensures prefix { OnErr result (WritesPrefix (answer_bytes (graph_lines program_of states tree first_machine.now)) (W.written out.old) (W.written out.new)) }
     ensures failed { IfErr result (λ stop. FailsBy stop (W.failures out.old) (W.failures out.new)) }
     ensures quiet { OnOk result (W.failures out.new ≡ W.failures out.old) }
+    ensures complete { IfOk result (λ complete. complete ≡ is_complete program_of states first_machine.now) }
 {
-    let search = search_all(alloc, first_machine, states, progress)?;
-    write_found(alloc, first_machine, &search, tree, out)
+    let search = search_states(alloc, first_machine, states, progress)?;
+    write_found(alloc, first_machine, &search, tree, out)?;
+    Ok(search.complete)
 }

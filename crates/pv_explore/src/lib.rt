@@ -2,12 +2,15 @@
 //!
 //! `first_machine` has a machine before its first step, which can be rebuilt; `position` has a machine at the end of a
 //! schedule, and `checkpoints` keeps machines along the schedule that was followed last. `search` visits the states:
-//! `states` stores each as a row of indices into tables of its parts (`keys`), and `witnesses` stores the schedule that
+//! `states` stores each as a row of indices into tables of its parts, and `witnesses` stores the schedule that
 //! leads to each. A step whose transition is in the cache is not made. Any other step is made on a copy of a checkpoint,
-//! and `ahead` lets the copy make a few more steps to fill the cache. `explore` writes each step text with a witness,
-//! and `graph` writes each state with its transitions. `witness` writes a schedule, `unheard` is a sink that discards,
-//! and `progress` is the trait for progress reports. `specs/Plan` specifies the search, and `proofs/Planned` proves that
-//! it visits the states and writes the lines of the definitions.
+//! and `ahead` lets the copy make a few more steps to fill the cache.
+//!
+//! `observer` has the trait of what is observed of the steps, and `searched` the search with an observer: each text
+//! observed is written with a witness. `explore` observes the trace lines of each step, and `graph` writes each state
+//! with its transitions. `witness` writes a schedule, `unheard` is a sink that discards, and `progress` is the trait for
+//! progress reports. `specs/Plan` specifies the search, and `proofs/Planned` proves that it visits the states and writes
+//! the texts of the definitions.
 #![tactic(auto)]
 
 mod ahead;
@@ -15,10 +18,11 @@ mod checkpoints;
 mod explore;
 mod first_machine;
 mod graph;
-mod keys;
+mod observer;
 mod position;
 mod progress;
 mod search;
+mod searched;
 mod states;
 mod unheard;
 mod witness;
@@ -27,4 +31,6 @@ mod witnesses;
 pub use explore::write_explore;
 pub use first_machine::FirstMachine;
 pub use graph::write_graph;
+pub use observer::{Observer, TraceLines};
 pub use progress::{Progress, Unshown};
+pub use searched::{Searched, search_observed};

@@ -1,5 +1,5 @@
 //! Machines at the end of a schedule.
-ghost use Rattle.std.specs.Prelude.{◌≡◌, ◌+◌, ◌++◌, ◌∷◌, [], true, codes, map, is_some, Some, IfErr, IfOk, OnErr, OnOk};
+ghost use Rattle.std.specs.Prelude.{◌≡◌, ◌+◌, ◌++◌, ◌∷◌, [], true, codes, map, is_some, IfErr, IfOk, OnErr, OnOk};
 ghost use Rattle.pv_explore.specs.FirstMachines.{GaveNumber, one_if};
 ghost use Rattle.pv_procs.specs.ProcessTable.{process_in};
 ghost use Rattle.pv_explore.specs.Plan.{state_at, tree_key};
@@ -11,13 +11,14 @@ ghost use Rattle.pv_laws_states.specs.States.{IsValid};
 ghost use Rattle.pv_model.specs.Answers.Explore.{has_ended};
 ghost use Rattle.pv_model.specs.Grammar.Programs.{program_of};
 ghost use Rattle.pv_model.specs.Held.{live_processes, named_tree};
-ghost use Rattle.pv_model.specs.Trace.{trace_bytes};
 ghost use Rattle.pv_session.specs.Running.{FailsBy, stepped};
 ghost use Rattle.pv_state_encoding.specs.Groups.{groups_of, state_groups};
 ghost use Rattle.pv_state_encoding.specs.Encoded.{encoded, encoded_all};
+ghost use Rattle.pv_step_cache.specs.Steps.{texts_in};
 ghost use Rattle.pv_streams.specs.Sinks.{and_all, WritesPrefix};
 ghost use Rattle.pv_tree.specs.Sizes.{HaveSameSizes};
 
+use crate::observer::Observer;
 use crate::states::States;
 use crate::witness::Count;
 use pv_answers::{Fragment, Line, Plain};
@@ -29,7 +30,7 @@ use pv_procs::Processes;
 use pv_script::CallTexts;
 use pv_session::{Session, Stop};
 use pv_state_encoding::{EncodedGroup, encoded_state, push_tree, state_groups};
-use pv_streams::{Failed, Gathered, Sink};
+use pv_streams::{Failed, Sink};
 use pv_trace::LineBuffer;
 use std::alloc::Global;
 use std::marker::Model;
@@ -50,22 +51,6 @@ impl Model for Position {
     ghost view = { λ p. p.session };
 
     ghost invariant = { λ p. p.last ≡ p.session.last_process };
-}
-
-// Makes a step of a process, and appends its lines to `text`.
-fn trace_into(
-    alloc: Global,
-    session: &mut Session,
-    pid: u32,
-    text: &mut Gathered,
-) -> Result<(), StepFault>
-    ensures after { OnOk result (session.new ≡ (stepped session.old pid).after) }
-    ensures text { OnOk result (Some text.new.bytes.items ≡ and_all (Some text.old.bytes.items) (trace_bytes (stepped session.old pid).lines)) }
-{
-    match session.trace_step(alloc, pid, text) {
-        Ok(_) => Ok(()),
-        Err(_) => Err(StepFault::NoMemory),
-    }
 }
 
 // Returns the last process number that a state has given. `known` is that number before the last step.
@@ -220,21 +205,25 @@ impl Position {
         Ok(())
     }
 
-    /// Makes a step of a process. Returns the machine after it, and its trace lines.
+    /// Makes a step of a process. Returns the machine after it, and the texts observed of the step.
     ///
     /// # Errors
     ///
     /// `NoMemory`, if there is no memory.
-    pub(crate) fn trace(self, alloc: Global, pid: u32) -> Result<(Position, Vec<u8>), StepFault>
+    pub(crate) fn observe<O: Observer>(
+        self,
+        alloc: Global,
+        observer: &mut O,
+        pid: u32,
+    ) -> Result<(Position, Vec<Vec<u8>>), StepFault>
         ensures after { IfOk result (λ made. made.0 ≡ (stepped self pid).after) }
-        ensures text { IfOk result (λ made. made.1.items ≡ trace_bytes (stepped self pid).lines) }
+        ensures texts { IfOk result (λ made. texts_in made.1.items ≡ O.observe self pid (stepped self pid)) }
     {
         let Position { mut session, last } = self;
         let _ = session.parts();
-        let mut text = Gathered::new(alloc);
-        trace_into(alloc, &mut session, pid, &mut text)?;
+        let texts = observer.step(alloc, &mut session, pid)?;
         let last = last_number(session.parts(), last);
-        Ok((Position { session, last }, text.bytes))
+        Ok((Position { session, last }, texts))
     }
 
     /// Returns the state.
@@ -299,10 +288,10 @@ impl Position {
     ///
     /// - `Memory`, if there is no memory.
     /// - `Write`, if a write failed. The sink received a prefix of the lines.
-    pub(crate) fn write_step<W: Sink>(
+    pub(crate) fn write_step<O: Observer + Drop, W: Sink>(
         &mut self,
         alloc: Global,
-        states: &States,
+        states: &States<O>,
         pid: u32,
         line_buffer: &mut LineBuffer,
         out: &mut W,

@@ -1,23 +1,25 @@
 //! The search.
 ghost use Rattle.std.specs.Prelude.{◌≡◌, ◌<◌, ◌++◌, ◌∷◌, [], true, bytes_eq, length, if◌then◌else◌, slice_get, IfErr, IfOk, OnErr, OnOk};
 ghost use Rattle.std.specs.List.{list_any};
-ghost use Rattle.pv_explore.specs.Plan.{endings_after, first_visited, is_reported, visited_after, visited_after_steps, visited_from, lines_at, live_at, move_at, state_at, state_key, reported_steps, reported_after, reported_from, with_found_at};
+ghost use Rattle.pv_explore.specs.Observing.{is_shown};
+ghost use Rattle.pv_explore.specs.Plan.{added_to, bytes_at, endings_after, first_visited, live_at, move_bytes, new_bytes, reported_after, reported_bytes, reported_from, reported_steps, shown_bytes, state_at, state_key, visited_after, visited_after_steps, visited_at, visited_from, with_found_at};
 ghost use Rattle.pv_explore.specs.VisitedStates.{HasNumber};
-ghost use Rattle.pv_explore.specs.Searches.{AreAt, endings_found, visited_of, move_bytes, move_of, reported_bytes, witness_at, with_witness};
+ghost use Rattle.pv_explore.specs.Searches.{AreAt, endings_found, move_of, visited_of, witness_at, with_witness};
 ghost use Rattle.pv_explore.specs.Witnesses.{longer, witness_of};
 ghost use Rattle.pv_laws_states.specs.States.{IsValid};
-ghost use Rattle.pv_model.specs.Answers.Lines.{answer_bytes};
 ghost use Rattle.pv_model.specs.Grammar.Programs.{program_of};
 ghost use Rattle.pv_model.specs.Stream.{Rose};
-ghost use Rattle.pv_session.specs.Running.{FailsBy};
+ghost use Rattle.pv_session.specs.Running.{FailsBy, stepped};
+ghost use Rattle.pv_step_cache.specs.Steps.{texts_in};
 ghost use Rattle.pv_state_encoding.specs.Encoded.{encoded, encoded_all};
 ghost use Rattle.pv_streams.specs.Sinks.{and_all, WritesPrefix};
 
 use crate::checkpoints::Checkpoints;
 use crate::first_machine::FirstMachine;
-use crate::keys::Keys;
+use crate::observer::Observer;
 use crate::position::Position;
 use crate::progress::Progress;
+use crate::searched::Searched;
 use crate::states::{Followed, States, Visit};
 use crate::witness::Witness;
 use crate::witnesses::Witnesses;
@@ -25,20 +27,21 @@ use pv_answers::{Fragment, Line, Plain};
 use pv_model::StepFault;
 use pv_session::Stop;
 use pv_state_encoding::EncodedGroup;
+use pv_step_cache::tables::Keys;
 use pv_streams::{Failed, Sink};
 use std::alloc::Global;
 
 /// The data of a search.
 #[derive(Drop)]
-pub(crate) struct Search {
+pub(crate) struct Search<O: Observer + Drop> {
     /// The visited states, in the order in which they were visited.
-    pub(crate) states: States,
+    pub(crate) states: States<O>,
     // A witness for each state.
     witnesses: Witnesses,
-    // The step texts that were written.
+    // The texts observed, in the order in which they were.
     reported: Keys,
-    /// The encodings of the trees in which no process is live.
-    pub(crate) endings: Keys,
+    // The encodings of the trees in which no process is live.
+    endings: Keys,
     /// Whether no state was left out.
     pub(crate) complete: bool,
 }
@@ -53,16 +56,19 @@ fn push_key(keys: &mut Keys, key: Vec<u8>) -> Result<(), StepFault>
     Ok(())
 }
 
-// ---- step texts
+// ---- texts
 
-// Returns whether a text was already written or is empty.
-fn is_reported(reported: &Keys, text: &[u8]) -> bool
-    ensures { result ≡ is_reported reported.now text.now }
+// Returns whether a text is written: it is neither empty nor a note.
+fn is_shown(text: &[u8]) -> bool
+    ensures { result ≡ is_shown text.now }
 {
-    text.is_empty() || reported.contains(text)
+    match text.first() {
+        Some(byte) => *byte != 0,
+        None => false,
+    }
 }
 
-// Writes the BY line with a step's witness, and the text of the step.
+// Writes the BY line with a step's witness, and a text of the step.
 #[tactic(auto, unfolding(pv_model::specs::Trace::text_line))]
 fn write_move<W: Sink>(out: &mut W, pid: u32, witness: &[u32], text: &[u8]) -> Result<(), Failed>
     ensures whole { OnOk result (W.written out.new ≡ and_all (W.written out.old) (move_bytes pid witness.now text.now)) }
@@ -99,8 +105,30 @@ fn longer_witness(
     Ok(witnesses.longer(alloc, number, pid)?)
 }
 
-// Writes a step from state `number` with its witness, if its text is new.
-fn report<W: Sink>(
+// Writes a text of a step from state `number` with the witness of the step, if the text is shown.
+fn show<W: Sink>(
+    alloc: Global,
+    witnesses: &Witnesses,
+    number: u32,
+    pid: u32,
+    text: &[u8],
+    out: &mut W,
+) -> Result<(), Stop>
+    requires { number < length witnesses.now }
+    ensures whole { OnOk result (W.written out.new ≡ and_all (W.written out.old) (shown_bytes pid (longer witnesses.now number pid) text.now)) }
+    ensures prefix { OnErr result (WritesPrefix (shown_bytes pid (longer witnesses.now number pid) text.now) (W.written out.old) (W.written out.new)) }
+    ensures failed { IfErr result (λ stop. FailsBy stop (W.failures out.old) (W.failures out.new)) }
+    ensures quiet { OnOk result (W.failures out.new ≡ W.failures out.old) }
+{
+    if !is_shown(text) {
+        return Ok(());
+    }
+    let witness = longer_witness(alloc, witnesses, number, pid)?;
+    Ok(write_move(out, pid, &witness, text)?)
+}
+
+// Records a text of a step from state `number`, and writes it if it is new and shown.
+fn report_text<W: Sink>(
     alloc: Global,
     reported: &mut Keys,
     witnesses: &Witnesses,
@@ -110,18 +138,40 @@ fn report<W: Sink>(
     out: &mut W,
 ) -> Result<(), Stop>
     requires { number < length witnesses.now }
-    ensures reported { OnOk result (reported.new ≡ reported_after reported.old text.now) }
-    ensures whole { OnOk result (W.written out.new ≡ and_all (W.written out.old) (reported_bytes reported.old pid (longer witnesses.now number pid) text.now)) }
-    ensures prefix { OnErr result (WritesPrefix (reported_bytes reported.old pid (longer witnesses.now number pid) text.now) (W.written out.old) (W.written out.new)) }
+    ensures reported { OnOk result (reported.new ≡ added_to reported.old text.now) }
+    ensures whole { OnOk result (W.written out.new ≡ and_all (W.written out.old) (new_bytes reported.old pid (longer witnesses.now number pid) text.now)) }
+    ensures prefix { OnErr result (WritesPrefix (new_bytes reported.old pid (longer witnesses.now number pid) text.now) (W.written out.old) (W.written out.new)) }
     ensures failed { IfErr result (λ stop. FailsBy stop (W.failures out.old) (W.failures out.new)) }
     ensures quiet { OnOk result (W.failures out.new ≡ W.failures out.old) }
 {
-    if is_reported(reported, text) {
+    if reported.contains(text) {
         return Ok(());
     }
-    let witness = longer_witness(alloc, witnesses, number, pid)?;
-    write_move(out, pid, &witness, text)?;
+    show(alloc, witnesses, number, pid, text, out)?;
     learn_key(alloc, reported, text)?;
+    Ok(())
+}
+
+// Records the texts of a step from state `number`, and writes those that are new and shown.
+fn report<W: Sink>(
+    alloc: Global,
+    reported: &mut Keys,
+    witnesses: &Witnesses,
+    number: u32,
+    pid: u32,
+    texts: &[Vec<u8>],
+    out: &mut W,
+) -> Result<(), Stop>
+    requires { number < length witnesses.now }
+    ensures reported { OnOk result (reported.new ≡ reported_after reported.old (texts_in texts.now)) }
+    ensures whole { OnOk result (W.written out.new ≡ and_all (W.written out.old) (reported_bytes reported.old pid (longer witnesses.now number pid) (texts_in texts.now))) }
+    ensures prefix { OnErr result (WritesPrefix (reported_bytes reported.old pid (longer witnesses.now number pid) (texts_in texts.now)) (W.written out.old) (W.written out.new)) }
+    ensures failed { IfErr result (λ stop. FailsBy stop (W.failures out.old) (W.failures out.new)) }
+    ensures quiet { OnOk result (W.failures out.new ≡ W.failures out.old) }
+{
+    for text in texts {
+        report_text(alloc, reported, witnesses, number, pid, text, out)?;
+    }
     Ok(())
 }
 
@@ -153,11 +203,15 @@ fn add_found_ending(
 }
 
 // Returns the first state alone.
-fn first_states(alloc: Global, position: &Position) -> Result<States, StepFault>
+fn first_states<O: Observer + Drop>(
+    alloc: Global,
+    observer: O,
+    position: &Position,
+) -> Result<States<O>, StepFault>
     ensures { IfOk result (λ states. states ≡ state_key position.now ∷ []) }
 {
     let encoded = position.encoded(alloc)?;
-    let mut states = States::new(alloc);
+    let mut states = States::new(alloc, observer);
     let _ = states.find_or_add(alloc, 1, &encoded)?;
     Ok(states)
 }
@@ -171,7 +225,7 @@ fn first_endings(alloc: Global, position: &Position) -> Result<Keys, StepFault>
     Ok(endings)
 }
 
-impl Search {
+impl<O: Observer + Drop> Search<O> {
     /// Returns a search that has visited the first state only.
     ///
     /// # Errors
@@ -179,13 +233,13 @@ impl Search {
     /// `NoMemory`, if there is no memory.
     pub(crate) fn new(
         alloc: Global,
-        limit: u32,
+        observer: O,
         first_machine: &FirstMachine,
-    ) -> Result<Search, StepFault>
-        ensures { IfOk result (λ search. visited_of search ≡ first_visited limit program_of first_machine.now) }
+    ) -> Result<Search<O>, StepFault>
+        ensures { IfOk result (λ search. visited_of search ≡ first_visited first_machine.now) }
     {
         let position = first_machine.machine();
-        let states = first_states(alloc, position)?;
+        let states = first_states(alloc, observer, position)?;
         let endings = first_endings(alloc, position)?;
         Ok(Search {
             states,
@@ -194,6 +248,28 @@ impl Search {
             endings,
             complete: true,
         })
+    }
+
+    /// Returns the result of the search.
+    pub(crate) fn end(self) -> Searched
+        ensures states { result.states ≡ length self.states }
+        ensures complete { result.complete ≡ self.complete }
+        ensures endings { result.endings ≡ length self.endings }
+        ensures texts { result.texts ≡ self.reported }
+    {
+        let Search {
+            states,
+            witnesses: _,
+            reported,
+            endings,
+            complete,
+        } = self;
+        Searched {
+            states: states.len(),
+            complete,
+            endings: endings.len(),
+            texts: reported,
+        }
     }
 
     // Records the result of visiting the state after a step of state `number`: if the state is new, its witness; if it
@@ -235,7 +311,7 @@ impl Search {
         self.keep_witness(number, pid, found)
     }
 
-    // Makes a step of a process with a machine in state `number`. Writes its text if it is new, caches the transition,
+    // Makes a step of a process with a machine in state `number`. Writes its texts if they are new, caches the transition,
     // and visits the state after it. Then the machine makes speculative steps, and is returned in an unspecified state.
     fn make_new_move<W: Sink>(
         &mut self,
@@ -248,26 +324,26 @@ impl Search {
     ) -> Result<Position, Stop>
         requires there { HasNumber self.old.states number from }
         requires found { number < length (visited_of self.old).witnesses }
-        ensures visited { OnOk result (visited_of self.new ≡ visited_after limit (visited_of self.old) (move_of (longer (visited_of self.old).witnesses number pid) pid from)) }
-        ensures whole { OnOk result (W.written out.new ≡ and_all (W.written out.old) (answer_bytes (lines_at self.old.reported (move_of (longer (visited_of self.old).witnesses number pid) pid from)))) }
-        ensures prefix { OnErr result (WritesPrefix (answer_bytes (lines_at self.old.reported (move_of (longer (visited_of self.old).witnesses number pid) pid from))) (W.written out.old) (W.written out.new)) }
+        ensures visited { OnOk result (visited_of self.new ≡ visited_after limit (visited_of self.old) (move_of (longer (visited_of self.old).witnesses number pid) pid from) (O.observe from pid (stepped from pid))) }
+        ensures whole { OnOk result (W.written out.new ≡ and_all (W.written out.old) (reported_bytes self.old.reported pid (longer (visited_of self.old).witnesses number pid) (O.observe from pid (stepped from pid)))) }
+        ensures prefix { OnErr result (WritesPrefix (reported_bytes self.old.reported pid (longer (visited_of self.old).witnesses number pid) (O.observe from pid (stepped from pid))) (W.written out.old) (W.written out.new)) }
         ensures failed { IfErr result (λ stop. FailsBy stop (W.failures out.old) (W.failures out.new)) }
         ensures quiet { OnOk result (W.failures out.new ≡ W.failures out.old) }
     {
         let _ = from.parts();
-        let (position, text) = from.trace(alloc, pid)?;
+        let (position, texts) = self.states.observe(alloc, from, pid)?;
         let encoded = position.encoded(alloc)?;
-        self.states
-            .keep_step(alloc, number as usize, pid, &text, &encoded)?;
         report(
             alloc,
             &mut self.reported,
             &self.witnesses,
             number,
             pid,
-            &text,
+            &texts,
             out,
         )?;
+        self.states
+            .keep_step(alloc, number as usize, pid, texts, &encoded)?;
         self.find(alloc, limit, &position, &encoded, number, pid)?;
         Ok(self.states.go_ahead(alloc, position, &encoded)?)
     }
@@ -287,7 +363,7 @@ impl Search {
         checkpoints.position(alloc, &witness)
     }
 
-    // Makes a step of a process in state `number` with a machine. Writes its text if it is new, caches the transition,
+    // Makes a step of a process in state `number` with a machine. Writes its texts if they are new, caches the transition,
     // and visits the state after it.
     fn make_uncached_move<W: Sink>(
         &mut self,
@@ -301,9 +377,9 @@ impl Search {
         requires there { HasNumber self.old.states number (state_at program_of checkpoints.old (witness_at (visited_of self.old) number)) }
         requires found { number < length (visited_of self.old).witnesses }
         ensures unchanged { checkpoints.new ≡ checkpoints.old }
-        ensures visited { OnOk result (visited_of self.new ≡ visited_after limit (visited_of self.old) (move_at program_of checkpoints.old (witness_at (visited_of self.old) number) pid)) }
-        ensures whole { OnOk result (W.written out.new ≡ and_all (W.written out.old) (answer_bytes (lines_at self.old.reported (move_at program_of checkpoints.old (witness_at (visited_of self.old) number) pid)))) }
-        ensures prefix { OnErr result (WritesPrefix (answer_bytes (lines_at self.old.reported (move_at program_of checkpoints.old (witness_at (visited_of self.old) number) pid))) (W.written out.old) (W.written out.new)) }
+        ensures visited { OnOk result (visited_of self.new ≡ visited_at O.observe limit program_of checkpoints.old (witness_at (visited_of self.old) number) pid (visited_of self.old)) }
+        ensures whole { OnOk result (W.written out.new ≡ and_all (W.written out.old) (bytes_at O.observe limit program_of checkpoints.old (witness_at (visited_of self.old) number) pid (visited_of self.old))) }
+        ensures prefix { OnErr result (WritesPrefix (bytes_at O.observe limit program_of checkpoints.old (witness_at (visited_of self.old) number) pid (visited_of self.old)) (W.written out.old) (W.written out.new)) }
         ensures failed { IfErr result (λ stop. FailsBy stop (W.failures out.old) (W.failures out.new)) }
         ensures quiet { OnOk result (W.failures out.new ≡ W.failures out.old) }
     {
@@ -313,7 +389,7 @@ impl Search {
         Ok(())
     }
 
-    // Takes a step of a process in state `number`, from the cache if possible. Writes its text if it is new, and visits
+    // Takes a step of a process in state `number`, from the cache if possible. Writes its texts if they are new, and visits
     // the state after it.
     fn make_move<W: Sink>(
         &mut self,
@@ -328,9 +404,9 @@ impl Search {
         requires there { HasNumber self.old.states number (state_at program_of checkpoints.old (witness_at (visited_of self.old) number)) }
         requires found { number < length (visited_of self.old).witnesses }
         ensures unchanged { checkpoints.new ≡ checkpoints.old }
-        ensures visited { OnOk result (visited_of self.new ≡ visited_after limit (visited_of self.old) (move_at program_of checkpoints.old (witness_at (visited_of self.old) number) pid)) }
-        ensures whole { OnOk result (W.written out.new ≡ and_all (W.written out.old) (answer_bytes (lines_at self.old.reported (move_at program_of checkpoints.old (witness_at (visited_of self.old) number) pid)))) }
-        ensures prefix { OnErr result (WritesPrefix (answer_bytes (lines_at self.old.reported (move_at program_of checkpoints.old (witness_at (visited_of self.old) number) pid))) (W.written out.old) (W.written out.new)) }
+        ensures visited { OnOk result (visited_of self.new ≡ visited_at O.observe limit program_of checkpoints.old (witness_at (visited_of self.old) number) pid (visited_of self.old)) }
+        ensures whole { OnOk result (W.written out.new ≡ and_all (W.written out.old) (bytes_at O.observe limit program_of checkpoints.old (witness_at (visited_of self.old) number) pid (visited_of self.old))) }
+        ensures prefix { OnErr result (WritesPrefix (bytes_at O.observe limit program_of checkpoints.old (witness_at (visited_of self.old) number) pid (visited_of self.old)) (W.written out.old) (W.written out.new)) }
         ensures failed { IfErr result (λ stop. FailsBy stop (W.failures out.old) (W.failures out.new)) }
         ensures quiet { OnOk result (W.failures out.new ≡ W.failures out.old) }
     {
@@ -338,14 +414,14 @@ impl Search {
         let Some(followed) = self.states.follow(alloc, limited, number as usize, pid)? else {
             return self.make_uncached_move(alloc, checkpoints, limit, number, pid, out);
         };
-        let Followed { text, found } = followed;
+        let Followed { texts, found } = followed;
         report(
             alloc,
             &mut self.reported,
             &self.witnesses,
             number,
             pid,
-            &text,
+            &texts,
             out,
         )?;
         self.keep_witness(number, pid, found)?;
@@ -389,9 +465,9 @@ impl Search {
         requires there { HasNumber self.old.states number (state_at program_of checkpoints.old (witness_at (visited_of self.old) number)) }
         requires found { number < length (visited_of self.old).witnesses }
         ensures unchanged { checkpoints.new ≡ checkpoints.old }
-        ensures visited { OnOk result (visited_of self.new ≡ visited_after_steps limit program_of checkpoints.old (witness_at (visited_of self.old) number) (live_at program_of checkpoints.old (witness_at (visited_of self.old) number)) (visited_of self.old)) }
-        ensures whole { OnOk result (W.written out.new ≡ and_all (W.written out.old) (answer_bytes (reported_steps limit program_of checkpoints.old (witness_at (visited_of self.old) number) (live_at program_of checkpoints.old (witness_at (visited_of self.old) number)) (visited_of self.old)))) }
-        ensures prefix { OnErr result (WritesPrefix (answer_bytes (reported_steps limit program_of checkpoints.old (witness_at (visited_of self.old) number) (live_at program_of checkpoints.old (witness_at (visited_of self.old) number)) (visited_of self.old))) (W.written out.old) (W.written out.new)) }
+        ensures visited { OnOk result (visited_of self.new ≡ visited_after_steps O.observe limit program_of checkpoints.old (witness_at (visited_of self.old) number) (live_at program_of checkpoints.old (witness_at (visited_of self.old) number)) (visited_of self.old)) }
+        ensures whole { OnOk result (W.written out.new ≡ and_all (W.written out.old) (reported_steps O.observe limit program_of checkpoints.old (witness_at (visited_of self.old) number) (live_at program_of checkpoints.old (witness_at (visited_of self.old) number)) (visited_of self.old))) }
+        ensures prefix { OnErr result (WritesPrefix (reported_steps O.observe limit program_of checkpoints.old (witness_at (visited_of self.old) number) (live_at program_of checkpoints.old (witness_at (visited_of self.old) number)) (visited_of self.old)) (W.written out.old) (W.written out.new)) }
         ensures failed { IfErr result (λ stop. FailsBy stop (W.failures out.old) (W.failures out.new)) }
         ensures quiet { OnOk result (W.failures out.new ≡ W.failures out.old) }
     {
@@ -435,9 +511,9 @@ impl Search {
         out: &mut W,
     ) -> Result<(), Stop>
         requires { AreAt first_machine.now (visited_of self.old) }
-        ensures visited { OnOk result (visited_of self.new ≡ visited_from limit program_of first_machine.now limit 0 (visited_of self.old)) }
-        ensures whole { OnOk result (W.written out.new ≡ and_all (W.written out.old) (answer_bytes (reported_from limit program_of first_machine.now limit 0 (visited_of self.old)))) }
-        ensures prefix { OnErr result (WritesPrefix (answer_bytes (reported_from limit program_of first_machine.now limit 0 (visited_of self.old))) (W.written out.old) (W.written out.new)) }
+        ensures visited { OnOk result (visited_of self.new ≡ visited_from O.observe limit program_of first_machine.now limit 0 (visited_of self.old)) }
+        ensures whole { OnOk result (W.written out.new ≡ and_all (W.written out.old) (reported_from O.observe limit program_of first_machine.now limit 0 (visited_of self.old))) }
+        ensures prefix { OnErr result (WritesPrefix (reported_from O.observe limit program_of first_machine.now limit 0 (visited_of self.old)) (W.written out.old) (W.written out.new)) }
         ensures failed { IfErr result (λ stop. FailsBy stop (W.failures out.old) (W.failures out.new)) }
         ensures quiet { OnOk result (W.failures out.new ≡ W.failures out.old) }
     {

@@ -3,24 +3,30 @@ ghost use Rattle.std.specs.Prelude.{◌≡◌, ◌++◌, ◌∷◌, [], length, 
 ghost use Rattle.std.specs.List.{AllByRecursion};
 ghost use Rattle.pv_explore.specs.Rows.{AreOfState, Grew, IsAmong, IsGroupVisited, group_row, number_in, parts_in, state_row};
 ghost use Rattle.pv_explore.specs.VisitedStates.{AreCellsIn, AreReleased, AreLiveAt, ArePlaced, ArePushed, AreEncoded, IsFoundBy, IsFoundIn, IsMade, IsRecalled, IsValidAt, MayFollow, MayKeep, number_of};
+ghost use Rattle.pv_session.specs.Running.{stepped};
+ghost use Rattle.pv_step_cache.specs.Steps.{texts_in};
 ghost use Rattle.pv_state_encoding.specs.Groups.{groups_of, joined};
 ghost use Rattle.pv_state_encoding.specs.Encoded.{encoded, encoded_all, encoded_of};
 
 use crate::ahead::make_ahead;
-use crate::keys::Keys;
+use crate::observer::Observer;
 use crate::position::Position;
 use pv_model::StepFault;
 use pv_state_encoding::{EncodedGroup, push_number};
 use pv_step_cache::{CachedSteps, Cell, Recalled, has_owner, live_owners, row_of_cells};
+use pv_step_cache::tables::Keys;
 use std::alloc::{AllocError, Global};
 use std::marker::Model;
+use std::rc::Rc;
 
 /// A set of states, in the order in which they were visited. A contract sees the encoding of each.
 ///
 /// A state is stored as a row of the numbers of its groups, and a group as a row of the numbers of its parts. Each
 /// part, group and row is stored once.
 #[derive(Drop)]
-pub(crate) struct States {
+pub(crate) struct States<O: Observer + Drop> {
+    // The observer of the steps.
+    observer: O,
     // The encodings of parts.
     parts: Keys,
     // Rows of part numbers.
@@ -47,13 +53,13 @@ pub(crate) enum Visit {
 /// The result of a step that was taken from the cache.
 #[derive(Drop)]
 pub(crate) struct Followed {
-    /// The trace lines of the step.
-    pub(crate) text: Vec<u8>,
+    /// The texts observed of the step.
+    pub(crate) texts: Rc<Vec<Vec<u8>>>,
     /// The result of visiting the state after the step.
     pub(crate) found: Visit,
 }
 
-impl Model for States {
+impl<O: Observer + Drop> Model for States<O> {
     ghost use Rattle.std.specs.Prelude.{List, map};
     ghost use Rattle.pv_explore.specs.VisitedStates.{IsFine};
     ghost use Rattle.pv_explore.specs.Rows.{state_bytes};
@@ -63,7 +69,7 @@ impl Model for States {
 
     ghost view = { λ s. map (state_bytes s.parts s.groups) s.rows };
 
-    ghost invariant = { λ s. IsFine s.parts s.groups s.rows s.cells.items s.steps.steps.items };
+    ghost invariant = { λ s. IsFine O.observe s.parts s.groups s.rows s.cells.items s.steps.steps.items };
 }
 
 // Returns the row of a group: the number of each part. A part that is not stored has the number of stored parts.
@@ -200,7 +206,7 @@ fn recalled(
     number: usize,
     pid: u32,
 ) -> Result<Option<Recalled>, AllocError>
-    ensures { IfOk result (λ made. IfSome made (λ r. IsRecalled cells.now steps.now.steps.items number pid r.text.items r.cells.items)) }
+    ensures { IfOk result (λ made. IfSome made (λ r. IsRecalled cells.now steps.now.steps.items number pid (texts_in r.texts.value.items) r.cells.items)) }
 {
     let Some(before) = cells.get(number) else {
         return Ok(None);
@@ -225,9 +231,9 @@ fn keep_made(
     number: usize,
     pid: u32,
     after: &[Cell],
-    text: &[u8],
+    texts: Vec<Vec<u8>>,
 ) -> Result<(), AllocError>
-    ensures { MayKeep cells.now number pid after.now text.now steps.old.steps.items steps.new.steps.items }
+    ensures { MayKeep cells.now number pid after.now (texts_in texts.items) steps.old.steps.items steps.new.steps.items }
 {
     let Some(before) = cells.get(number) else {
         return Ok(());
@@ -235,7 +241,7 @@ fn keep_made(
     if before.is_empty() {
         return Ok(());
     }
-    steps.keep(alloc, before, after, pid, text)
+    steps.keep(alloc, before, after, pid, texts)
 }
 
 // Releases the cells of state `number`.
@@ -282,12 +288,13 @@ fn place(
     Ok(Visit::New)
 }
 
-impl States {
+impl<O: Observer + Drop> States<O> {
     /// Returns an empty set.
-    pub(crate) fn new(alloc: Global) -> States
+    pub(crate) fn new(alloc: Global, observer: O) -> States<O>
         ensures { result ≡ [] }
     {
         States {
+            observer,
             parts: Keys::new(alloc),
             groups: Keys::new(alloc),
             rows: Keys::new(alloc),
@@ -358,8 +365,26 @@ impl States {
         Ok(found)
     }
 
-    /// Caches the transition of a process's step in state `number`, given its trace lines and the groups of the state
-    /// after it.
+    /// Makes a step of a process with a machine. Returns the machine after it, and the texts observed of the step.
+    ///
+    /// # Errors
+    ///
+    /// `NoMemory`, if there is no memory.
+    pub(crate) fn observe(
+        &mut self,
+        alloc: Global,
+        position: Position,
+        pid: u32,
+    ) -> Result<(Position, Vec<Vec<u8>>), StepFault>
+        ensures unchanged { self.new ≡ self.old }
+        ensures after { IfOk result (λ made. made.0 ≡ (stepped position pid).after) }
+        ensures texts { IfOk result (λ made. texts_in made.1.items ≡ O.observe position pid (stepped position pid)) }
+    {
+        position.observe(alloc, &mut self.observer, pid)
+    }
+
+    /// Caches the transition of a process's step in state `number`, given the texts observed of it and the groups of the
+    /// state after it.
     ///
     /// # Errors
     ///
@@ -369,10 +394,10 @@ impl States {
         alloc: Global,
         number: usize,
         pid: u32,
-        text: &[u8],
+        texts: Vec<Vec<u8>>,
         after: &[EncodedGroup],
     ) -> Result<(), StepFault>
-        requires { IsMade self.old number pid text.now (encoded_all after.now) }
+        requires { IsMade O.observe self.old number pid (texts_in texts.items) (encoded_all after.now) }
         ensures { OnOk result (self.new ≡ self.old) }
     {
         let cells = learn_cells(alloc, &mut self.parts, &mut self.groups, after)?;
@@ -383,7 +408,7 @@ impl States {
             number,
             pid,
             &cells,
-            text,
+            texts,
         )?)
     }
 
@@ -412,6 +437,7 @@ impl States {
         let cells = learn_cells(alloc, &mut self.parts, &mut self.groups, groups)?;
         make_ahead(
             alloc,
+            &mut self.observer,
             &mut self.parts,
             &mut self.groups,
             &mut self.steps,
@@ -434,14 +460,14 @@ impl States {
         pid: u32,
     ) -> Result<Option<Followed>, StepFault>
         requires { IsValidAt self.old number }
-        ensures { IfOk result (MayFollow limit self.old self.new number pid) }
+        ensures { IfOk result (MayFollow O.observe limit self.old self.new number pid) }
     {
         let Some(made) = recalled(alloc, &self.cells, &self.steps, number, pid)? else {
             return Ok(None);
         };
-        let Recalled { text, cells } = made;
+        let Recalled { texts, cells } = made;
         let row = row_of_cells(alloc, &cells)?;
         let found = place(&mut self.rows, &mut self.cells, limit, row, cells)?;
-        Ok(Some(Followed { text, found }))
+        Ok(Some(Followed { texts, found }))
     }
 }

@@ -35,7 +35,7 @@ use pv_tree::Tree;
 use std::alloc::Global;
 
 // Flushes the text of an answer: all of it, or a prefix if there is no memory.
-fn flush_buffer<W: Sink>(end: Result<(), Stop>, out: &mut W) -> Result<(), AskStop>
+fn flush_buffer<T: Drop, W: Sink>(end: Result<T, Stop>, out: &mut W) -> Result<(), AskStop>
     ensures preserved { W.written out.new ≡ W.written out.old }
     ensures done { OnOk result (OnErr end ⊥) }
     ensures empty { OnOk result (W.buffered out.new ≡ 0) }
@@ -45,7 +45,7 @@ fn flush_buffer<W: Sink>(end: Result<(), Stop>, out: &mut W) -> Result<(), AskSt
     ensures counted { end ≡ Err Stop.Write → W.failures out.new ≡ W.failures out.old }
 {
     match end {
-        Ok(()) => {
+        Ok(_) => {
             out.flush()?;
             Ok(())
         }

@@ -1,11 +1,11 @@
 -- A cached transition is valid for every step with the same key, and stays valid when more groups are stored.
 use Rattle.std.proofs.Common.{◌≡◌, ◌∙◌, sym, ap, ap₂, subst, ℕ, Bool, true, false, ◌==◌, if◌then◌else◌, List, [], ◌∷◌, map}
 use Rattle.std.specs.List.{AllByRecursion}
+use Rattle.pv_model.specs.Answers.Observed.{Observer}
 use Rattle.pv_model.specs.Bytes.{Bytes}
 use Rattle.pv_model.specs.Grammar.Programs.{program_of}
 use Rattle.pv_model.specs.State.{State}
 use Rattle.pv_model.specs.Step.{step}
-use Rattle.pv_model.specs.Trace.{trace_bytes}
 use Rattle.pv_laws_states.specs.States.{IsValid}
 use Rattle.pv_laws_steps.specs.Seen.{seen, with_insides}
 use Rattle.pv_laws_steps.proofs.SeenSteps.{steps-by_seen}
@@ -15,7 +15,7 @@ use Rattle.pv_step_cache.specs.declared.cells.Cell.{Cell}
 use Rattle.pv_step_cache.specs.declared.cells.Edit.{Edit}
 use Rattle.pv_step_cache.specs.declared.cells.Edit.TheVariants.{Keep, Put}
 use Rattle.pv_step_cache.specs.Edits.{cell_of, seen_number, step_key, edited, IsEdit, AreEdits}
-use Rattle.pv_step_cache.specs.Cached.{IsCachedBoth, AreCells, IsStep, AreApart, KeepsMore}
+use Rattle.pv_step_cache.specs.Cached.{IsCachedBoth, AreCells, DependsOnSeen, IsStep, AreApart, KeepsMore}
 use Rattle.pv_step_cache.proofs.Keys.{same-seen}
 use Rattle.pv_step_cache.proofs.Afters.{AreAfter, all-after, all-edited, all-cached}
 
@@ -49,21 +49,21 @@ module _ (number : List Bytes → ℕ) (IsCached : List Bytes → Type 0) (apart
       let first : seen_of pid c ≡ seen_of pid d = apart (seen_of pid c) (seen_of pid d) (seen-cached pid d cached.0) (sym (seen-is pid c) ∙ both.0 ∙ seen-is pid d) in
       ap₂ (λ (g : List Bytes) gs. g ∷ gs) first (same-numbers pid cs ds cached.1 both.1)
 
-  -- the text and the cells of a step in another state with the same key, from the cached transition
-  pub record IsAgain (pid : ℕ) (t : State) (text : Bytes) (cells : List Cell) : Type 0 where
-    pub text_is : text ≡ trace_bytes (step program_of t pid).lines
+  -- the texts and the cells of a step in another state with the same key, from the cached transition
+  pub record IsAgain (observe : Observer Bytes) (pid : ℕ) (t : State) (texts : List Bytes) (cells : List Cell) : Type 0 where
+    pub texts_are : texts ≡ observe t pid (step program_of t pid)
     pub cells_are : AreCells number IsCached (step program_of t pid).after cells
 
-  pub step-again : (key text : Bytes) (edits : List Edit) → IsStep number IsCached key text edits → (t : State) (pid : ℕ) (cells : List Cell) → IsValid t → AreCells number IsCached t cells
-      → key ≡ step_key pid cells → IsAgain pid t text (map (edited cells) edits)
-  step-again key text edits it t pid cells whole there same =
+  pub step-again : (observe : Observer Bytes) → DependsOnSeen observe → (key : Bytes) (texts : List Bytes) (edits : List Edit) → IsStep number IsCached observe key texts edits → (t : State) (pid : ℕ) (cells : List Cell) → IsValid t → AreCells number IsCached t cells
+      → key ≡ step_key pid cells → IsAgain observe pid t texts (map (edited cells) edits)
+  step-again observe depends key texts edits it t pid cells whole there same =
       let numbers = heads pid it.pid (map (seen_number pid) (map (cell_of number) (encoded t))) (map (seen_number it.pid) (map (cell_of number) (encoded it.state)))
       (packed-apart (pid ∷ map (seen_number pid) (map (cell_of number) (encoded t))) (it.pid ∷ map (seen_number it.pid) (map (cell_of number) (encoded it.state)))
       (ap (step_key pid) (sym there.are) ∙ sym same ∙ it.key_is)) in
       again numbers.0 numbers.1
     where
       again : pid ≡ it.pid → map (seen_number pid) (map (cell_of number) (encoded t)) ≡ map (seen_number it.pid) (map (cell_of number) (encoded it.state))
-          → IsAgain pid t text (map (edited cells) edits)
+          → IsAgain observe pid t texts (map (edited cells) edits)
       again own same_numbers =
           let groups : map (seen_of it.pid) (encoded t) ≡ map (seen_of it.pid) (encoded it.state) =
           same-numbers it.pid (encoded t) (encoded it.state) it.before (ap (λ (k : ℕ). map (seen_number k) (map (cell_of number) (encoded t))) (sym own) ∙ same_numbers) in
@@ -73,8 +73,8 @@ module _ (number : List Bytes → ℕ) (IsCached : List Bytes → Type 0) (apart
           all-after number it.pid it.state t whole alike (step program_of it.state it.pid).after edits it.edits_are in
           let edited_are = all-edited number it.pid it.state t (encoded (with_insides it.pid t (step program_of it.state it.pid).after)) (encoded (step program_of it.state it.pid).after) edits are in
           let cached = all-cached number it.pid it.state t (IsCachedBoth number IsCached) (encoded (with_insides it.pid t (step program_of it.state it.pid).after)) (encoded (step program_of it.state it.pid).after) edits there.cached it.after are in
-          subst (λ (k : ℕ). IsAgain k t text (map (edited cells) edits)) (sym own) (record {
-            text_is = it.text_is ∙ ap trace_bytes (sym steps.lines);
+          subst (λ (k : ℕ). IsAgain observe k t texts (map (edited cells) edits)) (sym own) (record {
+            texts_are = it.texts_are ∙ depends it.state t it.pid it.whole whole alike;
             cells_are = record {
               are =
                   ap (λ (cs : List Cell). map (edited cs) edits) there.are ∙ sym edited_are ∙ ap (λ (x : State). map (cell_of number) (encoded x)) (sym steps.after);
@@ -112,14 +112,14 @@ module _ (number : List Bytes → ℕ) (IsCached : List Bytes → Type 0) (numbe
   edits-more pid before (c ∷ cs) [] cached are = absurd are
   edits-more pid before (c ∷ cs) (e ∷ es) cached are = (edit-more pid before c e cached.0 are.0, edits-more pid before cs es cached.1 are.1)
 
-  pub step-more : (key text : Bytes) (edits : List Edit) → IsStep number IsCached key text edits → IsStep number_now IsCachedNow key text edits
-  step-more key text edits it = record {
+  pub step-more : (observe : Observer Bytes) (key : Bytes) (texts : List Bytes) (edits : List Edit) → IsStep number IsCached observe key texts edits → IsStep number_now IsCachedNow observe key texts edits
+  step-more observe key texts edits it = record {
     state = it.state;
     pid = it.pid;
     whole = it.whole;
     before = cached-more (encoded it.state) it.before;
     after = cached-more (encoded (step program_of it.state it.pid).after) it.after;
     key_is = it.key_is ∙ ap (step_key it.pid) (sym (cells-same (encoded it.state) it.before));
-    text_is = it.text_is;
+    texts_are = it.texts_are;
     edits_are = edits-more it.pid (encoded it.state) (encoded (step program_of it.state it.pid).after) edits it.after it.edits_are;
   }

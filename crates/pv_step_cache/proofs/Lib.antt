@@ -1,10 +1,11 @@
 -- Lemmas about cached transitions: Keys (the key determines the part of the state on which a step depends), Afters (the
 -- edits determine the state after the step), Again (a cached transition is valid for every step with its key, and stays
 -- valid when more groups are stored), CellLists (loops over cells, and edits of cells), LiveOwners (live processes by
--- cells), Recalling (lookup and insertion).
+-- cells), KeyLists (byte strings in tables), Recalling (lookup and insertion).
 pub mod Keys
 pub mod Afters
 pub mod Again
 pub mod CellLists
 pub mod LiveOwners
+pub mod KeyLists
 pub mod Recalling

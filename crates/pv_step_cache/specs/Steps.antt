@@ -1,9 +1,18 @@
 -- Cached transitions.
 use Rattle.std.specs.Prelude.{◌≡◌, ℕ, ◌⊎◌, List, [], ◌∷◌, ◌++◌, map, slice_get, Some}
+use Rattle.std.specs.Global.{Vec}
 use Rattle.pv_model.specs.Bytes.{Bytes}
 use Rattle.pv_step_cache.specs.declared.cells.Cell.{Cell}
 use Rattle.pv_step_cache.specs.declared.steps.CachedStep.{CachedStep}
 use Rattle.pv_step_cache.specs.Edits.{edited, step_key, AreCellEdits}
+
+-- the texts of a list of the code
+abbrev pub texts_in : List (Vec ℕ) → List Bytes
+texts_in texts = map (λ t. t.items) texts
+
+-- the texts of a transition
+abbrev pub texts_of : CachedStep → List Bytes
+texts_of step = texts_in step.texts.value.items
 
 -- one of the transitions has this key
 pub record IsFound (steps : List CachedStep) (key : Bytes) (step : CachedStep) : Type 0 where
@@ -15,19 +24,19 @@ pub record IsFound (steps : List CachedStep) (key : Bytes) (step : CachedStep) :
 abbrev pub HasStep : List CachedStep → Bytes → Type 0
 HasStep steps key = (step : CachedStep) × IsFound steps key step
 
--- the text and the cells are those of a transition with this key
-pub record WasCached (steps : List CachedStep) (key : Bytes) (cells : List Cell) (text : Bytes) (after : List Cell) : Type 0 where
+-- the texts and the cells are those of a transition with this key
+pub record WasCached (steps : List CachedStep) (key : Bytes) (cells : List Cell) (texts : List Bytes) (after : List Cell) : Type 0 where
   pub step : CachedStep
   pub found : IsFound steps key step
-  pub text_is : text ≡ step.text.items
+  pub texts_are : texts ≡ texts_of step
   pub after_is : after ≡ map (edited cells) step.edits.items
 
 -- a transition is the step of a process between these cells
-pub record IsOfCells (step : CachedStep) (pid : ℕ) (before after : List Cell) (text : Bytes) : Type 0 where
+pub record IsOfCells (step : CachedStep) (pid : ℕ) (before after : List Cell) (texts : List Bytes) : Type 0 where
   pub key_is : step.key.items ≡ step_key pid before
-  pub text_is : step.text.items ≡ text
+  pub texts_are : texts_of step ≡ texts
   pub edits_are : AreCellEdits pid before after step.edits.items
 
 -- the cache is unchanged, or has one more transition
-abbrev pub Adds : List CachedStep → List CachedStep → ℕ → List Cell → List Cell → Bytes → Type 0
-Adds old new pid before after text = (new ≡ old) ⊎ ((step : CachedStep) × (new ≡ old ++ step ∷ []) × IsOfCells step pid before after text)
+abbrev pub Adds : List CachedStep → List CachedStep → ℕ → List Cell → List Cell → List Bytes → Type 0
+Adds old new pid before after texts = (new ≡ old) ⊎ ((step : CachedStep) × (new ≡ old ++ step ∷ []) × IsOfCells step pid before after texts)

@@ -2,16 +2,17 @@
 ghost use Rattle.std.specs.Prelude.{◌≡◌, ◌++◌, ◌∷◌, [], true, IfOk, IfSome, OnErr, OnOk};
 
 use crate::cells::{Cell, Edit, edited_cells, edits_of, step_key};
-use indexmap::IndexSet;
+use crate::tables::Keys;
 use std::alloc::{AllocError, Global};
+use std::rc::Rc;
 
 /// A cached transition.
 #[derive(Drop)]
 pub struct CachedStep {
     /// The key of the step.
     pub key: Vec<u8>,
-    /// The trace lines of the step.
-    pub text: Vec<u8>,
+    /// The texts observed of the step.
+    pub texts: Rc<Vec<Vec<u8>>>,
     /// The edits that yield the cells after the step.
     pub edits: Vec<Edit>,
 }
@@ -20,7 +21,7 @@ pub struct CachedStep {
 #[derive(Drop)]
 pub struct CachedSteps {
     // The keys, for lookup.
-    keys: IndexSet<Vec<u8>>,
+    keys: Keys,
     /// The transitions.
     pub steps: Vec<CachedStep>,
 }
@@ -28,8 +29,8 @@ pub struct CachedSteps {
 /// The result of a step, from the cached transition with its key.
 #[derive(Drop)]
 pub struct Recalled {
-    /// The trace lines of the step.
-    pub text: Vec<u8>,
+    /// The texts observed of the step.
+    pub texts: Rc<Vec<Vec<u8>>>,
     /// The cells after the step.
     pub cells: Vec<Cell>,
 }
@@ -45,14 +46,14 @@ fn copy_of(alloc: Global, bytes: &[u8]) -> Result<Vec<u8>, AllocError>
 
 impl CachedSteps {
     ghost use Rattle.pv_step_cache.specs.Edits.{step_key};
-    ghost use Rattle.pv_step_cache.specs.Steps.{Adds, HasStep, IsFound, WasCached};
+    ghost use Rattle.pv_step_cache.specs.Steps.{Adds, HasStep, IsFound, WasCached, texts_in};
 
     /// Returns an empty cache.
     pub fn new(alloc: Global) -> CachedSteps
         ensures { result.steps.items ≡ [] }
     {
         CachedSteps {
-            keys: IndexSet::new(alloc),
+            keys: Keys::new(alloc),
             steps: Vec::new(alloc),
         }
     }
@@ -61,7 +62,7 @@ impl CachedSteps {
     fn find(&self, key: &[u8]) -> Option<&CachedStep>
         ensures { IfSome result (λ step. IsFound self.now.steps.items key.now step.now) }
     {
-        let number = self.keys.get_index_of(key)?;
+        let number = self.keys.find(key)?;
         let step = self.steps.get(number)?;
         if step.key.as_slice() == key {
             Some(step)
@@ -76,7 +77,7 @@ impl CachedSteps {
         ensures unchanged { OnErr result (self.new.steps.items ≡ self.old.steps.items) }
     {
         let key = copy_of(alloc, &step.key)?;
-        let _ = self.keys.insert_full(key)?;
+        let _ = self.keys.add(key)?;
         self.steps.push(step)?;
         Ok(())
     }
@@ -107,19 +108,19 @@ impl CachedSteps {
         cells: &[Cell],
         pid: u32,
     ) -> Result<Option<Recalled>, AllocError>
-        ensures { IfOk result (λ made. IfSome made (λ r. WasCached self.now.steps.items (step_key pid cells.now) cells.now r.text.items r.cells.items)) }
+        ensures { IfOk result (λ made. IfSome made (λ r. WasCached self.now.steps.items (step_key pid cells.now) cells.now (texts_in r.texts.value.items) r.cells.items)) }
     {
         let key = step_key(alloc, cells, pid)?;
         let Some(step) = self.find(&key) else {
             return Ok(None);
         };
-        let text = copy_of(alloc, &step.text)?;
+        let texts = step.texts.clone()?;
         let cells = edited_cells(alloc, cells, &step.edits)?;
-        Ok(Some(Recalled { text, cells }))
+        Ok(Some(Recalled { texts, cells }))
     }
 
-    /// Adds the transition of a process's step, given the cells before and after it. Adds nothing if the step changed
-    /// the cell of another live process, or if a transition with the same key is cached.
+    /// Adds the transition of a process's step, given the cells before and after it and the texts observed of it. Adds
+    /// nothing if the step changed the cell of another live process, or if a transition with the same key is cached.
     ///
     /// # Errors
     ///
@@ -130,9 +131,9 @@ impl CachedSteps {
         before: &[Cell],
         after: &[Cell],
         pid: u32,
-        text: &[u8],
+        texts: Vec<Vec<u8>>,
     ) -> Result<(), AllocError>
-        ensures cached { OnOk result (Adds self.old.steps.items self.new.steps.items pid before.now after.now text.now) }
+        ensures cached { OnOk result (Adds self.old.steps.items self.new.steps.items pid before.now after.now (texts_in texts.items)) }
         ensures unchanged { OnErr result (self.new.steps.items ≡ self.old.steps.items) }
     {
         let key = step_key(alloc, before, pid)?;
@@ -142,7 +143,7 @@ impl CachedSteps {
         let Some(edits) = edits_of(alloc, before, after, pid)? else {
             return Ok(());
         };
-        let text = copy_of(alloc, text)?;
-        self.add(alloc, CachedStep { key, text, edits })
+        let texts = Rc::new(alloc, texts)?;
+        self.add(alloc, CachedStep { key, texts, edits })
     }
 }

@@ -2,7 +2,7 @@ use Rattle.pv_explore.proofs.Rows.{grew-then}
 use Rattle.pv_explore.proofs.ahead.make_ahead.Goals as goal
 
 pub ahead-preserved : goal.ahead-preserved
-ahead-preserved c = record {
+ahead-preserved g c = record {
   parts_grew = grew-then c.args.parts.now c.ahead.parts c.make_one.new.parts c.ahead.invariant.parts_grew c.make_one.ensures.parts_grew;
   groups_grew = grew-then c.args.groups.now c.ahead.groups c.make_one.new.groups c.ahead.invariant.groups_grew c.make_one.ensures.groups_grew;
   steps = c.make_one.ensures.steps;

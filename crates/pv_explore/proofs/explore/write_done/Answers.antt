@@ -1,4 +1,4 @@
-use Rattle.std.proofs.Common.{[], ◌++◌, length}
+use Rattle.std.proofs.Common.{[], ◌++◌}
 use Rattle.std.proofs.lemmas.Result.{on_err_weaker}
 use Rattle.pv_model.specs.Answers.Explore.{endings_line, states_line}
 use Rattle.pv_model.specs.Answers.Lines.{answer_line_bytes}
@@ -7,14 +7,13 @@ use Rattle.pv_explore.proofs.explore.write_done.Goals as goal
 
 pub returns-in_err-write_states-clause-prefix : goal.returns-in_err-write_states-clause-prefix
 returns-in_err-write_states-clause-prefix g c =
-    let s = c.args.search.now in
-    on_err c.from_residual.result
-    (begins_first (answer_line_bytes (states_line (length s.states) s.complete)) (answer_line_bytes (endings_line (length s.endings)) ++ []) _ _ (rw c.len.ensures at c.in_err-write_states.ensures.prefix))
+    let r = c.args.searched.now in
+    on_err c.from_residual.result (begins_first (answer_line_bytes (states_line r.states r.complete)) (answer_line_bytes (endings_line r.endings) ++ []) _ _ c.in_err-write_states.ensures.prefix)
 
 pub returns-clause-prefix : goal.returns-clause-prefix
 returns-clause-prefix g c =
-    let s = c.args.search.now in
+    let r = c.args.searched.now in
     on_err_weaker c.write_endings.result
-    (λ begun. begins_then (answer_line_bytes (states_line (length s.states) s.complete)) (answer_line_bytes (endings_line (length s.endings)) ++ []) _ _ _ (rw c.len.ensures at c.in_ok-write_states.ensures.whole)
-    (begins_first (answer_line_bytes (endings_line (length s.endings))) [] _ _ begun))
-    (rw c.len-2.ensures at c.write_endings.ensures.prefix)
+    (λ begun. begins_then (answer_line_bytes (states_line r.states r.complete)) (answer_line_bytes (endings_line r.endings) ++ []) _ _ _ c.in_ok-write_states.ensures.whole
+    (begins_first (answer_line_bytes (endings_line r.endings)) [] _ _ begun))
+    c.write_endings.ensures.prefix

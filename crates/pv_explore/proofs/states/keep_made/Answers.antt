@@ -3,7 +3,7 @@ use Rattle.std.proofs.lemmas.Bool.Decides.{nat_tests}
 use Rattle.std.proofs.lemmas.Option.{slice_get-get_or}
 use Rattle.pv_explore.proofs.VisitedStates.{either}
 use Rattle.pv_step_cache.specs.declared.cells.Cell.{Cell}
-use Rattle.pv_step_cache.specs.Steps.{Adds}
+use Rattle.pv_step_cache.specs.Steps.{Adds, texts_in}
 use Rattle.pv_explore.proofs.states.keep_made.Goals as goal
 
 pub returns : goal.returns
@@ -23,6 +23,6 @@ returns c =
       before = before;
       at = slice_get-get_or cells number before within ∙ ap Some (sym found.1);
       there = some;
-      adds = subst (λ (cs : List Cell). Adds c.args.steps.now.steps.items c.keep.new.self.steps.items c.args.pid cs c.args.after.now c.args.text.now) c.deref.ensures.value adds;
+      adds = subst (λ (cs : List Cell). Adds c.args.steps.now.steps.items c.keep.new.self.steps.items c.args.pid cs c.args.after.now (texts_in c.args.texts.items)) c.deref.ensures.value adds;
     }))
     (λ same. inl same)

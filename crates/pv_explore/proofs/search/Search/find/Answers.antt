@@ -6,7 +6,7 @@ use Rattle.pv_explore.proofs.Followed.{visited-found}
 use Rattle.pv_explore.proofs.search.Search.find.Goals as goal
 
 pub returns : goal.returns
-returns c =
+returns g c =
     let t = c.args.position.now in
     let old = visited_of c.args.self.now in
     let it = c.in_ok-found.ensures t c.requires.groups in

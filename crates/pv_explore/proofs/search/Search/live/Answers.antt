@@ -8,7 +8,7 @@ use Rattle.pv_model.specs.Grammar.Programs.{program_of}
 use Rattle.pv_explore.proofs.search.Search.live.Goals as goal
 
 pub returns-in-Some-clause-live : goal.returns-in-Some-clause-live
-returns-in-Some-clause-live c =
+returns-in-Some-clause-live g c =
     let s = c.args.checkpoints.now in
     let witness = witness_at (visited_of c.args.self.now) c.args.number in
     let live = subst (λ (o : Option (Vec ℕ)). IfSome o (λ pids. AreLiveAt c.args.self.now.states c.args.number pids.items)) c.in-Some.is c.in_ok-pids.ensures in

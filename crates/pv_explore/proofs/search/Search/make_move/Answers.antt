@@ -1,15 +1,14 @@
-use Rattle.std.proofs.Common.{◌∙◌, ap, Option, refl, subst}
+use Rattle.std.proofs.Common.{◌∙◌, ap, List, Option, refl, subst, ℕ}
+use Rattle.std.specs.Global.{Vec}
 use Rattle.pv_explore.specs.declared.states.Followed.{Followed}
 use Rattle.pv_explore.specs.VisitedStates.{MayFollow}
-use Rattle.pv_explore.specs.Plan.{visited_after, lines_at, state_at, reported_after}
+use Rattle.pv_explore.specs.Plan.{reported_after, reported_bytes, state_at}
 use Rattle.pv_explore.specs.Searches.{visited_of, witness_at}
 use Rattle.pv_explore.specs.Witnesses.{longer}
-use Rattle.pv_explore.proofs.Finding.{lines-bytes, move-is}
 use Rattle.pv_explore.proofs.Followed.{visited-followed, whole-at}
-use Rattle.pv_model.specs.Answers.Explore.{Move}
-use Rattle.pv_model.specs.Answers.Lines.{answer_bytes}
 use Rattle.pv_model.specs.Bytes.{Bytes}
 use Rattle.pv_model.specs.Grammar.Programs.{program_of}
+use Rattle.pv_step_cache.specs.Steps.{texts_in}
 use Rattle.pv_streams.specs.Sinks.{and_all, WritesPrefix}
 use Rattle.pv_streams.proofs.Sinks.{begins_whole}
 use Rattle.pv_streams.proofs.Reporting.{on_err}
@@ -24,57 +23,52 @@ follow-requires g c =
 pub returns-in_err-report-clause-prefix : goal.returns-in_err-report-clause-prefix
 returns-in_err-report-clause-prefix g c =
     let s = c.args.checkpoints.now in
-    let witness = witness_at (visited_of c.args.self.now) c.args.number in
-    let pid = c.args.pid in
+    let old = visited_of c.args.self.now in
+    let witness = witness_at old c.args.number in
     let t = state_at program_of s witness in
-    let reported = c.args.self.now.reported in
-    let long = longer (visited_of c.args.self.now).witnesses c.args.number pid in
-    let may = subst (λ (o : Option Followed). MayFollow c.args.limit c.args.self.now.states c.follow.new.self c.args.number pid o) c.in-Some.is c.in_ok-followed.ensures in
+    let long = longer old.witnesses c.args.number c.args.pid in
+    let may = subst (λ (o : Option Followed). MayFollow g.O.Observer.observe c.args.limit c.args.self.now.states c.follow.new.self c.args.number c.args.pid o) c.in-Some.is c.in_ok-followed.ensures in
     let it = may t (whole-at s witness c.requires.whole) c.requires.there in
-    let moved = move-is s t witness long pid refl refl in
-    let is = lines-bytes reported long pid t c.deref.result.now (c.deref.ensures.value ∙ it.text_is) ∙ ap (λ (m : Move). answer_bytes (lines_at reported m)) moved in
+    let texts_are = ap (λ (ts : List (Vec ℕ)). texts_in ts) c.deref-2.ensures.value ∙ ap (λ (ts : Vec (Vec ℕ)). texts_in ts.items) c.deref.ensures in
+    let is = ap (reported_bytes old.reported c.args.pid long) (texts_are ∙ it.texts_are) in
     on_err c.from_residual-in_err-report.result
     (subst (λ (bs : Bytes). WritesPrefix bs (g.W.Sink.written c.args.out.now) (g.W.Sink.written c.report.new.out)) is c.in_err-report.ensures.prefix)
 
 pub returns-in_err-keep_witness-clause-prefix : goal.returns-in_err-keep_witness-clause-prefix
 returns-in_err-keep_witness-clause-prefix g c =
     let s = c.args.checkpoints.now in
-    let witness = witness_at (visited_of c.args.self.now) c.args.number in
-    let pid = c.args.pid in
+    let old = visited_of c.args.self.now in
+    let witness = witness_at old c.args.number in
     let t = state_at program_of s witness in
-    let reported = c.args.self.now.reported in
-    let long = longer (visited_of c.args.self.now).witnesses c.args.number pid in
-    let may = subst (λ (o : Option Followed). MayFollow c.args.limit c.args.self.now.states c.follow.new.self c.args.number pid o) c.in-Some.is c.in_ok-followed.ensures in
+    let long = longer old.witnesses c.args.number c.args.pid in
+    let may = subst (λ (o : Option Followed). MayFollow g.O.Observer.observe c.args.limit c.args.self.now.states c.follow.new.self c.args.number c.args.pid o) c.in-Some.is c.in_ok-followed.ensures in
     let it = may t (whole-at s witness c.requires.whole) c.requires.there in
-    let moved = move-is s t witness long pid refl refl in
-    let is = lines-bytes reported long pid t c.deref.result.now (c.deref.ensures.value ∙ it.text_is) ∙ ap (λ (m : Move). answer_bytes (lines_at reported m)) moved in
+    let texts_are = ap (λ (ts : List (Vec ℕ)). texts_in ts) c.deref-2.ensures.value ∙ ap (λ (ts : Vec (Vec ℕ)). texts_in ts.items) c.deref.ensures in
+    let is = ap (reported_bytes old.reported c.args.pid long) (texts_are ∙ it.texts_are) in
     on_err c.from_residual-in_err-keep_witness.result (begins_whole _ _ _ (c.in_ok-report.ensures.whole ∙ ap (and_all (g.W.Sink.written c.args.out.now)) is))
 
 pub returns-clause-visited : goal.returns-clause-visited
 returns-clause-visited g c =
     let s = c.args.checkpoints.now in
-    let witness = witness_at (visited_of c.args.self.now) c.args.number in
-    let pid = c.args.pid in
-    let t = state_at program_of s witness in
-    let reported = c.args.self.now.reported in
-    let long = longer (visited_of c.args.self.now).witnesses c.args.number pid in
-    let may = subst (λ (o : Option Followed). MayFollow c.args.limit c.args.self.now.states c.follow.new.self c.args.number pid o) c.in-Some.is c.in_ok-followed.ensures in
-    let it = may t (whole-at s witness c.requires.whole) c.requires.there in
-    let moved = move-is s t witness long pid refl refl in
     let old = visited_of c.args.self.now in
-    visited-followed c.args.limit old (visited_of c.keep_witness.new.self) long pid t c.in-Some.followed.text.items c.follow.new.self c.report.new.reported c.in-Some.followed.found it (c.in_ok-report.ensures.reported ∙ ap (reported_after reported) c.deref.ensures.value) c.in_ok-keep_witness.ensures
-    ∙ ap (visited_after c.args.limit old) moved
+    let witness = witness_at old c.args.number in
+    let t = state_at program_of s witness in
+    let long = longer old.witnesses c.args.number c.args.pid in
+    let may = subst (λ (o : Option Followed). MayFollow g.O.Observer.observe c.args.limit c.args.self.now.states c.follow.new.self c.args.number c.args.pid o) c.in-Some.is c.in_ok-followed.ensures in
+    let it = may t (whole-at s witness c.requires.whole) c.requires.there in
+    let texts_are = ap (λ (ts : List (Vec ℕ)). texts_in ts) c.deref-2.ensures.value ∙ ap (λ (ts : Vec (Vec ℕ)). texts_in ts.items) c.deref.ensures in
+    visited-followed g.O.Observer.observe c.args.limit old (visited_of c.keep_witness.new.self) long c.args.pid t (texts_in c.in-Some.followed.texts.value.items) c.follow.new.self c.report.new.reported c.in-Some.followed.found it
+    (c.in_ok-report.ensures.reported ∙ ap (reported_after old.reported) texts_are) c.in_ok-keep_witness.ensures
 
 pub returns-clause-whole : goal.returns-clause-whole
 returns-clause-whole g c =
     let s = c.args.checkpoints.now in
-    let witness = witness_at (visited_of c.args.self.now) c.args.number in
-    let pid = c.args.pid in
+    let old = visited_of c.args.self.now in
+    let witness = witness_at old c.args.number in
     let t = state_at program_of s witness in
-    let reported = c.args.self.now.reported in
-    let long = longer (visited_of c.args.self.now).witnesses c.args.number pid in
-    let may = subst (λ (o : Option Followed). MayFollow c.args.limit c.args.self.now.states c.follow.new.self c.args.number pid o) c.in-Some.is c.in_ok-followed.ensures in
+    let long = longer old.witnesses c.args.number c.args.pid in
+    let may = subst (λ (o : Option Followed). MayFollow g.O.Observer.observe c.args.limit c.args.self.now.states c.follow.new.self c.args.number c.args.pid o) c.in-Some.is c.in_ok-followed.ensures in
     let it = may t (whole-at s witness c.requires.whole) c.requires.there in
-    let moved = move-is s t witness long pid refl refl in
-    let is = lines-bytes reported long pid t c.deref.result.now (c.deref.ensures.value ∙ it.text_is) ∙ ap (λ (m : Move). answer_bytes (lines_at reported m)) moved in
+    let texts_are = ap (λ (ts : List (Vec ℕ)). texts_in ts) c.deref-2.ensures.value ∙ ap (λ (ts : Vec (Vec ℕ)). texts_in ts.items) c.deref.ensures in
+    let is = ap (reported_bytes old.reported c.args.pid long) (texts_are ∙ it.texts_are) in
     c.in_ok-report.ensures.whole ∙ ap (and_all (g.W.Sink.written c.args.out.now)) is

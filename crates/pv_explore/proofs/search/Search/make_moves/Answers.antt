@@ -1,13 +1,13 @@
-use Rattle.std.proofs.Common.{◌≡◌, ◌∙◌, ℕ, List, [], ap, get_or, refl, subst, sym}
+use Rattle.std.proofs.Common.{◌∙◌, ℕ, List, [], ap₂, get_or, refl, subst, sym}
 use Rattle.std.proofs.lemmas.Option.{get_or_from_slice_get, slice_get-get_or, slice_get_within}
 use Rattle.pv_explore.specs.VisitedStates.{HasNumber}
-use Rattle.pv_explore.specs.Plan.{visited_after, lines_at, move_at, state_at}
+use Rattle.pv_explore.specs.Plan.{bytes_at, move_at, state_at, texts_at, visited_at}
 use Rattle.pv_explore.specs.Searches.{visited_of, witness_at}
 use Rattle.pv_explore.proofs.Finding.{visited-next, visited-witness, steps-next, steps_left}
 use Rattle.pv_explore.proofs.Followed.{number-after}
 use Rattle.pv_listing.proofs.Rests.{rest_after, rest_all, rest_begins}
 use Rattle.pv_laws_states.specs.States.{IsValid}
-use Rattle.pv_model.specs.Answers.Lines.{answer_bytes}
+use Rattle.pv_model.specs.Bytes.{Bytes}
 use Rattle.pv_model.specs.Grammar.Programs.{program_of}
 use Rattle.pv_model.specs.State.{State}
 use Rattle.pv_streams.specs.Sinks.{and_all, WritesPrefix}
@@ -40,6 +40,7 @@ make_move-requires-clause-found g c = slice_get_within (visited_of c.loop-pid.se
 
 pub returns-in_err-make_move-clause-prefix : goal.returns-in_err-make_move-clause-prefix
 returns-in_err-make_move-clause-prefix g c =
+    let observe = g.O.Observer.observe in
     let live = c.as_slice-live.ensures.value ∙ c.in_ok-pids.ensures.live in
     let s = c.args.checkpoints.now in
     let witness = witness_at (visited_of c.args.self.now) c.args.number in
@@ -47,40 +48,36 @@ returns-in_err-make_move-clause-prefix g c =
     let i = c.loop-pid.pid-index in
     let visited = visited_of c.loop-pid.self in
     let same = get_or_from_slice_get visited.witnesses c.args.number witness [] c.loop-pid.invariant.at in
-    let m = move_at program_of s (witness_at visited c.args.number) (get_or pids i 0) in
-    let made = ap (λ (w : List ℕ). move_at program_of s w (get_or pids i 0)) same in
-    let is = steps-next c.args.limit s witness pids i visited (visited_after c.args.limit visited m) m c.loop-pid-test.true made refl in
+    let is = steps-next observe c.args.limit s witness pids i visited (visited_at observe c.args.limit program_of s witness (get_or pids i 0) visited) c.loop-pid-test.true refl in
+    let moved = ap₂ (λ (t : State) (w : List ℕ). bytes_at observe c.args.limit program_of t w (get_or pids i 0) visited) c.loop-pid.invariant.same same in
     on_err c.from_residual-in_err-make_move.result
-    (subst (λ (ps : List ℕ). WritesPrefix (steps_left c.args.limit s (witness_at (visited_of c.args.self.now) c.args.number) ps (visited_of c.args.self.now)) (g.W.Sink.written c.args.out.now) (g.W.Sink.written c.make_move.new.out)) live
+    (subst (λ (ps : List ℕ). WritesPrefix (steps_left observe c.args.limit s (witness_at (visited_of c.args.self.now) c.args.number) ps (visited_of c.args.self.now)) (g.W.Sink.written c.args.out.now) (g.W.Sink.written c.make_move.new.out)) live
     (rest_begins _ _ _ _ _ _ _ c.loop-pid.invariant.left is
-    (subst
-    (λ (t : State).
-    WritesPrefix (answer_bytes (lines_at c.loop-pid.self.reported (move_at program_of t (witness_at visited c.args.number) (get_or pids i 0)))) (g.W.Sink.written c.loop-pid.out) (g.W.Sink.written c.make_move.new.out))
-    c.loop-pid.invariant.same c.in_err-make_move.ensures.prefix)))
+    (subst (λ (bs : Bytes). WritesPrefix bs (g.W.Sink.written c.loop-pid.out) (g.W.Sink.written c.make_move.new.out)) moved c.in_err-make_move.ensures.prefix)))
 
 pub loop-pid-preserved : goal.loop-pid-preserved
 loop-pid-preserved g c =
+    let observe = g.O.Observer.observe in
     let s = c.args.checkpoints.now in
     let witness = witness_at (visited_of c.args.self.now) c.args.number in
     let pids = c.as_slice-live.result.now in
     let i = c.loop-pid.pid-index in
+    let pid = get_or pids i 0 in
     let visited = visited_of c.loop-pid.self in
     let after = visited_of c.make_move.new.self in
     let same = get_or_from_slice_get visited.witnesses c.args.number witness [] c.loop-pid.invariant.at in
-    let m = move_at program_of s (witness_at visited c.args.number) (get_or pids i 0) in
-    let made = ap (λ (w : List ℕ). move_at program_of s w (get_or pids i 0)) same in
     let reached =
-    subst (λ (t : State). after ≡ visited_after c.args.limit visited (move_at program_of t (witness_at visited c.args.number) (get_or pids i 0))) c.loop-pid.invariant.same c.in_ok-make_move.ensures.visited in
+    c.in_ok-make_move.ensures.visited ∙ ap₂ (λ (t : State) (w : List ℕ). visited_at observe c.args.limit program_of t w pid visited) c.loop-pid.invariant.same same in
     let whole =
-    subst
-    (λ (t : State).
-    g.W.Sink.written c.make_move.new.out ≡ and_all (g.W.Sink.written c.loop-pid.out) (answer_bytes (lines_at c.loop-pid.self.reported (move_at program_of t (witness_at visited c.args.number) (get_or pids i 0)))))
-    c.loop-pid.invariant.same c.in_ok-make_move.ensures.whole in
+    c.in_ok-make_move.ensures.whole
+    ∙ ap₂ (λ (t : State) (w : List ℕ). and_all (g.W.Sink.written c.loop-pid.out) (bytes_at observe c.args.limit program_of t w pid visited)) c.loop-pid.invariant.same same in
+    let m = move_at program_of s witness pid in
+    let texts = texts_at observe c.args.limit program_of s witness pid in
     record {
-      left = rest_after _ _ _ _ _ _ _ c.loop-pid.invariant.left (steps-next c.args.limit s witness pids i visited after m c.loop-pid-test.true made reached) whole;
-      visited = visited-next c.args.limit s witness pids i visited after m c.loop-pid-test.true made reached ∙ c.loop-pid.invariant.visited;
-      at = visited-witness c.args.limit visited after m c.args.number witness reached c.loop-pid.invariant.at;
-      there = number-after c.args.limit visited after m c.args.number (state_at program_of s witness) c.loop-pid.invariant.there reached;
+      left = rest_after _ _ _ _ _ _ _ c.loop-pid.invariant.left (steps-next observe c.args.limit s witness pids i visited after c.loop-pid-test.true reached) whole;
+      visited = visited-next observe c.args.limit s witness pids i visited after c.loop-pid-test.true reached ∙ c.loop-pid.invariant.visited;
+      at = visited-witness c.args.limit visited after m texts c.args.number witness reached c.loop-pid.invariant.at;
+      there = number-after c.args.limit visited after m texts c.args.number (state_at program_of s witness) c.loop-pid.invariant.there reached;
       same = c.make_move.ensures.unchanged ∙ c.loop-pid.invariant.same;
       quiet = c.in_ok-make_move.ensures.quiet ∙ c.loop-pid.invariant.quiet;
     }

@@ -11,8 +11,8 @@ abbrev pub invariant-loop-pid : goal.invariant-loop-pid
 invariant-loop-pid g l =
     let witness = witness_at (visited_of l.fn.self) l.number in
     record {
-      left : LeavesRest (steps_left l.limit l.fn.checkpoints witness (drop l.pid-index l.live) (visited_of l.self)) (steps_left l.limit l.fn.checkpoints witness l.live (visited_of l.fn.self)) (g.W.Sink.written l.fn.out) (g.W.Sink.written l.out);
-      visited : visited_after_steps l.limit program_of l.fn.checkpoints witness (drop l.pid-index l.live) (visited_of l.self) ≡ visited_after_steps l.limit program_of l.fn.checkpoints witness l.live (visited_of l.fn.self);
+      left : LeavesRest (steps_left g.O.Observer.observe l.limit l.fn.checkpoints witness (drop l.pid-index l.live) (visited_of l.self)) (steps_left g.O.Observer.observe l.limit l.fn.checkpoints witness l.live (visited_of l.fn.self)) (g.W.Sink.written l.fn.out) (g.W.Sink.written l.out);
+      visited : visited_after_steps g.O.Observer.observe l.limit program_of l.fn.checkpoints witness (drop l.pid-index l.live) (visited_of l.self) ≡ visited_after_steps g.O.Observer.observe l.limit program_of l.fn.checkpoints witness l.live (visited_of l.fn.self);
       at : slice_get (visited_of l.self).witnesses l.number ≡ Some witness;
       there : HasNumber l.self.states l.number (state_at program_of l.fn.checkpoints witness);
       same : l.checkpoints ≡ l.fn.checkpoints;

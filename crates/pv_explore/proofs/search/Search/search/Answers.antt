@@ -20,9 +20,9 @@ returns-in_err-make_moves-clause-prefix g c =
     let visited = visited_of c.loop-number.self in
     let witness = witness_at visited c.loop-number.number in
     let at = found-witness c.args.first_machine.now visited c.loop-number.number c.loop-number.invariant.at (rw c.len-found.ensures at c.if-number-found.false) in
-    let is = reported-next limit s c.loop-number.number visited (visited_after_steps limit program_of s witness (live_at program_of s witness) visited) witness c.loop-number-test.true at refl in
+    let is = reported-next g.O.Observer.observe limit s c.loop-number.number visited (visited_after_steps g.O.Observer.observe limit program_of s witness (live_at program_of s witness) visited) witness c.loop-number-test.true at refl in
     on_err c.from_residual.result
-    (subst (λ (bs : Bytes). WritesPrefix bs (g.W.Sink.written c.args.out.now) (g.W.Sink.written c.make_moves.new.out)) (reported-start limit s (visited_of c.args.self.now))
+    (subst (λ (bs : Bytes). WritesPrefix bs (g.W.Sink.written c.args.out.now) (g.W.Sink.written c.make_moves.new.out)) (reported-start g.O.Observer.observe limit s (visited_of c.args.self.now))
     (rest_begins _ _ _ _ _ _ _ c.loop-number.invariant.left is (rw c.loop-number.invariant.same at c.in_err-make_moves.ensures.prefix)))
 
 pub make_moves-requires-clause-there : goal.make_moves-requires-clause-there
@@ -46,9 +46,9 @@ loop-number-preserved g c =
     let witness = witness_at visited c.loop-number.number in
     let at = found-witness c.args.first_machine.now visited c.loop-number.number c.loop-number.invariant.at (rw c.len-found.ensures at c.if-number-found.false) in
     record {
-      left = rest_after _ _ _ _ _ _ _ c.loop-number.invariant.left (reported-next limit s c.loop-number.number visited after witness c.loop-number-test.true at is) (rw c.loop-number.invariant.same at c.in_ok-make_moves.ensures.whole);
-      visited = left-next limit s c.loop-number.number visited after witness c.loop-number-test.true at is ∙ c.loop-number.invariant.visited;
-      at = at-after s limit witness (live_at program_of s witness) visited after c.loop-number.invariant.at is;
+      left = rest_after _ _ _ _ _ _ _ c.loop-number.invariant.left (reported-next g.O.Observer.observe limit s c.loop-number.number visited after witness c.loop-number-test.true at is) (rw c.loop-number.invariant.same at c.in_ok-make_moves.ensures.whole);
+      visited = left-next g.O.Observer.observe limit s c.loop-number.number visited after witness c.loop-number-test.true at is ∙ c.loop-number.invariant.visited;
+      at = at-after s g.O.Observer.observe limit witness (live_at program_of s witness) visited after c.loop-number.invariant.at is;
       same = c.make_moves.ensures.unchanged ∙ c.loop-number.invariant.same;
       quiet = c.in_ok-make_moves.ensures.quiet ∙ c.loop-number.invariant.quiet;
     }
@@ -60,7 +60,7 @@ returns-then-number-found-clause-visited g c =
     let visited = visited_of c.loop-number.self in
     let none = found-none s visited c.loop-number.number c.loop-number.invariant.at (rw c.len-found.ensures at c.if-number-found.true) in
     let all : limit - 0 ≡ limit = omega arith in
-    left-none limit s c.loop-number.number visited c.loop-number-test.true none ∙ c.loop-number.invariant.visited ∙ ap (λ k. visited_from c.args.limit program_of c.args.first_machine.now k 0 (visited_of c.args.self.now)) all
+    left-none g.O.Observer.observe limit s c.loop-number.number visited c.loop-number-test.true none ∙ c.loop-number.invariant.visited ∙ ap (λ k. visited_from g.O.Observer.observe c.args.limit program_of c.args.first_machine.now k 0 (visited_of c.args.self.now)) all
 
 pub returns-then-number-found-clause-whole : goal.returns-then-number-found-clause-whole
 returns-then-number-found-clause-whole g c =
@@ -68,6 +68,6 @@ returns-then-number-found-clause-whole g c =
     let s = c.args.first_machine.now in
     let visited = visited_of c.loop-number.self in
     let none = found-none s visited c.loop-number.number c.loop-number.invariant.at (rw c.len-found.ensures at c.if-number-found.true) in
-    let is = reported-none limit s c.loop-number.number visited c.loop-number-test.true none in
-    written_text _ _ _ (subst (λ (rest : Bytes). LeavesRest rest (reported_left c.args.limit c.args.first_machine.now 0 (visited_of c.args.self.now)) (g.W.Sink.written c.args.out.now) (g.W.Sink.written c.loop-number.out)) is c.loop-number.invariant.left)
-    ∙ ap (and_all (g.W.Sink.written c.args.out.now)) (reported-start limit s (visited_of c.args.self.now))
+    let is = reported-none g.O.Observer.observe limit s c.loop-number.number visited c.loop-number-test.true none in
+    written_text _ _ _ (subst (λ (rest : Bytes). LeavesRest rest (reported_left g.O.Observer.observe c.args.limit c.args.first_machine.now 0 (visited_of c.args.self.now)) (g.W.Sink.written c.args.out.now) (g.W.Sink.written c.loop-number.out)) is c.loop-number.invariant.left)
+    ∙ ap (and_all (g.W.Sink.written c.args.out.now)) (reported-start g.O.Observer.observe limit s (visited_of c.args.self.now))

@@ -7,7 +7,7 @@ use Rattle.pv_state_encoding.specs.Groups.{joined}
 use Rattle.pv_explore.proofs.states.States.find.Goals as goal
 
 pub returns : goal.returns
-returns c =
+returns g c =
     let parts = c.self.inside.parts in
     let groups = c.self.inside.groups in
     let rows = c.self.inside.rows in

@@ -12,13 +12,13 @@ use Rattle.pv_state_encoding.specs.Encoded.{encoded_all}
 use Rattle.pv_explore.proofs.states.States.find_or_add.Goals as goal
 
 pub invariant_of-self : goal.invariant_of-self
-invariant_of-self c = fine-grew c.self.inside.parts c.self.inside.groups c.learn_cells.new.parts c.learn_cells.new.groups c.learn_cells.ensures.parts_grew c.learn_cells.ensures.groups_grew c.self.inside.rows c.self.inside.cells.items c.self.inside.steps.steps.items c.self.invariant
+invariant_of-self g c = fine-grew c.self.inside.parts c.self.inside.groups c.learn_cells.new.parts c.learn_cells.new.groups c.learn_cells.ensures.parts_grew c.learn_cells.ensures.groups_grew c.self.inside.rows c.self.inside.cells.items c.self.inside.steps.steps.items c.self.invariant
 
 pub invariant_of-self-in_err-row : goal.invariant_of-self-in_err-row
-invariant_of-self-in_err-row c = fine-grew c.self.inside.parts c.self.inside.groups c.learn_cells.new.parts c.learn_cells.new.groups c.learn_cells.ensures.parts_grew c.learn_cells.ensures.groups_grew c.self.inside.rows c.self.inside.cells.items c.self.inside.steps.steps.items c.self.invariant
+invariant_of-self-in_err-row g c = fine-grew c.self.inside.parts c.self.inside.groups c.learn_cells.new.parts c.learn_cells.new.groups c.learn_cells.ensures.parts_grew c.learn_cells.ensures.groups_grew c.self.inside.rows c.self.inside.cells.items c.self.inside.steps.steps.items c.self.invariant
 
 pub invariant_of-self-in_err-found : goal.invariant_of-self-in_err-found
-invariant_of-self-in_err-found c =
+invariant_of-self-in_err-found g c =
     let parts = c.learn_cells.new.parts in
     let groups = c.learn_cells.new.groups in
     let rows = c.self.inside.rows in
@@ -31,7 +31,7 @@ invariant_of-self-in_err-found c =
     fine-placed parts groups rows cells steps fine c.requires.0 cs are c.in_ok-row.row.items row_is c.place.new.rows c.place.new.all.items c.place.ensures.placed
 
 pub invariant_of-self-2 : goal.invariant_of-self-2
-invariant_of-self-2 c =
+invariant_of-self-2 g c =
     let parts = c.learn_cells.new.parts in
     let groups = c.learn_cells.new.groups in
     let rows = c.self.inside.rows in
@@ -44,7 +44,7 @@ invariant_of-self-2 c =
     fine-placed parts groups rows cells steps fine c.requires.0 cs are c.in_ok-row.row.items row_is c.place.new.rows c.place.new.all.items c.place.ensures.placed
 
 pub returns : goal.returns
-returns c = λ t is.
+returns g c = λ t is.
     let parts = c.learn_cells.new.parts in
     let groups = c.learn_cells.new.groups in
     let rows = c.self.inside.rows in

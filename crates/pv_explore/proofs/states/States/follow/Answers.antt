@@ -7,6 +7,7 @@ use Rattle.pv_explore.proofs.VisitedStates.{fine-placed, found-bytes, recalled-a
 use Rattle.pv_step_cache.specs.declared.cells.Cell.{Cell}
 use Rattle.pv_step_cache.specs.declared.steps.Recalled.{Recalled}
 use Rattle.pv_step_cache.specs.Edits.{number_of_cell}
+use Rattle.pv_step_cache.specs.Steps.{texts_in}
 use Rattle.pv_laws_runs.proofs.Ranges.{program_of-encodes}
 use Rattle.pv_laws_states.proofs.BySteps.{step-keeps_whole}
 use Rattle.pv_model.specs.Bytes.{Bytes}
@@ -16,7 +17,7 @@ use Rattle.pv_state_encoding.specs.Packed.{packed_all}
 use Rattle.pv_explore.proofs.states.States.follow.Goals as goal
 
 pub invariant_of-self : goal.invariant_of-self
-invariant_of-self c =
+invariant_of-self g c =
     let t = c.requires.0 in
     let whole = c.requires.1 in
     let number = c.requires.2 in
@@ -27,15 +28,15 @@ invariant_of-self c =
     let steps = c.self.inside.steps.steps.items in
     let pid = c.args.pid in
     let cs = c.in-Some.made.cells in
-    let was = subst (λ (o : Option Recalled). IfSome o (λ r. IsRecalled c.deref.result.now steps c.args.number pid r.text.items r.cells.items)) c.in-Some.is c.in_ok-made.ensures in
-    let recalled = subst (λ (all : List (Vec Cell)). IsRecalled all steps c.args.number pid c.in-Some.made.text.items cs.items) c.deref.ensures.value was in
+    let was = subst (λ (o : Option Recalled). IfSome o (λ r. IsRecalled c.deref.result.now steps c.args.number pid (texts_in r.texts.value.items) r.cells.items)) c.in-Some.is c.in_ok-made.ensures in
+    let recalled = subst (λ (all : List (Vec Cell)). IsRecalled all steps c.args.number pid (texts_in c.in-Some.made.texts.value.items) cs.items) c.deref.ensures.value was in
     let there = subst (λ (keys : List Bytes). HasNumber keys c.args.number t) (sym c.self.view_is) number in
-    let again = recalled-at parts groups rows cells steps c.self.invariant c.args.number pid c.in-Some.made.text.items cs.items recalled t whole there in
+    let again = recalled-at parts groups rows cells steps c.self.invariant g.met.O.Observer.depends_on_seen c.args.number pid (texts_in c.in-Some.made.texts.value.items) cs.items recalled t whole there in
     let row_is = c.in_ok-row.ensures ∙ ap (λ (all : List Cell). packed_all (map number_of_cell all)) c.deref-2.ensures.value in
     fine-placed parts groups rows cells steps c.self.invariant (stepped t pid).after cs again.cells_are c.in_ok-row.row.items row_is c.place.new.rows c.place.new.all.items c.place.ensures.placed
 
 pub invariant_of-self-2 : goal.invariant_of-self-2
-invariant_of-self-2 c =
+invariant_of-self-2 g c =
     let t = c.requires.0 in
     let whole = c.requires.1 in
     let number = c.requires.2 in
@@ -46,15 +47,15 @@ invariant_of-self-2 c =
     let steps = c.self.inside.steps.steps.items in
     let pid = c.args.pid in
     let cs = c.in-Some.made.cells in
-    let was = subst (λ (o : Option Recalled). IfSome o (λ r. IsRecalled c.deref.result.now steps c.args.number pid r.text.items r.cells.items)) c.in-Some.is c.in_ok-made.ensures in
-    let recalled = subst (λ (all : List (Vec Cell)). IsRecalled all steps c.args.number pid c.in-Some.made.text.items cs.items) c.deref.ensures.value was in
+    let was = subst (λ (o : Option Recalled). IfSome o (λ r. IsRecalled c.deref.result.now steps c.args.number pid (texts_in r.texts.value.items) r.cells.items)) c.in-Some.is c.in_ok-made.ensures in
+    let recalled = subst (λ (all : List (Vec Cell)). IsRecalled all steps c.args.number pid (texts_in c.in-Some.made.texts.value.items) cs.items) c.deref.ensures.value was in
     let there = subst (λ (keys : List Bytes). HasNumber keys c.args.number t) (sym c.self.view_is) number in
-    let again = recalled-at parts groups rows cells steps c.self.invariant c.args.number pid c.in-Some.made.text.items cs.items recalled t whole there in
+    let again = recalled-at parts groups rows cells steps c.self.invariant g.met.O.Observer.depends_on_seen c.args.number pid (texts_in c.in-Some.made.texts.value.items) cs.items recalled t whole there in
     let row_is = c.in_ok-row.ensures ∙ ap (λ (all : List Cell). packed_all (map number_of_cell all)) c.deref-2.ensures.value in
     fine-placed parts groups rows cells steps c.self.invariant (stepped t pid).after cs again.cells_are c.in_ok-row.row.items row_is c.place.new.rows c.place.new.all.items c.place.ensures.placed
 
 pub returns : goal.returns
-returns c = λ t whole number.
+returns g c = λ t whole number.
     let parts = c.self.inside.parts in
     let groups = c.self.inside.groups in
     let rows = c.self.inside.rows in
@@ -62,15 +63,15 @@ returns c = λ t whole number.
     let steps = c.self.inside.steps.steps.items in
     let pid = c.args.pid in
     let cs = c.in-Some.made.cells in
-    let was = subst (λ (o : Option Recalled). IfSome o (λ r. IsRecalled c.deref.result.now steps c.args.number pid r.text.items r.cells.items)) c.in-Some.is c.in_ok-made.ensures in
-    let recalled = subst (λ (all : List (Vec Cell)). IsRecalled all steps c.args.number pid c.in-Some.made.text.items cs.items) c.deref.ensures.value was in
+    let was = subst (λ (o : Option Recalled). IfSome o (λ r. IsRecalled c.deref.result.now steps c.args.number pid (texts_in r.texts.value.items) r.cells.items)) c.in-Some.is c.in_ok-made.ensures in
+    let recalled = subst (λ (all : List (Vec Cell)). IsRecalled all steps c.args.number pid (texts_in c.in-Some.made.texts.value.items) cs.items) c.deref.ensures.value was in
     let there = subst (λ (keys : List Bytes). HasNumber keys c.args.number t) (sym c.self.view_is) number in
-    let again = recalled-at parts groups rows cells steps c.self.invariant c.args.number pid c.in-Some.made.text.items cs.items recalled t whole there in
+    let again = recalled-at parts groups rows cells steps c.self.invariant g.met.O.Observer.depends_on_seen c.args.number pid (texts_in c.in-Some.made.texts.value.items) cs.items recalled t whole there in
     let row_is = c.in_ok-row.ensures ∙ ap (λ (all : List Cell). packed_all (map number_of_cell all)) c.deref-2.ensures.value in
     let u = (stepped t pid).after in
     let found = found-bytes parts groups rows cells steps c.self.invariant u cs again.cells_are c.in_ok-row.row.items row_is c.args.limit c.place.new.rows c.in_ok-found.found c.in_ok-found.ensures.found in
     record {
-      text_is = again.text_is;
+      texts_are = again.texts_are;
       live = some-live parts groups u cs.items again.cells_are (step-keeps_whole program_of program_of-encodes t pid whole) recalled.live;
       found_is = subst (λ (keys : List Bytes). IsFoundIn c.args.limit keys (map (state_bytes parts groups) c.place.new.rows) (state_key u) c.in_ok-found.found) c.self.view_is found;
     }

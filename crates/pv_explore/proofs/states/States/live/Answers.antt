@@ -11,7 +11,7 @@ use Rattle.pv_model.specs.Bytes.{Bytes}
 use Rattle.pv_explore.proofs.states.States.live.Goals as goal
 
 pub returns : goal.returns
-returns c = λ t whole there.
+returns g c = λ t whole there.
     let number = c.args.number in
     let parts = c.self.inside.parts in
     let groups = c.self.inside.groups in

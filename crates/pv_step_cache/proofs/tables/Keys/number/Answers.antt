@@ -1,6 +1,6 @@
 use Rattle.std.proofs.Common.{◌++◌, ◌∷◌, [], ap, bytes_eq, if◌then◌else◌, sym}
-use Rattle.pv_explore.proofs.KeyLists.{number-some, there-some}
-use Rattle.pv_explore.proofs.keys.Keys.number.Goals as goal
+use Rattle.pv_step_cache.proofs.KeyLists.{number-some, there-some}
+use Rattle.pv_step_cache.proofs.tables.Keys.number.Goals as goal
 
 pub returns-in-Some-clause-added : goal.returns-in-Some-clause-added
 returns-in-Some-clause-added c =

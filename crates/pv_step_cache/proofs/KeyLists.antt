@@ -1,6 +1,7 @@
 -- Byte strings in a table.
 use Rattle.std.proofs.Common.{◌≡◌, ◌∙◌, sym, ap, ap₂, ℕ, ◌+◌, ◌≤◌, Bool, true, false, ◌||◌, cond, if◌then◌else◌, nat_lt, not, bytes_eq, List, [], ◌∷◌, ◌++◌, map, length, Option, None, Some, refl, arith}
 use Rattle.std.specs.Prelude.{position}
+use Rattle.std.specs.Cmp.Lexicographic.{bytes_decides}
 use Rattle.std.specs.List.{list_any, position_or_len}
 use Rattle.std.proofs.lemmas.Bool.Decides.{nat_tests}
 use Rattle.std.proofs.lemmas.List.{length-map, map-append}
@@ -32,6 +33,22 @@ added-among f x xs new now is same =
     by : (b : Bool) → map f (if b then xs else xs ++ x ∷ []) ≡ (if b then map f xs else map f xs ++ f x ∷ [])
     by true = refl
     by false = map-append f xs (x ∷ [])
+
+-- the index in the set with a byte string appended
+module _ (p : Bytes → Bool) (key : Bytes) (is : p key ≡ true) where
+  number-last : (ks : List Bytes) → position_or_len p (ks ++ key ∷ []) ≡ position_or_len p ks
+  number-last [] = ap (λ b. cond (not b) 1 0) is
+  number-last (k ∷ ks) = ap (λ n. cond (not (p k)) (1 + n) 0) (number-last ks)
+
+  number-added : (b : Bool) (ks : List Bytes) → position_or_len p (if b then ks else ks ++ key ∷ []) ≡ position_or_len p ks
+  number-added true ks = refl
+  number-added false ks = number-last ks
+
+pub number-among : {X : Type 0} (f : X → Bytes) (x : X) (xs : List X) (now new : List Bytes) (n : ℕ) → n ≡ position_or_len (λ y. bytes_eq (f x) (f y)) xs → map f xs ≡ now
+    → new ≡ (if list_any (bytes_eq (f x)) now then now else now ++ f x ∷ []) → n ≡ position_or_len (bytes_eq (f x)) new
+number-among f x xs now new n is same new_is =
+    is ∙ sym (prefix-mapped f (bytes_eq (f x)) xs) ∙ ap (position_or_len (bytes_eq (f x))) same
+    ∙ sym (ap (position_or_len (bytes_eq (f x))) new_is ∙ number-added (bytes_eq (f x)) (f x) ((bytes_decides (f x) (f x)).1 refl) (list_any (bytes_eq (f x)) now) now)
 
 pub there-among : {X : Type 0} (f : X → Bytes) (key : Bytes) (xs : List X) (now : List Bytes) (b : Bool) → b ≡ list_any (λ x. bytes_eq key (f x)) xs → map f xs ≡ now → b ≡ list_any (bytes_eq key) now
 there-among f key xs now b is same = is ∙ sym (any-mapped f (bytes_eq key) xs) ∙ ap (list_any (bytes_eq key)) same

@@ -1,0 +1,90 @@
+//! The search with an observer, and its result.
+ghost use Rattle.std.specs.Prelude.{◌≡◌, ◌≤◌, bytes_eq, IfErr, IfOk, OnErr, OnOk};
+ghost use Rattle.std.specs.List.{list_any};
+ghost use Rattle.pv_explore.specs.Observing.{IsSearched, observed_bytes};
+ghost use Rattle.pv_explore.specs.Plan.{first_visited, reported_from, visited_from};
+ghost use Rattle.pv_explore.specs.Searches.{visited_of};
+ghost use Rattle.pv_model.specs.Grammar.Programs.{program_of};
+ghost use Rattle.pv_model.specs.Stream.{Rose};
+ghost use Rattle.pv_session.specs.Running.{FailsBy};
+ghost use Rattle.pv_streams.specs.Sinks.{and_all, WritesOr, WritesPrefix};
+
+use crate::first_machine::FirstMachine;
+use crate::observer::Observer;
+use crate::progress::Progress;
+use crate::search::Search;
+use pv_session::Stop;
+use pv_step_cache::tables::Keys;
+use pv_streams::Sink;
+use std::alloc::Global;
+
+/// The result of a search.
+#[derive(Drop)]
+pub struct Searched {
+    /// The number of visited states.
+    pub states: usize,
+    /// Whether no state was left out.
+    pub complete: bool,
+    /// The number of different trees in which no process is live.
+    pub endings: usize,
+    /// The texts observed.
+    pub(crate) texts: Keys,
+}
+
+impl Searched {
+    /// Returns whether a text was observed of any step.
+    pub fn has_text(&self, text: &[u8]) -> bool
+        ensures { result ≡ list_any (bytes_eq text.now) self.now.texts }
+    {
+        self.texts.contains(text)
+    }
+}
+
+/// Searches from the first state, and ends the progress report.
+pub(crate) fn search_all<O: Observer + Drop, W: Sink, P: Progress>(
+    alloc: Global,
+    first_machine: &FirstMachine,
+    states: u32,
+    search: &mut Search<O>,
+    progress: &mut P,
+    out: &mut W,
+) -> Result<(), Stop>
+    requires { visited_of search.old ≡ first_visited first_machine.now }
+    ensures visited { OnOk result (visited_of search.new ≡ visited_from O.observe states program_of first_machine.now states 0 (first_visited first_machine.now)) }
+    ensures whole { OnOk result (W.written out.new ≡ and_all (W.written out.old) (reported_from O.observe states program_of first_machine.now states 0 (first_visited first_machine.now))) }
+    ensures prefix { OnErr result (WritesPrefix (reported_from O.observe states program_of first_machine.now states 0 (first_visited first_machine.now)) (W.written out.old) (W.written out.new)) }
+    ensures failed { IfErr result (λ stop. FailsBy stop (W.failures out.old) (W.failures out.new)) }
+    ensures quiet { OnOk result (W.failures out.new ≡ W.failures out.old) }
+{
+    let end = search.search(alloc, first_machine, states, progress, out);
+    progress.end();
+    end
+}
+
+/// Searches all schedules with an observer. The search visits at most `states` states, in breadth-first order from the
+/// first state of a machine, and makes a step of each live process in each. Of the texts observed, each that no earlier
+/// step had is recorded, and is written unless it is empty or begins with byte 0: first a BY line with a shortest
+/// witness, that is, a schedule that leads to the step, and then the text. Returns the result of the search.
+///
+/// `progress` shows the state of the search, and ends with it, also if the search fails.
+///
+/// # Errors
+///
+/// - `Memory`, if there is no memory.
+/// - `Write`, if a write failed. The sink received a prefix of the bytes.
+pub fn search_observed<O: Observer + Drop, W: Sink, P: Progress>(
+    alloc: Global,
+    first_machine: &FirstMachine,
+    states: u32,
+    observer: O,
+    progress: &mut P,
+    out: &mut W,
+) -> Result<Searched, Stop>
+    requires { 1 ≤ states }
+    ensures written { WritesOr W.Sink FailsBy (observed_bytes O.observe states first_machine.now) out.old out.new result }
+    ensures found { IfOk result (λ r. IsSearched O.observe states first_machine.now r.states r.complete r.endings r.texts) }
+{
+    let mut search = Search::new(alloc, observer, first_machine)?;
+    search_all(alloc, first_machine, states, &mut search, progress, out)?;
+    Ok(search.end())
+}
