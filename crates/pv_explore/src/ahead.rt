@@ -7,8 +7,8 @@ use crate::observer::Observer;
 use crate::position::Position;
 use crate::states::learn_cells;
 use pv_model::StepFault;
-use pv_step_cache::{CachedSteps, Cell};
 use pv_step_cache::tables::Keys;
+use pv_step_cache::{CachedSteps, Cell};
 use std::alloc::{AllocError, Global};
 
 // The maximum number of speculative steps.
