@@ -21,14 +21,16 @@ pub record WritesSource {S W E : Type 0} (reading : Reading S) (writing : Writin
   pub refused : answer ≡ Err (Source Refused) → IfSome (reading.remaining first) (λ bytes.
       ReportsFaults name bytes (reporting.written unreported) (reporting.written reported))
   pub unwritten : answer ≡ Err (Source Refused) → after ≡ before
-  -- after a failed read or out of memory, nothing was written or reported; after a failed write, a prefix was
+  -- after a failed read or out of memory, nothing was written or reported; after a failed write, a prefix was, to one
+  -- of the sinks
   pub kind : IfErr answer (IsOfSource (λ stop. IsBefore stop → (after ≡ before) × (reported ≡ unreported)))
   pub begun : answer ≡ Err (Source Write) → IfSome (reading.remaining first) (λ bytes.
-      BeginsText bytes (writing.written before) (writing.written after) ⊎ BeginsFaults name bytes (reporting.written unreported) (reporting.written reported))
+      (BeginsText bytes (writing.written before) (writing.written after) × (reported ≡ unreported))
+      ⊎ (BeginsFaults name bytes (reporting.written unreported) (reporting.written reported) × (after ≡ before)))
   pub flushed : Flushes writing before after answer
   -- a failed read or write was counted
   pub read : answer ≡ Err (Source Read) → FailsToGive reading first last
-  pub write : answer ≡ Err (Source Write) → FailsToTake writing before after ⊎ FailsToTake reporting unreported reported
+  pub write : answer ≡ Err (Source Write) → (FailsToTake writing before after × (reported ≡ unreported)) ⊎ (FailsToTake reporting unreported reported × (after ≡ before))
 
 -- the same for the source in a file, whose name is in the reports; or a file whose bytes are not known could not be
 -- opened

@@ -19,6 +19,6 @@ mod parser;
 pub mod program;
 mod texts;
 
-pub use command::{CommandLine, LineFault, command_line_of};
+pub use command::{CommandLine, LineFault, command_line_of, command_of};
 pub use fault::Fault;
 pub use program::{report, run};

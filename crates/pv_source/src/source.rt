@@ -105,8 +105,10 @@ fn write_bytes<W: Sink, E: Sink>(
     ensures unreported { OnOk result (reported.new ≡ reported.old) }
     ensures unread { result ≢ Err SourceStop.Read }
     ensures stopped { result ≡ Err SourceStop.Memory → (out.new ≡ out.old) × (reported.new ≡ reported.old) }
-    ensures write { result ≡ Err SourceStop.Write → Rose (W.failures out.old) (W.failures out.new) ⊎ Rose (E.failures reported.old) (E.failures reported.new) }
-    ensures begun { result ≡ Err SourceStop.Write → BeginsText source.now (W.written out.old) (W.written out.new) ⊎ BeginsFaults name.now source.now (E.written reported.old) (E.written reported.new) }
+    ensures write { result ≡ Err SourceStop.Write → (Rose (W.failures out.old) (W.failures out.new) × (reported.new ≡ reported.old))
+        ⊎ (Rose (E.failures reported.old) (E.failures reported.new) × (out.new ≡ out.old)) }
+    ensures begun { result ≡ Err SourceStop.Write → (BeginsText source.now (W.written out.old) (W.written out.new) × (reported.new ≡ reported.old))
+        ⊎ (BeginsFaults name.now source.now (E.written reported.old) (E.written reported.new) × (out.new ≡ out.old)) }
 {
     let faults = faults_of(alloc, source)?;
     if faults.is_empty() {
@@ -128,7 +130,8 @@ fn write_bytes<W: Sink, E: Sink>(
 /// - `Read`: a read failed, or the source has more than 67,108,864 bytes.
 /// - `Refused`: lines have errors, which were reported.
 /// - `Memory`: memory cannot be allocated.
-/// - `Write`: a write of the translation or of the errors failed. The sink has received a prefix of it.
+/// - `Write`: a write of the translation or of the errors failed. The sink has received a prefix of it, and nothing was
+///   written to the other sink.
 ///
 /// If the error is `Read` or `Memory`, nothing was written.
 pub fn write_source<S: Source, W: Sink, E: Sink>(
@@ -142,13 +145,17 @@ pub fn write_source<S: Source, W: Sink, E: Sink>(
     ensures refused { result ≡ Err SourceStop.Refused → IfSome (S.remaining source.old) (λ bytes. ReportsFaults name.now bytes (E.written reported.old) (E.written reported.new)) }
     ensures empty { OnOk result (W.buffered out.new ≡ 0) }
 
-    // If lines have errors, nothing is written to `out`. If no line has one, nothing is written to `reported`.
+    // If lines have errors, nothing is written to `out`. If no line has one, nothing is written to `reported`. This holds
+    // after a failed write too.
     ensures unwritten { result ≡ Err SourceStop.Refused → out.new ≡ out.old }
     ensures unreported { OnOk result (reported.new ≡ reported.old) }
     ensures read { result ≡ Err SourceStop.Read → FailsToGive S.Source source.old source.new }
     ensures stopped { IfErr result (λ stop. IsBefore stop → (out.new ≡ out.old) × (reported.new ≡ reported.old)) }
-    ensures write { result ≡ Err SourceStop.Write → Rose (W.failures out.old) (W.failures out.new) ⊎ Rose (E.failures reported.old) (E.failures reported.new) }
-    ensures begun { result ≡ Err SourceStop.Write → IfSome (S.remaining source.old) (λ bytes. BeginsText bytes (W.written out.old) (W.written out.new) ⊎ BeginsFaults name.now bytes (E.written reported.old) (E.written reported.new)) }
+    ensures write { result ≡ Err SourceStop.Write → (Rose (W.failures out.old) (W.failures out.new) × (reported.new ≡ reported.old))
+        ⊎ (Rose (E.failures reported.old) (E.failures reported.new) × (out.new ≡ out.old)) }
+    ensures begun { result ≡ Err SourceStop.Write → IfSome (S.remaining source.old) (λ bytes.
+        (BeginsText bytes (W.written out.old) (W.written out.new) × (reported.new ≡ reported.old))
+        ⊎ (BeginsFaults name.now bytes (E.written reported.old) (E.written reported.new) × (out.new ≡ out.old))) }
 {
     let bytes = read_whole(alloc, source)?;
     write_bytes(alloc, name, &bytes, out, reported)

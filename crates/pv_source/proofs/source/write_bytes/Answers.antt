@@ -1,4 +1,4 @@
-use Rattle.std.proofs.Common.{◌∙◌, ap, subst, inl, inr}
+use Rattle.std.proofs.Common.{◌≡◌, refl, ◌∙◌, ap, subst, inl, inr}
 use Rattle.std.specs.Prelude.{map}
 use Rattle.pv_streams.specs.Sinks.{and_all, WritesPrefix}
 use Rattle.pv_source.specs.Outcome.{reported_of}
@@ -14,9 +14,12 @@ returns-then-is_empty-clause-written g c = (
 
 pub returns-in_err-write_through-clause-begun : goal.returns-in_err-write_through-clause-begun
 returns-in_err-write_through-clause-begun g c = λ _. inl (
-  c.in_ok-text.text.items,
-  read_right c.args.source.now c.in_ok-text.text.items _ c.in_ok-faults.ensures.reported (no_fault _ _ c.is_empty.ensures.value c.if-is_empty.true) c.in_ok-text.ensures,
-  subst (λ text. WritesPrefix text (g.W.Sink.written c.args.out.now) (g.W.Sink.written c.write_through.new.sink)) c.deref.ensures.value c.in_err-write_through.ensures.written.prefix,
+  (
+    c.in_ok-text.text.items,
+    read_right c.args.source.now c.in_ok-text.text.items _ c.in_ok-faults.ensures.reported (no_fault _ _ c.is_empty.ensures.value c.if-is_empty.true) c.in_ok-text.ensures,
+    subst (λ text. WritesPrefix text (g.W.Sink.written c.args.out.now) (g.W.Sink.written c.write_through.new.sink)) c.deref.ensures.value c.in_err-write_through.ensures.written.prefix,
+  ),
+  refl,
 )
 
 pub returns-clause-refused : goal.returns-clause-refused
@@ -29,8 +32,11 @@ returns-clause-refused g c = λ _. (
 
 pub returns-in_err-write_through-2-clause-begun : goal.returns-in_err-write_through-2-clause-begun
 returns-in_err-write_through-2-clause-begun g c = λ _. inr (
-  map reported_of c.reported.result.now,
-  read_invalid c.args.source.now _ (reported_faults c.reported.result.now ∙ c.reported.ensures ∙ c.in_ok-faults.ensures.reported) (some_fault _ c.reported.result.now _ c.is_empty.ensures.value c.if-is_empty.false c.reported.ensures),
-  subst (λ text. WritesPrefix text (g.E.Sink.written c.args.reported.now) (g.E.Sink.written c.write_through-2.new.sink)) (c.deref-2.ensures.value ∙ c.in_ok-text-2.ensures.text) c.in_err-write_through-2.ensures.written.prefix,
-  c.in_ok-text-2.ensures.lines,
+  (
+    map reported_of c.reported.result.now,
+    read_invalid c.args.source.now _ (reported_faults c.reported.result.now ∙ c.reported.ensures ∙ c.in_ok-faults.ensures.reported) (some_fault _ c.reported.result.now _ c.is_empty.ensures.value c.if-is_empty.false c.reported.ensures),
+    subst (λ text. WritesPrefix text (g.E.Sink.written c.args.reported.now) (g.E.Sink.written c.write_through-2.new.sink)) (c.deref-2.ensures.value ∙ c.in_ok-text-2.ensures.text) c.in_err-write_through-2.ensures.written.prefix,
+    c.in_ok-text-2.ensures.lines,
+  ),
+  refl,
 )
