@@ -6,7 +6,7 @@ ghost use Rattle.pv_model.specs.State.{process_at};
 ghost use Rattle.pv_model.specs.Stream.{Rose};
 ghost use Rattle.pv_questions.specs.Answering.{answer_of, bundle_answer, image_answer, last_state, run_answer};
 ghost use Rattle.pv_questions.specs.Asking.{BufferedOnlyIfUnwritten, IsAnswerStop, IsBundleStop, IsImageStop, AppearsInAnswer, WritesAnswer, WritesNothingUnlessStopped};
-ghost use Rattle.pv_questions.specs.Schedules.{turns_text};
+ghost use Rattle.pv_questions.specs.Schedules.{first_steps, turns_text};
 ghost use Rattle.pv_questions.specs.Trees.{manifest_answer};
 ghost use Rattle.pv_questions.specs.declared.stop.AskStop.TheVariants.{Machine as MachineStop};
 ghost use Rattle.pv_run.specs.Run.{started_from};
@@ -138,7 +138,50 @@ fn answer<W: Sink>(
     }
 }
 
+// Answers a question about the first steps of a run.
+fn answer_first<W: Sink>(
+    alloc: Global,
+    question: Question<'_>,
+    session: &mut Session,
+    turns: &[(u32, u32)],
+    steps: u32,
+    out: &mut W,
+) -> Result<(), AskStop>
+    requires { length turns.now ≤ SCHEDULE_LINES }
+    ensures answered { OnOk result (WritesAnswer (run_answer question.entry (started_from session.old (first_steps steps turns.now))) (W.written out.old) (W.written out.new)) }
+    ensures empty { OnOk result (W.buffered out.new ≡ 0) }
+    ensures refused { IfErr result (AppearsInAnswer (run_answer question.entry (started_from session.old (first_steps steps turns.now))) (W.written out.old) (W.written out.new)) }
+    ensures kind { IfErr result IsAnswerStop }
+    ensures stopped { IfErr result (λ stop. W.buffered out.old ≡ 0 → BufferedOnlyIfUnwritten stop (W.buffered out.new)) }
+    ensures failed { result ≡ Err AskStop.Write → Rose (W.failures out.old) (W.failures out.new) }
+{
+    let first = cut_turns(alloc, turns, steps)?;
+    answer(alloc, question, session, first.as_slice(), out)
+}
+
 // Answers a question about a run, or about its first steps.
+fn answer_asked<W: Sink>(
+    alloc: Global,
+    asked: RunQuestion<'_>,
+    session: &mut Session,
+    turns: &[(u32, u32)],
+    out: &mut W,
+) -> Result<(), AskStop>
+    requires { length turns.now ≤ SCHEDULE_LINES }
+    ensures answered { OnOk result (WritesAnswer (answer_of asked.entry (started_from session.old turns.now)) (W.written out.old) (W.written out.new)) }
+    ensures empty { OnOk result (W.buffered out.new ≡ 0) }
+    ensures refused { IfErr result (AppearsInAnswer (answer_of asked.entry (started_from session.old turns.now)) (W.written out.old) (W.written out.new)) }
+    ensures kind { IfErr result IsAnswerStop }
+    ensures stopped { IfErr result (λ stop. W.buffered out.old ≡ 0 → BufferedOnlyIfUnwritten stop (W.buffered out.new)) }
+    ensures failed { result ≡ Err AskStop.Write → Rose (W.failures out.old) (W.failures out.new) }
+{
+    match asked.steps {
+        Some(steps) => answer_first(alloc, asked.question, session, turns, steps, out),
+        None => answer(alloc, asked.question, session, turns, out),
+    }
+}
+
+// Answers a question about the run of a schedule.
 fn answer_ready<W: Sink>(
     alloc: Global,
     asked: RunQuestion<'_>,
@@ -153,11 +196,7 @@ fn answer_ready<W: Sink>(
     ensures failed { result ≡ Err AskStop.Write → Rose (W.failures out.old) (W.failures out.new) }
 {
     let turns = ready.schedule.turns();
-    let Some(steps) = asked.steps else {
-        return answer(alloc, asked.question, &mut ready.session, turns, out);
-    };
-    let first = cut_turns(alloc, turns, steps)?;
-    answer(alloc, asked.question, &mut ready.session, &first, out)
+    answer_asked(alloc, asked, &mut ready.session, turns, out)
 }
 
 // Returns whether the answer to a question lists all files of an image.
@@ -231,7 +270,7 @@ pub fn ask_by<I: Source, W: Sink>(
     ensures write { result ≡ Err AskStop.Write → Rose (W.failures out.old) (W.failures out.new) }
 {
     let schedule = text_of_turns(alloc, turns)?;
-    let mut ready = ready_by(alloc, image, &schedule, lists_all(asked.question))?;
+    let mut ready = ready_by(alloc, image, schedule.as_slice(), lists_all(asked.question))?;
     answer_ready(alloc, asked, &mut ready, out)
 }
 
@@ -317,6 +356,6 @@ pub fn ask_manifest_by<I: Source, W: Sink>(
     ensures write { result ≡ Err AskStop.Write → Rose (W.failures out.old) (W.failures out.new) }
 {
     let schedule = text_of_turns(alloc, turns)?;
-    let mut ready = ready_on_manifest_by(alloc, manifest, &schedule)?;
+    let mut ready = ready_on_manifest_by(alloc, manifest, schedule.as_slice())?;
     answer_ready(alloc, asked, &mut ready, out)
 }
