@@ -181,6 +181,8 @@ pub fn command_of<'a, S: AsStr>(alloc: Global, words: &'a [S]) -> Result<Command
     ensures asked { IfOk result (IsAsked (map S.text words.entry.now)) }
     ensures refused { IfErr result (RefusesLine (map S.text words.entry.now)) }
 {
-    let line = command_line_of(alloc, words)?;
-    Ok(line.command)
+    match command_line_of(alloc, words) {
+        Ok(line) => Ok(line.command),
+        Err(fault) => Err(fault),
+    }
 }
