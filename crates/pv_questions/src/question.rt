@@ -1,8 +1,19 @@
 //! Questions.
 
+/// A question about the run of a schedule.
+#[derive(Clone, Copy, Debug, PartialEq, Eq)]
+pub struct RunQuestion<'a> {
+    /// The question.
+    pub question: Question<'a>,
+    /// The number of steps after which the schedule is cut. Without a number, the whole schedule is run.
+    pub steps: Option<u32>,
+}
+
 /// A question about a run.
 #[derive(Clone, Copy, Debug, PartialEq, Eq)]
 pub enum Question<'a> {
+    /// The trace of the run.
+    Trace,
     /// The state of each process after the run.
     State,
     /// The permissions of the next call of each live process after the run, or of the live process with this number.

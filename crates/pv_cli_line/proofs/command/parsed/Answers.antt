@@ -1,4 +1,4 @@
-use Rattle.std.proofs.Common.{◌≡◌, ◌∙◌, ap, map, refl, true, subst, List, Option}
+use Rattle.std.proofs.Common.{◌≡◌, ◌∙◌, ap, map, refl, true, subst, inl, List, Option}
 use Rattle.clap.specs.Words.{App, HasKind, HasMatchesOf, Row, Text, app_of, fault_of, is_simple_and_free, kind_of, subcommand_of, subcommand_rows_of, takes}
 use Rattle.clap.specs.declared.builder.command.Command.{Command as Parser}
 use Rattle.clap.specs.declared.parser.matches.ArgMatches.{ArgMatches}
@@ -42,4 +42,4 @@ pub returns-clause-refused : goal.returns-clause-refused
 returns-clause-refused g c =
     let words = map g.S.AsStr.text c.args.words.now in
     let e = appears c.in_ok-parser.parser words c.in_ok-matches.matches c.in_ok-parser.ensures c.in_ok-matches.ensures.ok.2 in
-    nothing-asked words (subcommand_rows_of c.in_ok-matches.matches) e c.in_ok-error-in-None.field-0 c.in_ok-error-in-None.ensures.kind (c.in-None.ensures.none refl)
+    inl (nothing-asked words (subcommand_rows_of c.in_ok-matches.matches) e c.in_ok-error-in-None.field-0 c.in_ok-error-in-None.ensures.kind (c.in-None.ensures.none refl))
