@@ -96,7 +96,7 @@ module _ (entered : Option (Text × List Row)) where
       → (question : Question) (run : RunInput) → IsPlainQuestion question → IsQuestionIn entered question run → ⊥
   no_plain_question state explain needs State run plain is = state run is
   no_plain_question state explain needs Explain run plain is = explain run is
-  no_plain_question state explain needs Needs run plain is = needs run is
+  no_plain_question state explain needs (Needs granted lines) run plain is = needs run is.0
   no_plain_question state explain needs (Reach pid) run plain is = absurd plain
   no_plain_question state explain needs (Audit path) run plain is = absurd plain
 
@@ -117,7 +117,7 @@ module _ (entered : Option (Text × List Row)) where
   no_command plain list cat audit asks (AuditImage image schedule path) without is = audit (Files image schedule) (option_map (λ text. text.now) path) is
   no_command plain list cat audit asks (Ask State run) without is = asks State run tt is
   no_command plain list cat audit asks (Ask Explain run) without is = asks Explain run tt is
-  no_command plain list cat audit asks (Ask Needs run) without is = asks Needs run tt is
+  no_command plain list cat audit asks (Ask (Needs granted lines) run) without is = asks (Needs granted lines) run tt is
   no_command plain list cat audit asks (Ask (Reach pid) run) without is = absurd without
   no_command plain list cat audit asks (Ask (Audit path) (Bundle bundle)) without is = audit (Bundle bundle) (option_map (λ bytes. bytes.now) path) is
   no_command plain list cat audit asks (Ask (Audit path) (Files image schedule)) without is = absurd is

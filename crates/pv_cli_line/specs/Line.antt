@@ -140,11 +140,13 @@ abbrev pub IsQuestionIn : Option (Text × List Row) → Question → RunInput �
 IsQuestionIn entered State run = IsValidRunIn entered (codes "state") run
 IsQuestionIn entered (Reach pid) run = (word : Option Text) × IsRunIn entered (codes "reach") (codes "PID") run word × EncodesProcess word pid
 IsQuestionIn entered Explain run = IsValidRunIn entered (codes "explain") run
-IsQuestionIn entered Needs run = IsValidRunIn entered (codes "needs") run
+IsQuestionIn entered (Needs granted lines) run =
+    IsValidRunIn entered (codes "needs") run
+    × (is_given (entered_text entered (codes "needs") (codes "granted")) ≡ granted) × (is_given (entered_text entered (codes "needs") (codes "lines")) ≡ lines)
 IsQuestionIn entered (Audit path) (Bundle bundle) = IsRunIn entered (codes "audit") (codes "PATH") (Bundle bundle) (option_map (λ bytes. bytes.now) path)
 IsQuestionIn entered (Audit path) (Files image schedule) = ⊥
 
--- the question has no argument of its own
+-- the question has no argument of its own but flags
 abbrev pub IsPlainQuestion : Question → Type 0
 IsPlainQuestion (Reach pid) = ⊥
 IsPlainQuestion (Audit path) = ⊥

@@ -145,7 +145,7 @@ fn audit_in<'a>(matches: &ArgMatches<'a>) -> Option<Command<'a>>
     }
 }
 
-// Returns the command of a question without a further argument, if the matches are of one.
+// Returns the command of a question without a further argument but flags, if the matches are of one.
 #[tactic(auto, using(crate::proofs::LineLemmas::no_plain_question))]
 fn plain_question_in<'a>(matches: &ArgMatches<'a>) -> Option<Command<'a>>
     ensures found { IfSome result (IsCommandIn (subcommand_rows_of matches.now)) }
@@ -164,10 +164,11 @@ fn plain_question_in<'a>(matches: &ArgMatches<'a>) -> Option<Command<'a>>
         });
     }
     let run = run_in(matches, "needs")?;
-    Some(Command::Ask {
-        question: Question::Needs,
-        run,
-    })
+    let question = Question::Needs {
+        granted: is_flag_given(matches, "needs", "granted"),
+        lines: is_flag_given(matches, "needs", "lines"),
+    };
+    Some(Command::Ask { question, run })
 }
 
 // Returns the `ls` command, if the matches are of it.

@@ -142,7 +142,21 @@ const COMMANDS: &[CommandRow] = &[
     CommandRow {
         name: "needs",
         about: "Run an image under a schedule, and print the promises and paths that each program used",
-        arguments: &[BUNDLE, IMAGE, SCHEDULE],
+        arguments: &[
+            BUNDLE,
+            IMAGE,
+            SCHEDULE,
+            Flag {
+                name: "granted",
+                short: None,
+                help: "leave out the calls that a promise or an unveil table refused",
+            },
+            Flag {
+                name: "lines",
+                short: None,
+                help: "print the unveil and pledge calls for each program, in C and in the format of programs",
+            },
+        ],
     },
     CommandRow {
         name: "cat",

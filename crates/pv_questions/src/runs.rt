@@ -12,8 +12,8 @@ ghost use Rattle.pv_streams.specs.Sources.{FailsToGive};
 use crate::question::Question;
 use crate::stop::AskStop;
 use crate::writers::{
-    report_audit, report_needs, report_reach, report_reach_of, report_state, report_steps,
-    report_verdict,
+    report_audit, report_needs, report_reach, report_reach_of, report_restraints, report_state,
+    report_steps, report_verdict,
 };
 use pv_explain::Explainer;
 use pv_model::RunFault;
@@ -104,6 +104,28 @@ fn answer_steps<W: Sink>(alloc: Global, ready: &mut Ready, out: &mut W) -> Resul
     report_steps(alloc, &mut explainer, ready, out)
 }
 
+// Writes the demands of each program in the run, or the calls that meet them.
+fn answer_needs<W: Sink>(
+    alloc: Global,
+    granted: bool,
+    lines: bool,
+    ready: &mut Ready,
+    out: &mut W,
+) -> Result<(), AskStop>
+    ensures answered { OnOk result (WritesAnswer (run_answer (Question.Needs granted lines) (started_from ready.old.session ready.old.schedule)) (W.written out.old) (W.written out.new)) }
+    ensures empty { OnOk result (W.buffered out.new ≡ 0) }
+    ensures refused { IfErr result (AppearsInAnswer (run_answer (Question.Needs granted lines) (started_from ready.old.session ready.old.schedule)) (W.written out.old) (W.written out.new)) }
+    ensures kind { IfErr result IsAnswerStop }
+    ensures stopped { IfErr result (λ stop. W.buffered out.old ≡ 0 → BufferedOnlyIfUnwritten stop (W.buffered out.new)) }
+    ensures failed { result ≡ Err AskStop.Write → Rose (W.failures out.old) (W.failures out.new) }
+{
+    if lines {
+        report_restraints(alloc, granted, ready, out)
+    } else {
+        report_needs(alloc, granted, ready, out)
+    }
+}
+
 // Answers a question about a run.
 fn answer<W: Sink>(
     alloc: Global,
@@ -122,7 +144,7 @@ fn answer<W: Sink>(
         Question::State => answer_state(alloc, ready, out),
         Question::Reach(pid) => answer_reach(alloc, pid, ready, out),
         Question::Explain => answer_steps(alloc, ready, out),
-        Question::Needs => report_needs(alloc, ready, out),
+        Question::Needs { granted, lines } => answer_needs(alloc, granted, lines, ready, out),
         Question::Audit(path) => answer_audit(alloc, path, ready, out),
     }
 }
