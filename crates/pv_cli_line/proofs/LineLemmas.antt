@@ -1,9 +1,10 @@
 -- The matches of a line, or its refusal by the parser, and the command that it asks for.
-use Rattle.std.proofs.Common.{◌≡◌, ◌⊎◌, ◌∙◌, ap, sym, subst, inl, inr, true, false, arith, if◌then◌else◌, bytes_eq, ℕ, List, [], ◌∷◌, length, map, codes, Option, None, Some, option_map, refl}
+use Rattle.std.proofs.Common.{◌≡◌, ◌⊎◌, ◌∙◌, ap, sym, subst, inl, inr, Bool, true, false, arith, if◌then◌else◌, bytes_eq, ℕ, List, [], ◌∷◌, length, map, codes, Option, None, Some, option_map, refl}
 use Rattle.std.proofs.lemmas.Bool.{and_parts, false_from_ne_true}
 use Rattle.std.proofs.lemmas.List.{length-map}
 use Rattle.std.proofs.lemmas.Slice.Eq.{bytes_eq-Decides}
 use Rattle.std.specs.Prelude.{◌<◌, ◌≤◌, Box, Result, Ok, Err, IfErr, IfOk, IfSome, IsErrAnd}
+use Rattle.std.specs.Option.{IsSomeAnd}
 use Rattle.std.specs.Box.{box_value}
 use Rattle.clap.specs.Words.{HasKind, Row, Text, fault_of, first_of, found_of, kind_of, rows_of, subcommand_rows, takes}
 use Rattle.clap.specs.declared.error.Error.{Error}
@@ -20,13 +21,15 @@ use Rattle.pv_cli_commands.specs.declared.command.RunInput.TheVariants.{Image as
 use Rattle.pv_cli_commands.specs.declared.command.ScheduleInput.TheVariants.{File as InFile}
 use Rattle.pv_cli_commands.specs.declared.command.TreeInput.{TreeInput}
 use Rattle.pv_cli_commands.specs.declared.command.TreeInput.TheVariants.{Image, Manifest}
+use Rattle.pv_questions.specs.Schedules.{are_turns}
 use Rattle.pv_questions.specs.declared.question.Question.{Question}
 use Rattle.pv_questions.specs.declared.question.Question.TheVariants.{Trace, Audit}
 use Rattle.pv_questions.specs.declared.question.TreeQuestion.TheVariants.{Listing, File, Turns, Explore, Graph}
+use Rattle.pv_cli_line.specs.declared.command.CommandLine.{CommandLine}
 use Rattle.pv_cli_line.specs.declared.command.LineFault.{LineFault}
 use Rattle.pv_cli_line.specs.declared.command.LineFault.TheVariants as line
 use Rattle.pv_cli_line.specs.declared.matches.Migration.{Migration}
-use Rattle.pv_cli_line.specs.Line.{HasTexts, IsCommandIn, IsMigrationOf, IsPlain, IsQuestionIn, IsRefused, IsTreeIn, IsValidTreeIn, IsWithoutNumbers, RefusesLine, RefusesWords, entered_text, is_given, is_verbose_in, is_verbose_line, of_kind, of_parser}
+use Rattle.pv_cli_line.specs.Line.{AreFaultyTurns, HasTexts, IsCommandIn, IsMigrationOf, IsPlain, IsQuestionIn, IsRefused, IsTreeIn, IsValidIn, IsValidTreeIn, IsWithoutNumbers, RefusesLine, RefusesTurns, RefusesTurnsOf, RefusesWords, entered_text, is_given, is_verbose_in, is_verbose_line, of_kind, of_parser, turns_of}
 use Rattle.pv_cli_line.specs.Parser.{pvsim_app}
 
 module _ {Z : Type 0} where
@@ -211,6 +214,31 @@ pub pvsim_has_matches : is_simple pvsim_app ≡ true
 pvsim_has_matches = (and_parts (is_simple pvsim_app) _ pvsim_is_simple).0
 
 -- ---- the result if the parser accepts the words
+
+-- the words ask for a command, whose turns are turns or are refused
+module _ (words : List Text) (entered : Option (Text × List Row)) (appears : entered ≡ subcommand_of pvsim_app words) (command : Command) (is : IsCommandIn entered command) where
+  there : IsCommandIn (subcommand_of pvsim_app words) command
+  there = subst (λ (e : Option (Text × List Row)). IsCommandIn e command) appears is
+
+  pub asked_by : (r : Result CommandLine LineFault) (verbose : Bool) → IfOk r (λ line. (line.command ≡ command) × (line.is_verbose ≡ verbose))
+      → IfOk r (λ line. AreFaultyTurns line.command None) → IfOk r (λ line. IsValidIn (subcommand_of pvsim_app words) line.command)
+  asked_by (Ok line) verbose same turns = (subst (λ (k : Command). IsCommandIn (subcommand_of pvsim_app words) k) (sym same.0) there, turns)
+  asked_by (Err fault) verbose same turns = tt
+
+  pub refused_by_turns : {T : Type 0} (r : Result T LineFault) → IfErr r (RefusesTurnsOf command) → IfErr r (RefusesWords words)
+  refused_by_turns (Ok value) refuses = tt
+  refused_by_turns (Err line.Memory) refuses = tt
+  refused_by_turns (Err line.Number) refuses = absurd refuses
+  refused_by_turns (Err (line.Parser error)) refuses = inr (by (turns_of command) refl refuses.1)
+    where
+      by : (o : Option Text) → turns_of command ≡ o → IsSomeAnd o (λ turns. are_turns turns ≡ false) → RefusesTurns words error
+      by None has faulty = absurd faulty
+      by (Some turns) has faulty = record { kind = refuses.0; command = command; is_command = there; turns = turns; has_turns = has; are_none = faulty }
+
+pub verbose_by : (r : Result CommandLine LineFault) (command : Command) (verbose other : Bool) → IfOk r (λ line. (line.command ≡ command) × (line.is_verbose ≡ verbose))
+    → verbose ≡ other → IfOk r (λ line. line.is_verbose ≡ other)
+verbose_by (Ok line) command verbose other same is = same.1 ∙ is
+verbose_by (Err fault) command verbose other same is = tt
 
 pub none_by : {X : Type 0} (o : Option X) → ((x : X) → o ≡ Some x → ⊥) → o ≡ None
 none_by None never = refl

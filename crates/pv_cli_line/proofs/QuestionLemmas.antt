@@ -48,6 +48,6 @@ module _ (entered : Option (Text × List Row)) where
   no_question traced state explain needs audit reaches Trace run is = traced run is
   no_question traced state explain needs audit reaches State run is = state run is
   no_question traced state explain needs audit reaches Explain run is = explain run is
-  no_question traced state explain needs audit reaches Needs run is = needs run is
+  no_question traced state explain needs audit reaches (Needs granted lines) run is = needs run is.0
   no_question traced state explain needs audit reaches (Audit path) run is = audit run (option_map (λ bytes. bytes.now) path) is
   no_question traced state explain needs audit reaches (Reach pid) run is = reaches pid run is

@@ -1,5 +1,6 @@
 -- The command in the words of a command line.
 use Rattle.std.specs.Prelude.{◌≡◌, ◌≢◌, ◌⊎◌, ⊤, ℕ, ◌<◌, Bool, ◌&&◌, nat_le, true, false, if◌then◌else◌, bytes_eq, List, [], ◌∷◌, length, codes, Option, None, Some, IfSome, option_map}
+use Rattle.std.specs.Option.{IsSomeAnd}
 use Rattle.clap.specs.Words.{Row, Text, IsAmong, fault_of, first_of, kind_of, subcommand_of, takes}
 use Rattle.clap.specs.declared.error.Error.{Error}
 use Rattle.clap.specs.declared.error.kind.ErrorKind.{ErrorKind}
@@ -171,7 +172,7 @@ question_name Trace = codes "run-tree"
 question_name State = codes "state"
 question_name (Reach pid) = codes "reach"
 question_name Explain = codes "explain"
-question_name Needs = codes "needs"
+question_name (Needs granted lines) = codes "needs"
 question_name (Audit path) = codes "audit"
 
 -- the input of `run-tree` was entered: a bundle, or a manifest with turns
@@ -188,7 +189,9 @@ IsQuestionIn entered Trace run = IsTracedIn entered run
 IsQuestionIn entered State run = IsValidRunIn entered (codes "state") run
 IsQuestionIn entered (Reach pid) run = (word : Option Text) × IsRunIn entered (codes "reach") (codes "PID") run word × EncodesNumber word pid
 IsQuestionIn entered Explain run = IsValidRunIn entered (codes "explain") run
-IsQuestionIn entered Needs run = IsValidRunIn entered (codes "needs") run
+IsQuestionIn entered (Needs granted lines) run =
+    IsValidRunIn entered (codes "needs") run
+    × (is_given (entered_text entered (codes "needs") (codes "granted")) ≡ granted) × (is_given (entered_text entered (codes "needs") (codes "lines")) ≡ lines)
 IsQuestionIn entered (Audit path) run = IsRunIn entered (codes "audit") (codes "PATH") run (option_map (λ bytes. bytes.now) path)
 
 -- the text of the number of steps of the question, if there is one
@@ -298,6 +301,12 @@ IsWithoutWords command = ⊥
 abbrev pub AreFaultyTurns : Command → Option Text → Type 0
 AreFaultyTurns command None = IfSome (turns_of command) (λ turns. are_turns turns ≡ true)
 AreFaultyTurns command (Some turns) = (turns_of command ≡ Some turns) × (are_turns turns ≡ false)
+
+-- a refusal of the turns of a command
+abbrev pub RefusesTurnsOf : Command → LineFault → Type 0
+RefusesTurnsOf command line.Memory = ⊤
+RefusesTurnsOf command line.Number = ⊥
+RefusesTurnsOf command (line.Parser error) = (kind_of error ≡ ValueValidation) × IsSomeAnd (turns_of command) (λ turns. are_turns turns ≡ false)
 
 -- the matches are of this command, and its turns are turns
 abbrev pub IsValidIn : Option (Text × List Row) → Command → Type 0

@@ -65,7 +65,7 @@ command_apps =
     ∷ command_app (codes "state") question_rules
     ∷ command_app (codes "reach") (question_rules ++ optional_rule (codes "PID") ∷ [])
     ∷ command_app (codes "explain") question_rules
-    ∷ command_app (codes "needs") question_rules
+    ∷ command_app (codes "needs") (question_rules ++ flag_rule (codes "granted") ∷ flag_rule (codes "lines") ∷ [])
     ∷ command_app (codes "cat") (tree_rules ++ optional_rule (codes "PATH") ∷ [])
     ∷ command_app (codes "turns") (tree_rules ++ long_rule (codes "slice") ∷ long_rule (codes "steps") ∷ [])
     ∷ command_app (codes "explore") search_rules

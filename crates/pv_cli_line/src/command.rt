@@ -1,8 +1,8 @@
 //! The command line.
-ghost use Rattle.std.specs.Prelude.{◌≡◌, map, IfOk, IfErr, option_map};
+ghost use Rattle.std.specs.Prelude.{◌≡◌, map, None, IfOk, IfErr, option_map};
 ghost use Rattle.clap.specs.Words.{kind_of, subcommand_of};
 ghost use Rattle.clap.specs.declared.error.kind.ErrorKind.TheVariants.{ValueValidation};
-ghost use Rattle.pv_cli_line.specs.Line.{AreFaultyTurns, IsAsked, IsValidIn, RefusesLine, RefusesWords, is_verbose_in, is_verbose_line, turns_of as turns_text_of};
+ghost use Rattle.pv_cli_line.specs.Line.{AreFaultyTurns, IsAsked, IsValidIn, RefusesLine, RefusesTurnsOf, RefusesWords, is_verbose_in, is_verbose_line, turns_of as turns_text_of};
 ghost use Rattle.pv_cli_line.specs.Parser.{pvsim_app};
 ghost use Rattle.pv_cli_line.specs.Program.{is_number};
 
@@ -79,15 +79,14 @@ fn turns_of(command: Command<'_>) -> Option<&str>
 {
     match command {
         Command::Ask {
-            run:
-                RunInput::Image {
-                    schedule: ScheduleInput::Turns(turns),
-                    ..
-                }
-                | RunInput::Manifest {
-                    schedule: ScheduleInput::Turns(turns),
-                    ..
-                },
+            run: RunInput::Image {
+                schedule: ScheduleInput::Turns(turns),
+                ..
+            }
+            | RunInput::Manifest {
+                schedule: ScheduleInput::Turns(turns),
+                ..
+            },
             ..
         } => Some(turns),
         _ => None,
@@ -108,13 +107,38 @@ fn faulty_turns(alloc: Global, command: Command<'_>) -> Result<Option<&str>, All
 }
 
 // Returns the error for turns that are no turns.
-fn turns_fault(alloc: Global, parser: &mut Parser<'_>, turns: &str) -> Result<ParserError, AllocError>
+fn turns_fault(
+    alloc: Global,
+    parser: &mut Parser<'_>,
+    turns: &str,
+) -> Result<ParserError, AllocError>
     ensures { IfOk result (λ error. kind_of error ≡ ValueValidation) }
 {
     let message = format!(in alloc;
         "invalid value '{turns}' for '--by <TURNS>': expected PID or PID COUNT, each from 1 to 99999, with ', ' between turns"
     )?;
     parser.error(ErrorKind::ValueValidation, message.as_str())
+}
+
+// Returns a command line, if the turns of its command are turns.
+fn checked<'a>(
+    alloc: Global,
+    parser: &mut Parser<'_>,
+    command: Command<'a>,
+    verbose: bool,
+) -> Result<CommandLine<'a>, LineFault>
+    ensures value { IfOk result (λ line. (line.command ≡ command.entry) × (line.is_verbose ≡ verbose)) }
+    ensures turns { IfOk result (λ line. AreFaultyTurns line.command None) }
+    ensures refused { IfErr result (RefusesTurnsOf command.entry) }
+{
+    let Some(turns) = faulty_turns(alloc, command)? else {
+        return Ok(CommandLine {
+            command,
+            is_verbose: verbose,
+        });
+    };
+    let error = turns_fault(alloc, parser, turns)?;
+    Err(LineFault::Parser(error))
 }
 
 // Parses the words of a command line.
@@ -127,14 +151,7 @@ fn parsed<'a, S: AsStr>(alloc: Global, words: &'a [S]) -> Result<CommandLine<'a>
     let matches = parser.try_get_matches_from_mut(words)?;
     match found_in(&matches) {
         Some(Parsed::Command(command)) => {
-            if let Some(turns) = faulty_turns(alloc, command)? {
-                let error = turns_fault(alloc, &mut parser, turns)?;
-                return Err(LineFault::Parser(error));
-            }
-            Ok(CommandLine {
-                command,
-                is_verbose: is_verbose(&matches),
-            })
+            checked(alloc, &mut parser, command, is_verbose(&matches))
         }
         Some(Parsed::Number) => Err(LineFault::Number),
         None => Err(LineFault::Parser(parser.error(

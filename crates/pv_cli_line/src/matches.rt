@@ -1,7 +1,7 @@
 //! The command in the matches of the parser.
 ghost use Rattle.std.specs.Prelude.{◌≡◌, ◌⊎◌, ℕ, List, codes, Option, None, Some, IfSome};
 ghost use Rattle.clap.specs.Words.{subcommand_rows_of};
-ghost use Rattle.pv_cli_line.specs.Line.{HasTexts, IsCommandIn, IsCommandOf, IsFoundIn, IsMigrationOf, IsPlain, IsQuestionIn, IsRunIn, IsTracedIn, IsTreeIn, IsValidTreeIn, IsWithoutNumbers, entered_text, question_name, size_in};
+ghost use Rattle.pv_cli_line.specs.Line.{HasTexts, IsCommandIn, IsCommandOf, IsFoundIn, IsMigrationOf, IsPlain, IsQuestionIn, IsRunIn, IsTracedIn, IsTreeIn, IsValidRunIn, IsValidTreeIn, IsWithoutNumbers, entered_text, question_name, size_in};
 
 use crate::texts::{
     RunTexts, TreeTexts, count_of, is_flag_given, run_in, run_texts_in, size_of, states_of,
@@ -114,7 +114,7 @@ fn name_of(question: Question<'_>) -> &'static str
         Question::State => "state",
         Question::Reach(_) => "reach",
         Question::Explain => "explain",
-        Question::Needs => "needs",
+        Question::Needs { .. } => "needs",
         Question::Audit(_) => "audit",
     }
 }
@@ -168,20 +168,15 @@ fn command_of_question<'a>(question: RunQuestion<'a>, run: RunInput<'a>) -> Comm
         None => match question.question {
             Question::Trace => whole_trace(question, run),
             Question::Audit(path) => whole_audit(question, path, run),
-            Question::State | Question::Reach(_) | Question::Explain | Question::Needs => {
-                Command::Ask { question, run }
-            }
+            Question::State | Question::Reach(_) | Question::Explain | Question::Needs { .. } =>
+                Command::Ask { question, run },
         },
     }
 }
 
 // Returns the command of a question about a run that is in the matches, with its number of steps.
 #[tactic(auto, using(crate::proofs::QuestionLemmas::found_command, crate::proofs::QuestionLemmas::no_number))]
-fn with_steps<'a>(
-    matches: &ArgMatches<'a>,
-    question: Question<'a>,
-    run: RunInput<'a>,
-) -> Parsed<'a>
+fn with_steps<'a>(matches: &ArgMatches<'a>, question: Question<'a>, run: RunInput<'a>) -> Parsed<'a>
     requires { IsQuestionIn (subcommand_rows_of matches.now) question run }
     ensures { IsFoundIn (subcommand_rows_of matches.now) result }
 {
@@ -234,6 +229,19 @@ fn traced_in<'a>(matches: &ArgMatches<'a>) -> Option<RunInput<'a>>
     Some(RunInput::Manifest { manifest, schedule })
 }
 
+// Returns the `needs` command, if the matches are of it.
+fn needs_in<'a>(matches: &ArgMatches<'a>) -> Option<Parsed<'a>>
+    ensures found { IfSome result (IsFoundIn (subcommand_rows_of matches.now)) }
+    ensures none { result ≡ None → (run : RunInput) → IsValidRunIn (subcommand_rows_of matches.now) (codes "needs") run → ⊥ }
+{
+    let run = run_in(matches, "needs")?;
+    let question = Question::Needs {
+        granted: is_flag_given(matches, "needs", "granted"),
+        lines: is_flag_given(matches, "needs", "lines"),
+    };
+    Some(with_steps(matches, question, run))
+}
+
 // Returns the command of a question about a run, if the matches are of one.
 #[tactic(auto, using(crate::proofs::QuestionLemmas::no_question))]
 fn question_in<'a>(matches: &ArgMatches<'a>) -> Option<Parsed<'a>>
@@ -249,8 +257,8 @@ fn question_in<'a>(matches: &ArgMatches<'a>) -> Option<Parsed<'a>>
     if let Some(run) = run_in(matches, "explain") {
         return Some(with_steps(matches, Question::Explain, run));
     }
-    if let Some(run) = run_in(matches, "needs") {
-        return Some(with_steps(matches, Question::Needs, run));
+    if let Some(found) = needs_in(matches) {
+        return Some(found);
     }
     if let Some(found) = audit_in(matches) {
         return Some(found);

@@ -166,7 +166,23 @@ const COMMANDS: &[CommandRow] = &[
     CommandRow {
         name: "needs",
         about: "Run an image under a schedule, and print the promises and paths that each program used",
-        arguments: &[BUNDLE, BY, FIRST, IMAGE, SCHEDULE],
+        arguments: &[
+            BUNDLE,
+            BY,
+            FIRST,
+            IMAGE,
+            SCHEDULE,
+            Flag {
+                name: "granted",
+                short: None,
+                help: "leave out the calls that a promise or an unveil table refused",
+            },
+            Flag {
+                name: "lines",
+                short: None,
+                help: "print the unveil and pledge calls for each program, in C and in the format of programs",
+            },
+        ],
     },
     CommandRow {
         name: "cat",

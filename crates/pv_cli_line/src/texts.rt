@@ -110,11 +110,7 @@ pub(crate) struct RunTexts<'a> {
 }
 
 // Returns the image with its schedule and the argument after them, if the matches are of the given command.
-fn image_texts_in<'a>(
-    matches: &ArgMatches<'a>,
-    command: &str,
-    last: &str,
-) -> Option<RunTexts<'a>>
+fn image_texts_in<'a>(matches: &ArgMatches<'a>, command: &str, last: &str) -> Option<RunTexts<'a>>
     requires { entered_text (subcommand_rows_of matches.now) command.now (codes "bundle") ≡ None }
     ensures found { IfSome result (λ texts. IsRunIn (subcommand_rows_of matches.now) command.now last.now texts.run (option_map (λ text. text.now) texts.further)) }
     ensures none { result ≡ None → (run : RunInput) (further : Option (List ℕ)) → IsRunIn (subcommand_rows_of matches.now) command.now last.now run further → ⊥ }

@@ -1,6 +1,7 @@
 -- A schedule that is cut has the first steps.
 use Rattle.std.proofs.Common.{◌≡◌, ◌≤◌, ◌∙◌, ap, sym, refl, arith, ℕ, zero, suc, ◌+◌, ◌-◌, Bool, true, false, if◌then◌else◌, List, [], ◌∷◌, ◌++◌, take, length}
 use Rattle.std.specs.Prelude.{nat_le, replicate}
+use Rattle.std.proofs.lemmas.Bool.{leb-false, leb-true}
 use Rattle.std.proofs.lemmas.List.{append-nil, length-replicate, take-append-le, take-replicate}
 use Rattle.std.proofs.Math.Seq.{take-append-add}
 use Rattle.pv_model.specs.Step.{Schedule, steps_of}
@@ -19,8 +20,8 @@ module _ (n pid count : ℕ) (rest : List ℕ) where
 
 cut_turn : (n pid count : ℕ) (turns : Schedule) (b : Bool) → nat_le n count ≡ b → steps_of (first_steps (n - count) turns) ≡ take (n - count) (steps_of turns)
     → steps_of (if b then (pid, n) ∷ [] else (pid, count) ∷ first_steps (n - count) turns) ≡ take n (replicate count pid ++ steps_of turns)
-cut_turn n pid count turns true is rest = within n pid count (steps_of turns) (omega (arith, is))
-cut_turn n pid count turns false is rest = ap (λ xs. replicate count pid ++ xs) rest ∙ beyond n pid count (steps_of turns) (omega (arith, is))
+cut_turn n pid count turns true is rest = within n pid count (steps_of turns) (omega (arith, leb-true n count is))
+cut_turn n pid count turns false is rest = ap (λ xs. replicate count pid ++ xs) rest ∙ beyond n pid count (steps_of turns) (omega (arith, leb-false n count is))
 
 pub cut_steps : (n : ℕ) (schedule : Schedule) → steps_of (first_steps n schedule) ≡ take n (steps_of schedule)
 cut_steps zero [] = refl

@@ -21,8 +21,8 @@ pub mod trees;
 mod writers;
 
 pub use laws::{
-    bundles_answer_as_manifests, cuts_keep_first_steps, images_answer_as_bundles, images_answer_as_manifests,
-    images_answer_as_their_manifests, manifests_stand_alone,
+    bundles_answer_as_manifests, cuts_keep_first_steps, images_answer_as_bundles,
+    images_answer_as_manifests, images_answer_as_their_manifests, manifests_stand_alone,
 };
 pub use pv_explore::{Progress, Unshown};
 pub use question::{Question, RunQuestion, TreeQuestion};

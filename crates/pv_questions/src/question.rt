@@ -21,7 +21,12 @@ pub enum Question<'a> {
     /// The explained trace of the run.
     Explain,
     /// The demands of each program on its sandbox in the run.
-    Needs,
+    Needs {
+        /// Whether the calls that a promise or a table refused are left out.
+        granted: bool,
+        /// Whether the calls of pledge(2) and unveil(2) that meet the demands are written, in place of the demands.
+        lines: bool,
+    },
     /// The verdict on the file at a path after the run, or on all files.
     Audit(Option<&'a [u8]>),
 }

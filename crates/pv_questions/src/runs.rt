@@ -17,8 +17,8 @@ use crate::schedules::{cut_turns, text_of_turns};
 use crate::starting::{ready_by, ready_on_manifest, ready_on_manifest_by};
 use crate::stop::AskStop;
 use crate::writers::{
-    report_audit, report_needs, report_reach, report_reach_of, report_state, report_steps,
-    report_trace, report_verdict,
+    report_audit, report_needs, report_reach, report_reach_of, report_restraints, report_state,
+    report_steps, report_trace, report_verdict,
 };
 use pv_explain::Explainer;
 use pv_model::RunFault;
@@ -37,7 +37,12 @@ fn leave(alloc: Global, session: &mut Session, turns: &[(u32, u32)]) -> Result<(
 }
 
 // Writes the state of each process after the run.
-fn answer_state<W: Sink>(alloc: Global, session: &mut Session, turns: &[(u32, u32)], out: &mut W) -> Result<(), AskStop>
+fn answer_state<W: Sink>(
+    alloc: Global,
+    session: &mut Session,
+    turns: &[(u32, u32)],
+    out: &mut W,
+) -> Result<(), AskStop>
     ensures answered { OnOk result (WritesAnswer (run_answer Question.State (started_from session.old turns.now)) (W.written out.old) (W.written out.new)) }
     ensures empty { OnOk result (W.buffered out.new ≡ 0) }
     ensures refused { IfErr result (AppearsInAnswer (run_answer Question.State (started_from session.old turns.now)) (W.written out.old) (W.written out.new)) }
@@ -99,7 +104,12 @@ fn answer_audit<W: Sink>(
 }
 
 // Writes the explained trace of the run.
-fn answer_steps<W: Sink>(alloc: Global, session: &mut Session, turns: &[(u32, u32)], out: &mut W) -> Result<(), AskStop>
+fn answer_steps<W: Sink>(
+    alloc: Global,
+    session: &mut Session,
+    turns: &[(u32, u32)],
+    out: &mut W,
+) -> Result<(), AskStop>
     requires { length turns.now ≤ SCHEDULE_LINES }
     ensures answered { OnOk result (WritesAnswer (run_answer Question.Explain (started_from session.old turns.now)) (W.written out.old) (W.written out.new)) }
     ensures empty { OnOk result (W.buffered out.new ≡ 0) }
@@ -110,6 +120,30 @@ fn answer_steps<W: Sink>(alloc: Global, session: &mut Session, turns: &[(u32, u3
 {
     let mut explainer = Explainer::new(alloc)?;
     report_steps(alloc, &mut explainer, session, turns, out)
+}
+
+// Writes the demands of each program in the run, or the calls that meet them.
+fn answer_needs<W: Sink>(
+    alloc: Global,
+    granted: bool,
+    lines: bool,
+    session: &mut Session,
+    turns: &[(u32, u32)],
+    out: &mut W,
+) -> Result<(), AskStop>
+    requires { length turns.now ≤ SCHEDULE_LINES }
+    ensures answered { OnOk result (WritesAnswer (run_answer (Question.Needs granted lines) (started_from session.old turns.now)) (W.written out.old) (W.written out.new)) }
+    ensures empty { OnOk result (W.buffered out.new ≡ 0) }
+    ensures refused { IfErr result (AppearsInAnswer (run_answer (Question.Needs granted lines) (started_from session.old turns.now)) (W.written out.old) (W.written out.new)) }
+    ensures kind { IfErr result IsAnswerStop }
+    ensures stopped { IfErr result (λ stop. W.buffered out.old ≡ 0 → BufferedOnlyIfUnwritten stop (W.buffered out.new)) }
+    ensures failed { result ≡ Err AskStop.Write → Rose (W.failures out.old) (W.failures out.new) }
+{
+    if lines {
+        report_restraints(alloc, granted, session, turns, out)
+    } else {
+        report_needs(alloc, granted, session, turns, out)
+    }
 }
 
 // Answers a question about a run.
@@ -133,7 +167,9 @@ fn answer<W: Sink>(
         Question::State => answer_state(alloc, session, turns, out),
         Question::Reach(pid) => answer_reach(alloc, pid, session, turns, out),
         Question::Explain => answer_steps(alloc, session, turns, out),
-        Question::Needs => report_needs(alloc, session, turns, out),
+        Question::Needs { granted, lines } => {
+            answer_needs(alloc, granted, lines, session, turns, out)
+        }
         Question::Audit(path) => answer_audit(alloc, path, session, turns, out),
     }
 }

@@ -5,7 +5,6 @@ ghost use Rattle.pv_model.specs.Answers.Explain.{explain_lines};
 ghost use Rattle.pv_model.specs.Answers.Explore.{explore_lines};
 ghost use Rattle.pv_model.specs.Answers.Graph.{graph_lines};
 ghost use Rattle.pv_model.specs.Answers.Lines.{answer_bytes};
-ghost use Rattle.pv_model.specs.Answers.Needs.{needs_lines};
 ghost use Rattle.pv_model.specs.Answers.ProcessRecord.{state_lines};
 ghost use Rattle.pv_model.specs.Answers.Reach.{reach_lines};
 ghost use Rattle.pv_model.specs.Answers.Turns.{schedule_text, turns};
@@ -17,6 +16,8 @@ ghost use Rattle.pv_model.specs.Stream.{Rose};
 ghost use Rattle.pv_model.specs.Trace.{trace_bytes};
 ghost use Rattle.pv_model.specs.declared.limits.TheConstants.{SCHEDULE_LINES};
 ghost use Rattle.pv_dirs.specs.Trees.{bytes_at};
+ghost use Rattle.pv_needs.specs.Granted.{lines_of_demands};
+ghost use Rattle.pv_needs.specs.Restraints.{restraints};
 ghost use Rattle.pv_questions.specs.Files.{IsFileAt};
 ghost use Rattle.pv_questions.specs.Asking.{BufferedOnlyIfUnwritten, IsWritingStop};
 ghost use Rattle.pv_session.specs.Running.{FailsBy, run_of};
@@ -30,7 +31,7 @@ use pv_explain::{Explainer, explain_schedule};
 use pv_explore::{FirstMachine, Progress, write_explore, write_graph};
 use pv_listing::{ListStop, write_listing};
 use pv_model::{RunFault, Verdict};
-use pv_needs::{write_needs, write_turns};
+use pv_needs::{write_demands, write_restraints, write_turns};
 use pv_run::{write_report, write_verdict};
 use pv_session::{Session, Stop, run_schedule};
 use pv_streams::Sink;
@@ -206,23 +207,46 @@ pub(crate) fn report_steps<W: Sink>(
     flush_buffer(end, out)
 }
 
-// Writes the demands of each program in the steps of a schedule.
+// Writes the demands of each program in the steps of a schedule, or of its granted calls alone.
 #[tactic(auto, using(pv_streams::proofs::Sinks::begins_whole))]
 pub(crate) fn report_needs<W: Sink>(
     alloc: Global,
+    granted: bool,
     session: &mut Session,
     turns: &[(u32, u32)],
     out: &mut W,
 ) -> Result<(), AskStop>
     requires { length turns.now ≤ SCHEDULE_LINES }
-    ensures whole { OnOk result (W.written out.new ≡ and_all (W.written out.old) (answer_bytes (needs_lines program_of (steps_of turns.now) session.old))) }
-    ensures prefix { OnErr result (WritesPrefix (answer_bytes (needs_lines program_of (steps_of turns.now) session.old)) (W.written out.old) (W.written out.new)) }
+    ensures whole { OnOk result (W.written out.new ≡ and_all (W.written out.old) (answer_bytes (lines_of_demands program_of granted (steps_of turns.now) session.old))) }
+    ensures prefix { OnErr result (WritesPrefix (answer_bytes (lines_of_demands program_of granted (steps_of turns.now) session.old)) (W.written out.old) (W.written out.new)) }
     ensures empty { OnOk result (W.buffered out.new ≡ 0) }
     ensures kind { IfErr result IsWritingStop }
     ensures stopped { IfErr result (λ stop. BufferedOnlyIfUnwritten stop (W.buffered out.new)) }
     ensures failed { result ≡ Err AskStop.Write → Rose (W.failures out.old) (W.failures out.new) }
 {
-    let end = write_needs(alloc, session, turns, out);
+    let end = write_demands(alloc, session, turns, granted, out);
+    flush_buffer(end, out)
+}
+
+// Writes the calls by which each program can restrict itself to its demands in the steps of a schedule, or to those of
+// its granted calls alone.
+#[tactic(auto, using(pv_streams::proofs::Sinks::begins_whole))]
+pub(crate) fn report_restraints<W: Sink>(
+    alloc: Global,
+    granted: bool,
+    session: &mut Session,
+    turns: &[(u32, u32)],
+    out: &mut W,
+) -> Result<(), AskStop>
+    requires { length turns.now ≤ SCHEDULE_LINES }
+    ensures whole { OnOk result (W.written out.new ≡ and_all (W.written out.old) (restraints program_of granted (steps_of turns.now) session.old)) }
+    ensures prefix { OnErr result (WritesPrefix (restraints program_of granted (steps_of turns.now) session.old) (W.written out.old) (W.written out.new)) }
+    ensures empty { OnOk result (W.buffered out.new ≡ 0) }
+    ensures kind { IfErr result IsWritingStop }
+    ensures stopped { IfErr result (λ stop. BufferedOnlyIfUnwritten stop (W.buffered out.new)) }
+    ensures failed { result ≡ Err AskStop.Write → Rose (W.failures out.old) (W.failures out.new) }
+{
+    let end = write_restraints(alloc, session, turns, granted, out);
     flush_buffer(end, out)
 }
 
