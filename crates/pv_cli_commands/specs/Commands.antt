@@ -33,7 +33,7 @@ Performs disk host reading writing reporting (ImportDirectory directory image ve
 Performs disk host reading writing reporting (ExportImage image directory) before after answer =
     ExportsFile disk host reporting before.files image.now directory.now before.errors after.errors answer
 Performs disk host reading writing reporting (AuditImage image schedule path) before after answer =
-    AuditsFiles disk writing before.files (inputs_of image.now schedule.now) (option_map (λ text. text.now) path) before.output after.output answer
+    AuditsFiles disk writing before.files (inputs_of image.now schedule.now) (option_map (λ bytes. bytes.now) path) before.output after.output answer
 Performs disk host reading writing reporting (WriteSource name) before after answer =
     (name.now ≡ codes "-" → WritesSource reading writing reporting name.now before.input after.input before.output after.output before.errors after.errors answer)
     × (name.now ≢ codes "-" → WritesSourceFile disk writing reporting before.files name.now before.output after.output before.errors after.errors answer)

@@ -1,15 +1,19 @@
 //! Questions about runs and trees.
 ghost use Rattle.std.specs.Prelude.{◌≡◌};
-ghost use Rattle.pv_cli_commands.specs.Asking.{ReadsRunFiles, ReadsTreeFile, AsksRun, AsksTree, AsksBundle, AsksBundleFile, AsksFiles, AsksImage, AsksImageFile, AsksImageTree, AsksManifest, AsksManifestFile};
+ghost use Rattle.pv_questions.specs.Answering.{image_answer};
+ghost use Rattle.pv_questions.specs.Asking.{IsBundleStop, IsImageStop};
+ghost use Rattle.pv_questions.specs.Trees.{manifest_answer};
+ghost use Rattle.pv_cli_commands.specs.Asking.{ReadsRunFiles, ReadsTreeFile, AsksRun, AsksTree, AsksBeside, AsksBundle, AsksBundleFile, AsksFile, AsksFiles, AsksSource, AsksTwo, AsksImageFile, AsksImageTree, AsksManifest, AsksManifestFile, image_answer_by, manifest_answer_by};
 ghost use Rattle.pv_cli_commands.specs.Status.{Flushes};
 ghost use Rattle.pv_cli_commands.specs.Streams.{disk_of, inputs_of};
 
-use crate::command::{RunInput, TreeInput};
+use crate::command::{RunInput, ScheduleInput, TreeInput};
 use crate::fault::Fault;
 use crate::system::Files;
 use pv_model::RunFault;
 use pv_questions::{
-    AskStop, Progress, Question, TreeQuestion, ask, ask_bundle, ask_manifest, ask_tree,
+    AskStop, Progress, RunQuestion, TreeQuestion, ask, ask_bundle, ask_by, ask_manifest,
+    ask_manifest_by, ask_manifest_run, ask_tree,
 };
 use pv_streams::{Failed, Sink, Source};
 use std::alloc::Global;
@@ -17,12 +21,12 @@ use std::alloc::Global;
 // Answers a question about the run of one source's schedule on another source's image.
 fn ask_image<S: Source, W: Sink>(
     alloc: Global,
-    question: Question<'_>,
+    question: RunQuestion<'_>,
     image: &mut S,
     schedule: &mut S,
     out: &mut W,
 ) -> Result<(), Fault>
-    ensures { AsksImage S.Source W.Sink question.entry (inputs_of image.old schedule.old) (inputs_of image.new schedule.new) out.old out.new result }
+    ensures { AsksTwo S.Source S.Source W.Sink IsImageStop (image_answer question.entry) image.old image.new schedule.old schedule.new out.old out.new result }
 {
     ask(alloc, question, image, schedule, out)?;
     Ok(())
@@ -32,12 +36,12 @@ fn ask_image<S: Source, W: Sink>(
 fn ask_files<F: Files, W: Sink>(
     alloc: Global,
     files: &F,
-    question: Question<'_>,
+    question: RunQuestion<'_>,
     image: &str,
     schedule: &str,
     out: &mut W,
 ) -> Result<(), Fault>
-    ensures { AsksFiles (disk_of F.Files F.Reader.Source F.Writer.Sink) W.Sink files.now question.entry (inputs_of image.now schedule.now) out.old out.new result }
+    ensures { AsksFiles (disk_of F.Files F.Reader.Source F.Writer.Sink) W.Sink IsImageStop (image_answer question.entry) files.now (inputs_of image.now schedule.now) out.old out.new result }
 {
     let Ok(mut image) = files.open(image) else {
         return Err(Fault::Asking(AskStop::Machine(RunFault::Read)));
@@ -48,10 +52,123 @@ fn ask_files<F: Files, W: Sink>(
     ask_image(alloc, question, &mut image, &mut schedule, out)
 }
 
+// Answers a question about the run of turns on the image in a source.
+fn ask_image_by<S: Source, W: Sink>(
+    alloc: Global,
+    question: RunQuestion<'_>,
+    image: &mut S,
+    turns: &str,
+    out: &mut W,
+) -> Result<(), Fault>
+    ensures { AsksSource S.Source W.Sink IsImageStop (image_answer_by question.entry turns.now) image.old image.new out.old out.new result }
+{
+    ask_by(alloc, question, image, turns.as_bytes(), out)?;
+    Ok(())
+}
+
+// Answers a question about the run of turns on the image in a file.
+fn ask_file_by<F: Files, W: Sink>(
+    alloc: Global,
+    files: &F,
+    question: RunQuestion<'_>,
+    image: &str,
+    turns: &str,
+    out: &mut W,
+) -> Result<(), Fault>
+    ensures { AsksFile (disk_of F.Files F.Reader.Source F.Writer.Sink) W.Sink IsImageStop (image_answer_by question.entry turns.now) files.now image.now out.old out.new result }
+{
+    match files.open(image) {
+        Ok(mut image) => ask_image_by(alloc, question, &mut image, turns, out),
+        Err(Failed) => Err(Fault::Asking(AskStop::Machine(RunFault::Read))),
+    }
+}
+
+// Answers a question about the run of one source's schedule on the tree of another source's manifest.
+fn ask_under<I: Source, S: Source, W: Sink>(
+    alloc: Global,
+    question: RunQuestion<'_>,
+    manifest: &mut I,
+    schedule: &mut S,
+    out: &mut W,
+) -> Result<(), Fault>
+    ensures { AsksTwo I.Source S.Source W.Sink IsBundleStop (manifest_answer question.entry) manifest.old manifest.new schedule.old schedule.new out.old out.new result }
+{
+    ask_manifest_run(alloc, question, manifest, schedule, out)?;
+    Ok(())
+}
+
+// Answers a question about the run of a schedule in a file on the tree of a manifest in another.
+fn ask_files_under<F: Files, W: Sink>(
+    alloc: Global,
+    files: &F,
+    question: RunQuestion<'_>,
+    manifest: &str,
+    schedule: &str,
+    out: &mut W,
+) -> Result<(), Fault>
+    ensures { AsksFiles (disk_of F.Files F.Reader.Source F.Writer.Sink) W.Sink IsBundleStop (manifest_answer question.entry) files.now (inputs_of manifest.now schedule.now) out.old out.new result }
+{
+    let Ok(mut manifest) = files.open(manifest) else {
+        return Err(Fault::Asking(AskStop::Machine(RunFault::Read)));
+    };
+    let Ok(mut schedule) = files.open(schedule) else {
+        return Err(Fault::Asking(AskStop::Machine(RunFault::Read)));
+    };
+    ask_under(alloc, question, &mut manifest, &mut schedule, out)
+}
+
+// Answers a question about the run of a schedule in a file on the tree of the manifest in a source.
+fn ask_beside<F: Files, I: Source, W: Sink>(
+    alloc: Global,
+    files: &F,
+    question: RunQuestion<'_>,
+    manifest: &mut I,
+    schedule: &str,
+    out: &mut W,
+) -> Result<(), Fault>
+    ensures { AsksBeside (disk_of F.Files F.Reader.Source F.Writer.Sink) I.Source W.Sink IsBundleStop (manifest_answer question.entry) files.now schedule.now manifest.old manifest.new out.old out.new result }
+{
+    match files.open(schedule) {
+        Ok(mut schedule) => ask_under(alloc, question, manifest, &mut schedule, out),
+        Err(Failed) => Err(Fault::Asking(AskStop::Machine(RunFault::Read))),
+    }
+}
+
+// Answers a question about the run of turns on the tree of the manifest in a source.
+fn ask_under_by<S: Source, W: Sink>(
+    alloc: Global,
+    question: RunQuestion<'_>,
+    manifest: &mut S,
+    turns: &str,
+    out: &mut W,
+) -> Result<(), Fault>
+    ensures { AsksSource S.Source W.Sink IsBundleStop (manifest_answer_by question.entry turns.now) manifest.old manifest.new out.old out.new result }
+{
+    ask_manifest_by(alloc, question, manifest, turns.as_bytes(), out)?;
+    Ok(())
+}
+
+// Answers a question about the run of turns on the tree of the manifest in a file.
+fn ask_file_under_by<F: Files, W: Sink>(
+    alloc: Global,
+    files: &F,
+    question: RunQuestion<'_>,
+    manifest: &str,
+    turns: &str,
+    out: &mut W,
+) -> Result<(), Fault>
+    ensures { AsksFile (disk_of F.Files F.Reader.Source F.Writer.Sink) W.Sink IsBundleStop (manifest_answer_by question.entry turns.now) files.now manifest.now out.old out.new result }
+{
+    match files.open(manifest) {
+        Ok(mut manifest) => ask_under_by(alloc, question, &mut manifest, turns, out),
+        Err(Failed) => Err(Fault::Asking(AskStop::Machine(RunFault::Read))),
+    }
+}
+
 // Answers a question about the run of the bundle in a source.
 fn ask_from<S: Source, W: Sink>(
     alloc: Global,
-    question: Question<'_>,
+    question: RunQuestion<'_>,
     bundle: &mut S,
     out: &mut W,
 ) -> Result<(), Fault>
@@ -65,7 +182,7 @@ fn ask_from<S: Source, W: Sink>(
 fn ask_file<F: Files, W: Sink>(
     alloc: Global,
     files: &F,
-    question: Question<'_>,
+    question: RunQuestion<'_>,
     name: &str,
     out: &mut W,
 ) -> Result<(), Fault>
@@ -139,13 +256,13 @@ fn ask_manifest_file<F: Files, W: Sink, P: Progress>(
     }
 }
 
-// Answers a question about a run. The bundle `-` is read from the standard input.
+// Answers a question about a run. The bundle or manifest `-` is read from the standard input.
 #[tactic(auto, using(crate::proofs::Outcomes::flushed_unwritten))]
 pub(crate) fn ask_run<F: Files, I: Source, W: Sink>(
     alloc: Global,
     files: &F,
     input: &mut I,
-    question: Question<'_>,
+    question: RunQuestion<'_>,
     run: RunInput<'_>,
     out: &mut W,
 ) -> Result<(), Fault>
@@ -154,11 +271,32 @@ pub(crate) fn ask_run<F: Files, I: Source, W: Sink>(
     ensures unread { ReadsRunFiles run.entry → input.new ≡ input.old }
 {
     match run {
-        RunInput::Files { image, schedule } => {
-            ask_files(alloc, files, question, image, schedule, out)
-        }
+        RunInput::Image {
+            image,
+            schedule: ScheduleInput::File(schedule),
+        } => ask_files(alloc, files, question, image, schedule, out),
+        RunInput::Image {
+            image,
+            schedule: ScheduleInput::Turns(turns),
+        } => ask_file_by(alloc, files, question, image, turns, out),
         RunInput::Bundle("-") => ask_from(alloc, question, input, out),
         RunInput::Bundle(name) => ask_file(alloc, files, question, name, out),
+        RunInput::Manifest {
+            manifest: "-",
+            schedule: ScheduleInput::File(schedule),
+        } => ask_beside(alloc, files, question, input, schedule, out),
+        RunInput::Manifest {
+            manifest,
+            schedule: ScheduleInput::File(schedule),
+        } => ask_files_under(alloc, files, question, manifest, schedule, out),
+        RunInput::Manifest {
+            manifest: "-",
+            schedule: ScheduleInput::Turns(turns),
+        } => ask_under_by(alloc, question, input, turns, out),
+        RunInput::Manifest {
+            manifest,
+            schedule: ScheduleInput::Turns(turns),
+        } => ask_file_under_by(alloc, files, question, manifest, turns, out),
     }
 }
 

@@ -10,13 +10,6 @@ use pv_run::{AuditStop, audit_image};
 use pv_streams::{Sink, Source};
 use std::alloc::Global;
 
-// Returns the bytes of a path, if there is one.
-fn bytes_of(path: Option<&str>) -> Option<&[u8]>
-    ensures { option_map (λ bytes. bytes.now) result ≡ option_map (λ text. text.now) path.entry }
-{
-    path.map(|text| text.as_bytes())
-}
-
 // Audits the image in one source after the run of the schedule in another.
 fn audit_from<S: Source, W: Sink>(
     alloc: Global,
@@ -38,11 +31,11 @@ pub(crate) fn audit_files<F: Files, W: Sink>(
     files: &F,
     image: &str,
     schedule: &str,
-    path: Option<&str>,
+    path: Option<&[u8]>,
     out: &mut W,
 ) -> Result<(), Fault>
     ensures { AuditsFiles (disk_of F.Files F.Reader.Source F.Writer.Sink) W.Sink files.now (inputs_of image.now schedule.now)
-        (option_map (λ text. text.now) path.entry) out.old out.new result }
+        (option_map (λ bytes. bytes.now) path.entry) out.old out.new result }
 {
     let Ok(mut image) = files.open(image) else {
         return Err(Fault::Auditing(AuditStop::Machine(RunFault::Read)));
@@ -50,5 +43,5 @@ pub(crate) fn audit_files<F: Files, W: Sink>(
     let Ok(mut schedule) = files.open(schedule) else {
         return Err(Fault::Auditing(AuditStop::Machine(RunFault::Read)));
     };
-    audit_from(alloc, &mut image, &mut schedule, bytes_of(path), out)
+    audit_from(alloc, &mut image, &mut schedule, path, out)
 }

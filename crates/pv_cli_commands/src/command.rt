@@ -1,20 +1,37 @@
 //! Commands and their arguments.
 
 use pv_model::Version;
-use pv_questions::{Question, TreeQuestion};
+use pv_questions::{RunQuestion, TreeQuestion};
 
-/// The input of a run: an image and a schedule, or a bundle.
+/// The schedule of a run.
+#[derive(Clone, Copy, Debug, PartialEq, Eq)]
+pub enum ScheduleInput<'a> {
+    /// The schedule in a file.
+    File(&'a str),
+    /// Turns with `, ` between, as `explore` writes a witness.
+    Turns(&'a str),
+}
+
+/// The input of a run: an image with a schedule, a bundle, or a manifest with a schedule.
 #[derive(Clone, Copy, Debug, PartialEq, Eq)]
 pub enum RunInput<'a> {
-    /// The image in a file, under the schedule in another.
-    Files {
+    /// The image in a file, under a schedule.
+    Image {
         /// The file of the image.
         image: &'a str,
-        /// The file of the schedule.
-        schedule: &'a str,
+        /// The schedule.
+        schedule: ScheduleInput<'a>,
     },
     /// The bundle in a file. `-` is the standard input.
     Bundle(&'a str),
+    /// The tree of the manifest in a file, which may be a bundle, under a schedule in place of the bundle's own. `-` is
+    /// the standard input.
+    Manifest {
+        /// The file of the manifest.
+        manifest: &'a str,
+        /// The schedule.
+        schedule: ScheduleInput<'a>,
+    },
 }
 
 /// The input that has a tree: an image or a manifest.
@@ -85,14 +102,14 @@ pub enum Command<'a> {
         /// The file of the schedule.
         schedule: &'a str,
         /// The path of a file in the image. Without a path, all files are audited.
-        path: Option<&'a str>,
+        path: Option<&'a [u8]>,
     },
     /// Writes the manifest or bundle of the source in a file, or reports the lines in error. `-` is the standard input.
     WriteSource(&'a str),
     /// Answers a question about a run.
     Ask {
         /// The question.
-        question: Question<'a>,
+        question: RunQuestion<'a>,
         /// The run.
         run: RunInput<'a>,
     },

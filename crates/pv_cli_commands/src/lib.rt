@@ -25,7 +25,7 @@ pub mod running;
 pub mod sources;
 pub mod system;
 
-pub use command::{Command, RunInput, TreeInput};
+pub use command::{Command, RunInput, ScheduleInput, TreeInput};
 pub use directories::Directories;
 pub use fault::Fault;
 pub use performing::perform;

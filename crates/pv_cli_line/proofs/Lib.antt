@@ -1,6 +1,8 @@
--- Lemmas about the command line: LineLemmas (the command in the matches of a line), Messages (their parts), Reported
+-- Lemmas about the command line: LineLemmas (the command in the matches of a line), Messages (their parts),
+-- QuestionLemmas (the questions about a run in the matches), Reported
 -- (errors), Sizes (numbers in words).
 pub mod LineLemmas
 pub mod Messages
+pub mod QuestionLemmas
 pub mod Reported
 pub mod Sizes

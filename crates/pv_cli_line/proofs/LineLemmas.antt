@@ -1,9 +1,10 @@
 -- The matches of a line, or its refusal by the parser, and the command that it asks for.
-use Rattle.std.proofs.Common.{◌≡◌, ◌⊎◌, ◌∙◌, ap, sym, subst, inl, inr, true, false, arith, if◌then◌else◌, bytes_eq, ℕ, List, [], ◌∷◌, length, map, codes, Option, None, Some, option_map, refl}
+use Rattle.std.proofs.Common.{◌≡◌, ◌⊎◌, ◌∙◌, ap, sym, subst, inl, inr, Bool, true, false, arith, if◌then◌else◌, bytes_eq, ℕ, List, [], ◌∷◌, length, map, codes, Option, None, Some, option_map, refl}
 use Rattle.std.proofs.lemmas.Bool.{and_parts, false_from_ne_true}
 use Rattle.std.proofs.lemmas.List.{length-map}
 use Rattle.std.proofs.lemmas.Slice.Eq.{bytes_eq-Decides}
 use Rattle.std.specs.Prelude.{◌<◌, ◌≤◌, Box, Result, Ok, Err, IfErr, IfOk, IfSome, IsErrAnd}
+use Rattle.std.specs.Option.{IsSomeAnd}
 use Rattle.std.specs.Box.{box_value}
 use Rattle.clap.specs.Words.{HasKind, Row, Text, fault_of, first_of, found_of, kind_of, rows_of, subcommand_rows, takes}
 use Rattle.clap.specs.declared.error.Error.{Error}
@@ -16,16 +17,19 @@ use Rattle.clap.specs.Words.{is_simple, is_simple_and_free, subcommand_of}
 use Rattle.pv_cli_commands.specs.declared.command.Command.{Command}
 use Rattle.pv_cli_commands.specs.declared.command.Command.TheVariants.{RunTree, MakeImage, ListImage, RunImage, MigrateImage, ImportDirectory, ExportImage, AuditImage, WriteSource, Ask, AskTree}
 use Rattle.pv_cli_commands.specs.declared.command.RunInput.{RunInput}
-use Rattle.pv_cli_commands.specs.declared.command.RunInput.TheVariants.{Files, Bundle}
+use Rattle.pv_cli_commands.specs.declared.command.RunInput.TheVariants.{Image as OfImage, Bundle}
+use Rattle.pv_cli_commands.specs.declared.command.ScheduleInput.TheVariants.{File as InFile}
 use Rattle.pv_cli_commands.specs.declared.command.TreeInput.{TreeInput}
 use Rattle.pv_cli_commands.specs.declared.command.TreeInput.TheVariants.{Image, Manifest}
+use Rattle.pv_questions.specs.Schedules.{are_turns}
 use Rattle.pv_questions.specs.declared.question.Question.{Question}
-use Rattle.pv_questions.specs.declared.question.Question.TheVariants.{State, Reach, Explain, Needs, Audit}
+use Rattle.pv_questions.specs.declared.question.Question.TheVariants.{Trace, Audit}
 use Rattle.pv_questions.specs.declared.question.TreeQuestion.TheVariants.{Listing, File, Turns, Explore, Graph}
+use Rattle.pv_cli_line.specs.declared.command.CommandLine.{CommandLine}
 use Rattle.pv_cli_line.specs.declared.command.LineFault.{LineFault}
 use Rattle.pv_cli_line.specs.declared.command.LineFault.TheVariants as line
 use Rattle.pv_cli_line.specs.declared.matches.Migration.{Migration}
-use Rattle.pv_cli_line.specs.Line.{HasTexts, IsCommandIn, IsMigrationOf, IsPlain, IsPlainQuestion, IsQuestionIn, IsRefused, IsRunIn, IsTreeIn, IsValidRunIn, IsValidTreeIn, IsWithoutNumbers, RefusesLine, RefusesWords, entered_text, is_given, is_verbose_in, is_verbose_line, of_kind, of_parser}
+use Rattle.pv_cli_line.specs.Line.{AreFaultyTurns, HasTexts, IsCommandIn, IsMigrationOf, IsPlain, IsQuestionIn, IsRefused, IsTreeIn, IsValidIn, IsValidTreeIn, IsWithoutNumbers, RefusesLine, RefusesTurns, RefusesTurnsOf, RefusesWords, entered_text, is_given, is_verbose_in, is_verbose_line, of_kind, of_parser, turns_of}
 use Rattle.pv_cli_line.specs.Parser.{pvsim_app}
 
 module _ {Z : Type 0} where
@@ -72,61 +76,44 @@ verbose-wordless text (program ∷ word ∷ words) few = absurd (omega (arith, f
 
 module _ (entered : Option (Text × List Row)) where
   pub no_plain_command :
-      entered_text entered (codes "run-tree") (codes "FILE") ≡ None → entered_text entered (codes "source") (codes "FILE") ≡ None
+      entered_text entered (codes "source") (codes "FILE") ≡ None
       → ((manifest image : Text) → entered_text entered (codes "mkimg") (codes "MANIFEST") ≡ Some manifest → entered_text entered (codes "mkimg") (codes "IMAGE") ≡ Some image → ⊥)
       → ((image schedule out : Text) → entered_text entered (codes "run") (codes "IMAGE") ≡ Some image → entered_text entered (codes "run") (codes "SCHEDULE") ≡ Some schedule
       → entered_text entered (codes "run") (codes "OUT") ≡ Some out → ⊥)
       → ((image directory : Text) → entered_text entered (codes "export") (codes "IMAGE") ≡ Some image → entered_text entered (codes "export") (codes "DIR") ≡ Some directory → ⊥)
       → (command : Command) → IsPlain command → IsCommandIn entered command → ⊥
-  no_plain_command tree source made ran exports (RunTree file) plain is = let both : None ≡ Some file.now = sym tree ∙ is in cc
-  no_plain_command tree source made ran exports (WriteSource file) plain is = let both : None ≡ Some file.now = sym source ∙ is in cc
-  no_plain_command tree source made ran exports (MakeImage manifest image) plain is = made manifest.now image.now is.0 is.1
-  no_plain_command tree source made ran exports (RunImage image schedule out) plain is = ran image.now schedule.now out.now is.0 is.1 is.2
-  no_plain_command tree source made ran exports (ExportImage image directory) plain is = exports image.now directory.now is.0 is.1
-  no_plain_command tree source made ran exports (ListImage image) plain is = absurd plain
-  no_plain_command tree source made ran exports (MigrateImage image out blocks inodes) plain is = absurd plain
-  no_plain_command tree source made ran exports (ImportDirectory directory image version skips) plain is = absurd plain
-  no_plain_command tree source made ran exports (AuditImage image schedule path) plain is = absurd plain
-  no_plain_command tree source made ran exports (Ask question run) plain is = absurd plain
-  no_plain_command tree source made ran exports (AskTree question tree-of) plain is = absurd plain
-
-  pub no_plain_question :
-      ((run : RunInput) → IsValidRunIn entered (codes "state") run → ⊥) → ((run : RunInput) → IsValidRunIn entered (codes "explain") run → ⊥)
-      → ((run : RunInput) → IsValidRunIn entered (codes "needs") run → ⊥)
-      → (question : Question) (run : RunInput) → IsPlainQuestion question → IsQuestionIn entered question run → ⊥
-  no_plain_question state explain needs State run plain is = state run is
-  no_plain_question state explain needs Explain run plain is = explain run is
-  no_plain_question state explain needs Needs run plain is = needs run is
-  no_plain_question state explain needs (Reach pid) run plain is = absurd plain
-  no_plain_question state explain needs (Audit path) run plain is = absurd plain
+  no_plain_command source made ran exports (WriteSource file) plain is = let both : None ≡ Some file.now = sym source ∙ is in cc both
+  no_plain_command source made ran exports (MakeImage manifest image) plain is = made manifest.now image.now is.0 is.1
+  no_plain_command source made ran exports (RunImage image schedule out) plain is = ran image.now schedule.now out.now is.0 is.1 is.2
+  no_plain_command source made ran exports (ExportImage image directory) plain is = exports image.now directory.now is.0 is.1
+  no_plain_command source made ran exports (RunTree file) plain is = absurd plain
+  no_plain_command source made ran exports (ListImage image) plain is = absurd plain
+  no_plain_command source made ran exports (MigrateImage image out blocks inodes) plain is = absurd plain
+  no_plain_command source made ran exports (ImportDirectory directory image version skips) plain is = absurd plain
+  no_plain_command source made ran exports (AuditImage image schedule path) plain is = absurd plain
+  no_plain_command source made ran exports (Ask question run) plain is = absurd plain
+  no_plain_command source made ran exports (AskTree question tree-of) plain is = absurd plain
 
   pub no_command :
       ((command : Command) → IsPlain command → IsCommandIn entered command → ⊥) → ((tree : TreeInput) → IsValidTreeIn entered (codes "ls") tree → ⊥)
       → ((path : Text) (tree : TreeInput) → IsTreeIn entered (codes "cat") (codes "PATH") tree (Some path) → ⊥)
-      → ((run : RunInput) (further : Option Text) → IsRunIn entered (codes "audit") (codes "PATH") run further → ⊥)
-      → ((question : Question) (run : RunInput) → IsPlainQuestion question → IsQuestionIn entered question run → ⊥)
       → (command : Command) → IsWithoutNumbers command → IsCommandIn entered command → ⊥
-  no_command plain list cat audit asks (RunTree file) without is = plain (RunTree file) tt is
-  no_command plain list cat audit asks (WriteSource file) without is = plain (WriteSource file) tt is
-  no_command plain list cat audit asks (MakeImage manifest image) without is = plain (MakeImage manifest image) tt is
-  no_command plain list cat audit asks (RunImage image schedule out) without is = plain (RunImage image schedule out) tt is
-  no_command plain list cat audit asks (ExportImage image directory) without is = plain (ExportImage image directory) tt is
-  no_command plain list cat audit asks (ListImage image) without is = list (Image image) is
-  no_command plain list cat audit asks (MigrateImage image out blocks inodes) without is = absurd without
-  no_command plain list cat audit asks (ImportDirectory directory image version skips) without is = absurd without
-  no_command plain list cat audit asks (AuditImage image schedule path) without is = audit (Files image schedule) (option_map (λ text. text.now) path) is
-  no_command plain list cat audit asks (Ask State run) without is = asks State run tt is
-  no_command plain list cat audit asks (Ask Explain run) without is = asks Explain run tt is
-  no_command plain list cat audit asks (Ask Needs run) without is = asks Needs run tt is
-  no_command plain list cat audit asks (Ask (Reach pid) run) without is = absurd without
-  no_command plain list cat audit asks (Ask (Audit path) (Bundle bundle)) without is = audit (Bundle bundle) (option_map (λ bytes. bytes.now) path) is
-  no_command plain list cat audit asks (Ask (Audit path) (Files image schedule)) without is = absurd is
-  no_command plain list cat audit asks (AskTree Listing (Manifest manifest)) without is = list (Manifest manifest) is
-  no_command plain list cat audit asks (AskTree Listing (Image image)) without is = absurd is
-  no_command plain list cat audit asks (AskTree (File path) tree) without is = cat path.now tree is
-  no_command plain list cat audit asks (AskTree (Turns slice steps) tree) without is = absurd without
-  no_command plain list cat audit asks (AskTree (Explore states) tree) without is = absurd without
-  no_command plain list cat audit asks (AskTree (Graph states lists_tree) tree) without is = absurd without
+  no_command plain list cat (RunTree file) without is = absurd without
+  no_command plain list cat (WriteSource file) without is = plain (WriteSource file) tt is
+  no_command plain list cat (MakeImage manifest image) without is = plain (MakeImage manifest image) tt is
+  no_command plain list cat (RunImage image schedule out) without is = plain (RunImage image schedule out) tt is
+  no_command plain list cat (ExportImage image directory) without is = plain (ExportImage image directory) tt is
+  no_command plain list cat (ListImage image) without is = list (Image image) is
+  no_command plain list cat (MigrateImage image out blocks inodes) without is = absurd without
+  no_command plain list cat (ImportDirectory directory image version skips) without is = absurd without
+  no_command plain list cat (AuditImage image schedule path) without is = absurd without
+  no_command plain list cat (Ask question run) without is = absurd without
+  no_command plain list cat (AskTree Listing (Manifest manifest)) without is = list (Manifest manifest) is
+  no_command plain list cat (AskTree Listing (Image image)) without is = absurd is
+  no_command plain list cat (AskTree (File path) tree) without is = cat path.now tree is
+  no_command plain list cat (AskTree (Turns slice steps) tree) without is = absurd without
+  no_command plain list cat (AskTree (Explore states) tree) without is = absurd without
+  no_command plain list cat (AskTree (Graph states lists_tree) tree) without is = absurd without
 
   pub no_command_at_all :
       ((command : Command) → IsWithoutNumbers command → IsCommandIn entered command → ⊥)
@@ -135,38 +122,27 @@ module _ (entered : Option (Text × List Row)) where
       → ((tree : TreeInput) → IsValidTreeIn entered (codes "turns") tree → ⊥)
       → ((tree : TreeInput) → IsValidTreeIn entered (codes "explore") tree → ⊥)
       → ((tree : TreeInput) → IsValidTreeIn entered (codes "graph") tree → ⊥)
-      → ((pid : Option ℕ) (run : RunInput) → IsQuestionIn entered (Reach pid) run → ⊥)
+      → ((question : Question) (run : RunInput) → IsQuestionIn entered question run → ⊥)
       → (command : Command) → IsCommandIn entered command → ⊥
-  no_command_at_all other migrates imports turns explores graphs reaches (RunTree file) is = other (RunTree file) tt is
-  no_command_at_all other migrates imports turns explores graphs reaches (WriteSource file) is = other (WriteSource file) tt is
-  no_command_at_all other migrates imports turns explores graphs reaches (ListImage image) is = other (ListImage image) tt is
-  no_command_at_all other migrates imports turns explores graphs reaches (MakeImage manifest image) is = other (MakeImage manifest image) tt is
-  no_command_at_all other migrates imports turns explores graphs reaches (RunImage image schedule out) is = other (RunImage image schedule out) tt is
-  no_command_at_all other migrates imports turns explores graphs reaches (ExportImage image directory) is = other (ExportImage image directory) tt is
-  no_command_at_all other migrates imports turns explores graphs reaches (AuditImage image schedule path) is = other (AuditImage image schedule path) tt is
-  no_command_at_all other migrates imports turns explores graphs reaches (MigrateImage image out blocks inodes) is =
+  no_command_at_all other migrates imports turns explores graphs asks (RunTree file) is = asks Trace (Bundle file) is.0
+  no_command_at_all other migrates imports turns explores graphs asks (WriteSource file) is = other (WriteSource file) tt is
+  no_command_at_all other migrates imports turns explores graphs asks (ListImage image) is = other (ListImage image) tt is
+  no_command_at_all other migrates imports turns explores graphs asks (MakeImage manifest image) is = other (MakeImage manifest image) tt is
+  no_command_at_all other migrates imports turns explores graphs asks (RunImage image schedule out) is = other (RunImage image schedule out) tt is
+  no_command_at_all other migrates imports turns explores graphs asks (ExportImage image directory) is = other (ExportImage image directory) tt is
+  no_command_at_all other migrates imports turns explores graphs asks (AuditImage image schedule path) is = asks (Audit path) (OfImage image (InFile schedule)) is.0
+  no_command_at_all other migrates imports turns explores graphs asks (MigrateImage image out blocks inodes) is =
       migrates image.now out.now is.2.word is.3.word (record { has_image = is.0; has_out = is.1; has_blocks = is.2.is_entered; has_inodes = is.3.is_entered })
-  no_command_at_all other migrates imports turns explores graphs reaches (ImportDirectory directory image version skips) is = imports directory.now image.now is.0 is.1
-  no_command_at_all other migrates imports turns explores graphs reaches (Ask State run) is = other (Ask State run) tt is
-  no_command_at_all other migrates imports turns explores graphs reaches (Ask Explain run) is = other (Ask Explain run) tt is
-  no_command_at_all other migrates imports turns explores graphs reaches (Ask Needs run) is = other (Ask Needs run) tt is
-  no_command_at_all other migrates imports turns explores graphs reaches (Ask (Reach pid) run) is = reaches pid run is
-  no_command_at_all other migrates imports turns explores graphs reaches (Ask (Audit path) run) is = other (Ask (Audit path) run) tt is
-  no_command_at_all other migrates imports turns explores graphs reaches (AskTree Listing tree) is = other (AskTree Listing tree) tt is
-  no_command_at_all other migrates imports turns explores graphs reaches (AskTree (File path) tree) is = other (AskTree (File path) tree) tt is
-  no_command_at_all other migrates imports turns explores graphs reaches (AskTree (Turns slice steps) tree) is = turns tree is.0
-  no_command_at_all other migrates imports turns explores graphs reaches (AskTree (Explore states) tree) is = explores tree is.0
-  no_command_at_all other migrates imports turns explores graphs reaches (AskTree (Graph states lists_tree) tree) is = graphs tree is.0
+  no_command_at_all other migrates imports turns explores graphs asks (ImportDirectory directory image version skips) is = imports directory.now image.now is.0 is.1
+  no_command_at_all other migrates imports turns explores graphs asks (Ask question run) is = asks question.question run is.0
+  no_command_at_all other migrates imports turns explores graphs asks (AskTree Listing tree) is = other (AskTree Listing tree) tt is
+  no_command_at_all other migrates imports turns explores graphs asks (AskTree (File path) tree) is = other (AskTree (File path) tree) tt is
+  no_command_at_all other migrates imports turns explores graphs asks (AskTree (Turns slice steps) tree) is = turns tree is.0
+  no_command_at_all other migrates imports turns explores graphs asks (AskTree (Explore states) tree) is = explores tree is.0
+  no_command_at_all other migrates imports turns explores graphs asks (AskTree (Graph states lists_tree) tree) is = graphs tree is.0
 
   -- the text after an input is determined by the matches
   module _ (command last : Text) where
-    pub run_further : (run other : RunInput) (further another : Option Text) → IsRunIn entered command last run further → IsRunIn entered command last other another
-        → further ≡ another
-    run_further (Files image schedule) (Files image' schedule') further another is at = sym is.3 ∙ at.3
-    run_further (Files image schedule) (Bundle bundle) further another is at = let both : None ≡ Some bundle.now = sym is.0 ∙ at.0 in cc both
-    run_further (Bundle bundle) (Files image schedule) further another is at = let both : None ≡ Some bundle.now = sym at.0 ∙ is.0 in cc both
-    run_further (Bundle bundle) (Bundle bundle') further another is at = sym is.1 ∙ at.1
-
     pub tree_further : (tree other : TreeInput) (further another : Option Text) → IsTreeIn entered command last tree further → IsTreeIn entered command last other another
         → further ≡ another
     tree_further (Image image) (Image image') further another is at = sym is.2 ∙ at.2
@@ -200,14 +176,14 @@ pub refused_by_kind : (words : List Text) (error : Error) (kind : ErrorKind) →
     → HasKind (fault_of pvsim_app words) error
     → RefusesWords words (of_kind kind error)
 refused_by_kind words error OutOfMemory is passes has = tt
-refused_by_kind words error kind is passes has = record {
+refused_by_kind words error kind is passes has = inl (record {
   kind = λ memory. cc;
   is_among = elim has [
     | inl memory ↦ let bad : ⊥ = cc in absurd bad
     | inr among ↦ inl among
   ];
   none = λ taken command appears. let memory = passes taken in cc;
-}
+})
 
 pub refused_by_parser : (words : List Text) (error : Error)
     → (takes pvsim_app words ≡ true → kind_of error ≡ OutOfMemory)
@@ -238,6 +214,31 @@ pub pvsim_has_matches : is_simple pvsim_app ≡ true
 pvsim_has_matches = (and_parts (is_simple pvsim_app) _ pvsim_is_simple).0
 
 -- ---- the result if the parser accepts the words
+
+-- the words ask for a command, whose turns are turns or are refused
+module _ (words : List Text) (entered : Option (Text × List Row)) (appears : entered ≡ subcommand_of pvsim_app words) (command : Command) (is : IsCommandIn entered command) where
+  there : IsCommandIn (subcommand_of pvsim_app words) command
+  there = subst (λ (e : Option (Text × List Row)). IsCommandIn e command) appears is
+
+  pub asked_by : (r : Result CommandLine LineFault) (verbose : Bool) → IfOk r (λ line. (line.command ≡ command) × (line.is_verbose ≡ verbose))
+      → IfOk r (λ line. AreFaultyTurns line.command None) → IfOk r (λ line. IsValidIn (subcommand_of pvsim_app words) line.command)
+  asked_by (Ok line) verbose same turns = (subst (λ (k : Command). IsCommandIn (subcommand_of pvsim_app words) k) (sym same.0) there, turns)
+  asked_by (Err fault) verbose same turns = tt
+
+  pub refused_by_turns : {T : Type 0} (r : Result T LineFault) → IfErr r (RefusesTurnsOf command) → IfErr r (RefusesWords words)
+  refused_by_turns (Ok value) refuses = tt
+  refused_by_turns (Err line.Memory) refuses = tt
+  refused_by_turns (Err line.Number) refuses = absurd refuses
+  refused_by_turns (Err (line.Parser error)) refuses = inr (by (turns_of command) refl refuses.1)
+    where
+      by : (o : Option Text) → turns_of command ≡ o → IsSomeAnd o (λ turns. are_turns turns ≡ false) → RefusesTurns words error
+      by None has faulty = absurd faulty
+      by (Some turns) has faulty = record { kind = refuses.0; command = command; is_command = there; turns = turns; has_turns = has; are_none = faulty }
+
+pub verbose_by : (r : Result CommandLine LineFault) (command : Command) (verbose other : Bool) → IfOk r (λ line. (line.command ≡ command) × (line.is_verbose ≡ verbose))
+    → verbose ≡ other → IfOk r (λ line. line.is_verbose ≡ other)
+verbose_by (Ok line) command verbose other same is = same.1 ∙ is
+verbose_by (Err fault) command verbose other same is = tt
 
 pub none_by : {X : Type 0} (o : Option X) → ((x : X) → o ≡ Some x → ⊥) → o ≡ None
 none_by None never = refl

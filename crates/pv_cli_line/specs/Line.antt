@@ -1,9 +1,10 @@
 -- The command in the words of a command line.
-use Rattle.std.specs.Prelude.{◌≡◌, ◌≢◌, ◌⊎◌, ⊤, ℕ, ◌<◌, Bool, ◌&&◌, nat_le, true, false, if◌then◌else◌, bytes_eq, List, [], ◌∷◌, length, codes, Option, None, Some, option_map}
+use Rattle.std.specs.Prelude.{◌≡◌, ◌≢◌, ◌⊎◌, ⊤, ℕ, ◌<◌, Bool, ◌&&◌, nat_le, true, false, if◌then◌else◌, bytes_eq, List, [], ◌∷◌, length, codes, Option, None, Some, IfSome, option_map}
+use Rattle.std.specs.Option.{IsSomeAnd}
 use Rattle.clap.specs.Words.{Row, Text, IsAmong, fault_of, first_of, kind_of, subcommand_of, takes}
 use Rattle.clap.specs.declared.error.Error.{Error}
 use Rattle.clap.specs.declared.error.kind.ErrorKind.{ErrorKind}
-use Rattle.clap.specs.declared.error.kind.ErrorKind.TheVariants.{OutOfMemory, MissingRequiredArgument}
+use Rattle.clap.specs.declared.error.kind.ErrorKind.TheVariants.{OutOfMemory, MissingRequiredArgument, ValueValidation}
 use Rattle.pv_model.specs.Grammar.Arguments.{in_range}
 use Rattle.pv_model.specs.Grammar.Lines.{decimal_of}
 use Rattle.pv_model.specs.declared.version.Version.{Version}
@@ -11,11 +12,15 @@ use Rattle.pv_model.specs.declared.version.Version.TheVariants.{V1, V2}
 use Rattle.pv_cli_commands.specs.declared.command.Command.{Command}
 use Rattle.pv_cli_commands.specs.declared.command.Command.TheVariants.{RunTree, MakeImage, ListImage, RunImage, MigrateImage, ImportDirectory, ExportImage, AuditImage, WriteSource, Ask, AskTree}
 use Rattle.pv_cli_commands.specs.declared.command.RunInput.{RunInput}
-use Rattle.pv_cli_commands.specs.declared.command.RunInput.TheVariants.{Files, Bundle}
+use Rattle.pv_cli_commands.specs.declared.command.RunInput.TheVariants.{Image as OfImage, Bundle, Manifest as OfManifest}
+use Rattle.pv_cli_commands.specs.declared.command.ScheduleInput.{ScheduleInput}
+use Rattle.pv_cli_commands.specs.declared.command.ScheduleInput.TheVariants.{File as InFile, Turns as AsTurns}
 use Rattle.pv_cli_commands.specs.declared.command.TreeInput.{TreeInput}
 use Rattle.pv_cli_commands.specs.declared.command.TreeInput.TheVariants.{Image, Manifest}
 use Rattle.pv_questions.specs.declared.question.Question.{Question}
-use Rattle.pv_questions.specs.declared.question.Question.TheVariants.{State, Reach, Explain, Needs, Audit}
+use Rattle.pv_questions.specs.declared.question.Question.TheVariants.{Trace, State, Reach, Explain, Needs, Audit}
+use Rattle.pv_questions.specs.Schedules.{are_turns}
+use Rattle.pv_questions.specs.declared.question.RunQuestion.{RunQuestion}
 use Rattle.pv_questions.specs.declared.question.TreeQuestion.{TreeQuestion}
 use Rattle.pv_questions.specs.declared.question.TreeQuestion.TheVariants.{Listing, File, Turns, Explore, Graph}
 use Rattle.pv_cli_line.specs.declared.matches.Parsed.{Parsed}
@@ -75,19 +80,45 @@ pub record EncodesSize (entered : Option (Text × List Row)) (command argument :
   pub is_entered : entered_text entered command argument ≡ Some word
   pub is_size : size_in word ≡ Some size
 
+-- exactly one of a file and turns is given, and is this schedule
+abbrev pub IsScheduleOf : (file turns : Option Text) → ScheduleInput → Type 0
+IsScheduleOf file turns (InFile schedule) = (file ≡ Some schedule.now) × (turns ≡ None)
+IsScheduleOf file turns (AsTurns given) = (file ≡ None) × (turns ≡ Some given.now)
+
 -- the input of a run was entered, and the argument after it: an image and a schedule, followed by the argument `last`,
--- or a bundle in their place
+-- or a bundle in their place; turns may be in the place of the schedule, and a manifest and a schedule, with an argument
+-- after them, in that of the bundle
 abbrev pub IsRunIn : Option (Text × List Row) → (command last : Text) → RunInput → Option Text → Type 0
-IsRunIn entered command last (Files image schedule) further =
-    (entered_text entered command (codes "bundle") ≡ None) × (entered_text entered command (codes "IMAGE") ≡ Some image.now)
-    × (entered_text entered command (codes "SCHEDULE") ≡ Some schedule.now) × (entered_text entered command last ≡ further)
+IsRunIn entered command last (OfImage image (InFile schedule)) further =
+    (entered_text entered command (codes "bundle") ≡ None) × (entered_text entered command (codes "by") ≡ None)
+    × (entered_text entered command (codes "IMAGE") ≡ Some image.now) × (entered_text entered command (codes "SCHEDULE") ≡ Some schedule.now)
+    × (entered_text entered command last ≡ further)
+IsRunIn entered command last (OfImage image (AsTurns turns)) further =
+    (entered_text entered command (codes "bundle") ≡ None) × (entered_text entered command (codes "by") ≡ Some turns.now)
+    × (entered_text entered command (codes "IMAGE") ≡ Some image.now) × (entered_text entered command (codes "SCHEDULE") ≡ further)
+    × (entered_text entered command last ≡ None)
 IsRunIn entered command last (Bundle bundle) further =
-    (entered_text entered command (codes "bundle") ≡ Some bundle.now) × (entered_text entered command (codes "IMAGE") ≡ further)
-    × (entered_text entered command (codes "SCHEDULE") ≡ None)
+    (entered_text entered command (codes "bundle") ≡ Some bundle.now) × (entered_text entered command (codes "by") ≡ None)
+    × (entered_text entered command (codes "IMAGE") ≡ further) × (entered_text entered command (codes "SCHEDULE") ≡ None)
+IsRunIn entered command last (OfManifest manifest (InFile schedule)) further =
+    (entered_text entered command (codes "bundle") ≡ Some manifest.now) × (entered_text entered command (codes "by") ≡ None)
+    × (entered_text entered command (codes "IMAGE") ≡ Some schedule.now) × (entered_text entered command (codes "SCHEDULE") ≡ further)
+    × (entered_text entered command last ≡ None) × (further ≢ None)
+IsRunIn entered command last (OfManifest manifest (AsTurns turns)) further =
+    (entered_text entered command (codes "bundle") ≡ Some manifest.now) × (entered_text entered command (codes "by") ≡ Some turns.now)
+    × (entered_text entered command (codes "IMAGE") ≡ further) × (entered_text entered command (codes "SCHEDULE") ≡ None)
 
 -- the same for a command without a further argument
 abbrev pub IsValidRunIn : Option (Text × List Row) → Text → RunInput → Type 0
-IsValidRunIn entered command run = IsRunIn entered command (codes "PID") run None
+IsValidRunIn entered command (OfImage image schedule) =
+    (entered_text entered command (codes "bundle") ≡ None) × (entered_text entered command (codes "IMAGE") ≡ Some image.now)
+    × IsScheduleOf (entered_text entered command (codes "SCHEDULE")) (entered_text entered command (codes "by")) schedule
+IsValidRunIn entered command (Bundle bundle) =
+    (entered_text entered command (codes "bundle") ≡ Some bundle.now) × (entered_text entered command (codes "by") ≡ None)
+    × (entered_text entered command (codes "IMAGE") ≡ None) × (entered_text entered command (codes "SCHEDULE") ≡ None)
+IsValidRunIn entered command (OfManifest manifest schedule) =
+    (entered_text entered command (codes "bundle") ≡ Some manifest.now) × (entered_text entered command (codes "SCHEDULE") ≡ None)
+    × IsScheduleOf (entered_text entered command (codes "IMAGE")) (entered_text entered command (codes "by")) schedule
 
 -- the input with a tree was entered, and the argument after it: an image, followed by the argument `last`, or a
 -- manifest in its place
@@ -131,28 +162,71 @@ IsTreeQuestionIn entered (Graph states lists_tree) tree =
     IsValidTreeIn entered (codes "graph") tree × (states_entered entered (codes "graph") ≡ Some states)
     × (is_given (entered_text entered (codes "graph") (codes "tree")) ≡ lists_tree)
 
--- the text of a process number, if there is one, is this number
-abbrev pub EncodesProcess : Option Text → Option ℕ → Type 0
-EncodesProcess word pid = option_map size_in word ≡ option_map (λ n. Some n) pid
+-- the text of a number, if there is one, is this number
+abbrev pub EncodesNumber : Option Text → Option ℕ → Type 0
+EncodesNumber word number = option_map size_in word ≡ option_map (λ n. Some n) number
+
+-- the command of a question about a run
+abbrev pub question_name : Question → Text
+question_name Trace = codes "run-tree"
+question_name State = codes "state"
+question_name (Reach pid) = codes "reach"
+question_name Explain = codes "explain"
+question_name (Needs granted lines) = codes "needs"
+question_name (Audit path) = codes "audit"
+
+-- the input of `run-tree` was entered: a bundle, or a manifest with turns
+abbrev pub IsTracedIn : Option (Text × List Row) → RunInput → Type 0
+IsTracedIn entered (Bundle file) =
+    (entered_text entered (codes "run-tree") (codes "FILE") ≡ Some file.now) × (entered_text entered (codes "run-tree") (codes "by") ≡ None)
+IsTracedIn entered (OfManifest file (AsTurns turns)) =
+    (entered_text entered (codes "run-tree") (codes "FILE") ≡ Some file.now) × (entered_text entered (codes "run-tree") (codes "by") ≡ Some turns.now)
+IsTracedIn entered run = ⊥
 
 -- a question about a run was entered, with its input
 abbrev pub IsQuestionIn : Option (Text × List Row) → Question → RunInput → Type 0
+IsQuestionIn entered Trace run = IsTracedIn entered run
 IsQuestionIn entered State run = IsValidRunIn entered (codes "state") run
-IsQuestionIn entered (Reach pid) run = (word : Option Text) × IsRunIn entered (codes "reach") (codes "PID") run word × EncodesProcess word pid
+IsQuestionIn entered (Reach pid) run = (word : Option Text) × IsRunIn entered (codes "reach") (codes "PID") run word × EncodesNumber word pid
 IsQuestionIn entered Explain run = IsValidRunIn entered (codes "explain") run
-IsQuestionIn entered Needs run = IsValidRunIn entered (codes "needs") run
-IsQuestionIn entered (Audit path) (Bundle bundle) = IsRunIn entered (codes "audit") (codes "PATH") (Bundle bundle) (option_map (λ bytes. bytes.now) path)
-IsQuestionIn entered (Audit path) (Files image schedule) = ⊥
+IsQuestionIn entered (Needs granted lines) run =
+    IsValidRunIn entered (codes "needs") run
+    × (is_given (entered_text entered (codes "needs") (codes "granted")) ≡ granted) × (is_given (entered_text entered (codes "needs") (codes "lines")) ≡ lines)
+IsQuestionIn entered (Audit path) run = IsRunIn entered (codes "audit") (codes "PATH") run (option_map (λ bytes. bytes.now) path)
 
--- the question has no argument of its own
-abbrev pub IsPlainQuestion : Question → Type 0
-IsPlainQuestion (Reach pid) = ⊥
-IsPlainQuestion (Audit path) = ⊥
-IsPlainQuestion question = ⊤
+-- the text of the number of steps of the question, if there is one
+abbrev pub steps_word : Option (Text × List Row) → Question → Option Text
+steps_word entered question = entered_text entered (question_name question) (codes "steps")
+
+-- the question about a whole run is not another command: `run-tree` of a bundle, or `audit` of an image and a schedule
+abbrev pub IsUnderTurns : RunInput → Type 0
+IsUnderTurns (Bundle file) = ⊥
+IsUnderTurns run = ⊤
+
+abbrev pub IsOtherThanFiles : RunInput → Type 0
+IsOtherThanFiles (OfImage image (InFile schedule)) = ⊥
+IsOtherThanFiles run = ⊤
+
+abbrev pub IsOwnWholly : Question → RunInput → Type 0
+IsOwnWholly Trace run = IsUnderTurns run
+IsOwnWholly (Audit path) run = IsOtherThanFiles run
+IsOwnWholly question run = ⊤
+
+abbrev pub IsOwnQuestion : Question → Option ℕ → RunInput → Type 0
+IsOwnQuestion question (Some steps) run = ⊤
+IsOwnQuestion question None run = IsOwnWholly question run
+
+-- the command of a question
+abbrev pub IsCommandOf : RunQuestion → RunInput → Command → Type 0
+IsCommandOf question run (RunTree file) = (question.question ≡ Trace) × (question.steps ≡ None) × (run ≡ Bundle file)
+IsCommandOf question run (AuditImage image schedule path) =
+    (question.question ≡ Audit path) × (question.steps ≡ None) × (run ≡ OfImage image (InFile schedule))
+IsCommandOf question run (Ask asked input) = (asked ≡ question) × (input ≡ run) × IsOwnQuestion question.question question.steps run
+IsCommandOf question run command = ⊥
 
 -- the matches of a subcommand are those of this command and its arguments
 abbrev pub IsCommandIn : Option (Text × List Row) → Command → Type 0
-IsCommandIn entered (RunTree file) = entered_text entered (codes "run-tree") (codes "FILE") ≡ Some file.now
+IsCommandIn entered (RunTree file) = IsQuestionIn entered Trace (Bundle file) × (steps_word entered Trace ≡ None)
 IsCommandIn entered (MakeImage manifest image) =
     (entered_text entered (codes "mkimg") (codes "MANIFEST") ≡ Some manifest.now) × (entered_text entered (codes "mkimg") (codes "IMAGE") ≡ Some image.now)
 IsCommandIn entered (ListImage image) = IsValidTreeIn entered (codes "ls") (Image image)
@@ -168,9 +242,11 @@ IsCommandIn entered (ImportDirectory directory image version skips) =
 IsCommandIn entered (ExportImage image directory) =
     (entered_text entered (codes "export") (codes "IMAGE") ≡ Some image.now) × (entered_text entered (codes "export") (codes "DIR") ≡ Some directory.now)
 IsCommandIn entered (AuditImage image schedule path) =
-    IsRunIn entered (codes "audit") (codes "PATH") (Files image schedule) (option_map (λ text. text.now) path)
+    IsQuestionIn entered (Audit path) (OfImage image (InFile schedule)) × (steps_word entered (Audit path) ≡ None)
 IsCommandIn entered (WriteSource file) = entered_text entered (codes "source") (codes "FILE") ≡ Some file.now
-IsCommandIn entered (Ask question run) = IsQuestionIn entered question run
+IsCommandIn entered (Ask question run) =
+    IsQuestionIn entered question.question run × EncodesNumber (steps_word entered question.question) question.steps
+    × IsOwnQuestion question.question question.steps run
 IsCommandIn entered (AskTree question tree) = IsTreeQuestionIn entered question tree
 
 -- the texts of a migration were entered
@@ -188,7 +264,6 @@ IsMigrationOf texts command = ⊥
 
 -- a command that requires each of its texts, and has no number
 abbrev pub IsPlain : Command → Type 0
-IsPlain (RunTree file) = ⊤
 IsPlain (WriteSource file) = ⊤
 IsPlain (MakeImage manifest image) = ⊤
 IsPlain (RunImage image schedule out) = ⊤
@@ -197,24 +272,51 @@ IsPlain command = ⊥
 
 -- a command without a number
 abbrev pub IsWithoutNumbers : Command → Type 0
+IsWithoutNumbers (RunTree file) = ⊥
 IsWithoutNumbers (MigrateImage image out blocks inodes) = ⊥
 IsWithoutNumbers (ImportDirectory directory image version skips) = ⊥
-IsWithoutNumbers (Ask (Reach pid) run) = ⊥
+IsWithoutNumbers (AuditImage image schedule path) = ⊥
+IsWithoutNumbers (Ask question run) = ⊥
 IsWithoutNumbers (AskTree (Turns slice steps) tree) = ⊥
 IsWithoutNumbers (AskTree (Explore states) tree) = ⊥
 IsWithoutNumbers (AskTree (Graph states lists_tree) tree) = ⊥
 IsWithoutNumbers command = ⊤
+
+-- the turns of a command, in place of a schedule
+abbrev pub turns_of_run : RunInput → Option Text
+turns_of_run (OfImage image (AsTurns turns)) = Some turns.now
+turns_of_run (OfManifest manifest (AsTurns turns)) = Some turns.now
+turns_of_run run = None
+
+abbrev pub turns_of : Command → Option Text
+turns_of (Ask question run) = turns_of_run run
+turns_of command = None
 
 -- without words, the command is to run the bundle on the standard input
 abbrev pub IsWithoutWords : Command → Type 0
 IsWithoutWords (RunTree file) = file.now ≡ codes "-"
 IsWithoutWords command = ⊥
 
+-- the turns of a command are turns, or these are no turns
+abbrev pub AreFaultyTurns : Command → Option Text → Type 0
+AreFaultyTurns command None = IfSome (turns_of command) (λ turns. are_turns turns ≡ true)
+AreFaultyTurns command (Some turns) = (turns_of command ≡ Some turns) × (are_turns turns ≡ false)
+
+-- a refusal of the turns of a command
+abbrev pub RefusesTurnsOf : Command → LineFault → Type 0
+RefusesTurnsOf command line.Memory = ⊤
+RefusesTurnsOf command line.Number = ⊥
+RefusesTurnsOf command (line.Parser error) = (kind_of error ≡ ValueValidation) × IsSomeAnd (turns_of command) (λ turns. are_turns turns ≡ false)
+
+-- the matches are of this command, and its turns are turns
+abbrev pub IsValidIn : Option (Text × List Row) → Command → Type 0
+IsValidIn entered command = IsCommandIn entered command × IfSome (turns_of command) (λ turns. are_turns turns ≡ true)
+
 -- the words, whose first is the name of the program, ask for this command
 abbrev pub IsAsked : List Text → Command → Type 0
 IsAsked [] command = IsWithoutWords command
 IsAsked (program ∷ []) command = IsWithoutWords command
-IsAsked (program ∷ word ∷ words) command = IsCommandIn (subcommand_of pvsim_app (program ∷ word ∷ words)) command
+IsAsked (program ∷ word ∷ words) command = IsValidIn (subcommand_of pvsim_app (program ∷ word ∷ words)) command
 
 -- the words have the flag `verbose`
 abbrev pub is_verbose_line : List Text → Bool
@@ -247,6 +349,24 @@ pub record LacksSize (entered : Option (Text × List Row)) : Type 0 where
   pub are_entered : HasTexts entered image out blocks inodes
   pub is_none : (size_in blocks ≡ None) ⊎ (size_in inodes ≡ None)
 
+-- the words ask for a command with turns that are no turns
+pub record RefusesTurns (words : List Text) (error : Error) : Type 0 where
+  pub kind : kind_of error ≡ ValueValidation
+  pub command : Command
+  pub is_command : IsCommandIn (subcommand_of pvsim_app words) command
+  pub turns : Text
+  pub has_turns : turns_of command ≡ Some turns
+  pub are_none : are_turns turns ≡ false
+
+-- a question about a run was entered with a number of steps that is not a number
+pub record LacksSteps (entered : Option (Text × List Row)) : Type 0 where
+  pub question : Question
+  pub run : RunInput
+  pub are_entered : IsQuestionIn entered question run
+  pub word : Text
+  pub is_word : steps_word entered question ≡ Some word
+  pub is_none : size_in word ≡ None
+
 -- `reach` was entered with a process that is not a number
 pub record LacksProcess (entered : Option (Text × List Row)) : Type 0 where
   pub run : RunInput
@@ -277,7 +397,7 @@ pub record LacksVersion (entered : Option (Text × List Row)) : Type 0 where
 -- a numeric argument is not a number
 abbrev pub LacksNumber : Option (Text × List Row) → Type 0
 LacksNumber entered =
-    LacksSize entered ⊎ (LacksProcess entered ⊎ (LacksCount entered ⊎ (LacksStates entered (codes "explore") ⊎ (LacksStates entered (codes "graph") ⊎ LacksVersion entered))))
+    LacksSize entered ⊎ (LacksProcess entered ⊎ (LacksCount entered ⊎ (LacksStates entered (codes "explore") ⊎ (LacksStates entered (codes "graph") ⊎ (LacksVersion entered ⊎ LacksSteps entered)))))
 
 -- the result of reading the matches of a subcommand
 abbrev pub IsFoundIn : Option (Text × List Row) → Parsed → Type 0
@@ -286,7 +406,7 @@ IsFoundIn entered found.Number = LacksNumber entered
 
 -- a refusal of the words after the name of the program
 abbrev pub RefusesWords : List Text → LineFault → Type 0
-RefusesWords words (line.Parser error) = IsRefused words error
+RefusesWords words (line.Parser error) = IsRefused words error ⊎ RefusesTurns words error
 RefusesWords words line.Number = LacksNumber (subcommand_of pvsim_app words)
 RefusesWords words line.Memory = ⊤
 

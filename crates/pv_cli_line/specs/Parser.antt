@@ -40,9 +40,13 @@ command_app name rules = fold with_rule (with_rule (new_app name) verbose_rule) 
 abbrev pub tree_rules : List Rule
 tree_rules = bundle_rule ∷ optional_rule (codes "IMAGE") ∷ []
 
+-- `--by TURNS` and `--steps N`
+abbrev pub schedule_rules : List Rule
+schedule_rules = long_rule (codes "by") ∷ long_rule (codes "steps") ∷ []
+
 -- `IMAGE SCHEDULE`, or `--bundle FILE`
 abbrev pub question_rules : List Rule
-question_rules = tree_rules ++ optional_rule (codes "SCHEDULE") ∷ []
+question_rules = bundle_rule ∷ schedule_rules ++ optional_rule (codes "IMAGE") ∷ optional_rule (codes "SCHEDULE") ∷ []
 
 -- `IMAGE`, or `--bundle FILE`, with `--states N`
 abbrev pub search_rules : List Rule
@@ -52,7 +56,7 @@ search_rules = tree_rules ++ long_rule (codes "states") ∷ []
 -- after a run, about its steps, and about a tree and all states; to migrate an image; to import and export a directory
 abbrev pub command_apps : List App
 command_apps =
-    command_app (codes "run-tree") (text_rule (codes "FILE") ∷ [])
+    command_app (codes "run-tree") (text_rule (codes "FILE") ∷ schedule_rules)
     ∷ command_app (codes "source") (text_rule (codes "FILE") ∷ [])
     ∷ command_app (codes "mkimg") (text_rule (codes "MANIFEST") ∷ text_rule (codes "IMAGE") ∷ [])
     ∷ command_app (codes "ls") tree_rules
@@ -61,7 +65,7 @@ command_apps =
     ∷ command_app (codes "state") question_rules
     ∷ command_app (codes "reach") (question_rules ++ optional_rule (codes "PID") ∷ [])
     ∷ command_app (codes "explain") question_rules
-    ∷ command_app (codes "needs") question_rules
+    ∷ command_app (codes "needs") (question_rules ++ flag_rule (codes "granted") ∷ flag_rule (codes "lines") ∷ [])
     ∷ command_app (codes "cat") (tree_rules ++ optional_rule (codes "PATH") ∷ [])
     ∷ command_app (codes "turns") (tree_rules ++ long_rule (codes "slice") ∷ long_rule (codes "steps") ∷ [])
     ∷ command_app (codes "explore") search_rules

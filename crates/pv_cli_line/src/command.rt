@@ -1,16 +1,18 @@
 //! The command line.
-ghost use Rattle.std.specs.Prelude.{◌≡◌, map, IfOk, IfErr};
-ghost use Rattle.clap.specs.Words.{subcommand_of};
-ghost use Rattle.pv_cli_line.specs.Line.{IsAsked, IsCommandIn, RefusesLine, RefusesWords, is_verbose_in, is_verbose_line};
+ghost use Rattle.std.specs.Prelude.{◌≡◌, map, None, IfOk, IfErr, option_map};
+ghost use Rattle.clap.specs.Words.{kind_of, subcommand_of};
+ghost use Rattle.clap.specs.declared.error.kind.ErrorKind.TheVariants.{ValueValidation};
+ghost use Rattle.pv_cli_line.specs.Line.{AreFaultyTurns, IsAsked, IsValidIn, RefusesLine, RefusesTurnsOf, RefusesWords, is_verbose_in, is_verbose_line, turns_of as turns_text_of};
 ghost use Rattle.pv_cli_line.specs.Parser.{pvsim_app};
 ghost use Rattle.pv_cli_line.specs.Program.{is_number};
 
 use crate::matches::{Parsed, found_in};
 use crate::parser::parser;
 use crate::texts::is_verbose;
-use clap::Error as ParserError;
 use clap::error::ErrorKind;
-use pv_cli_commands::Command;
+use clap::{Command as Parser, Error as ParserError};
+use pv_cli_commands::{Command, RunInput, ScheduleInput};
+use pv_questions::is_turns;
 use std::alloc::{AllocError, Global};
 use std::convert::AsStr;
 use thiserror::Error;
@@ -71,19 +73,86 @@ pub struct CommandLine<'a> {
     pub is_verbose: bool,
 }
 
+// Returns the turns of a command, in place of a schedule.
+fn turns_of(command: Command<'_>) -> Option<&str>
+    ensures { option_map (λ text. text.now) result ≡ turns_text_of command.entry }
+{
+    match command {
+        Command::Ask {
+            run: RunInput::Image {
+                schedule: ScheduleInput::Turns(turns),
+                ..
+            }
+            | RunInput::Manifest {
+                schedule: ScheduleInput::Turns(turns),
+                ..
+            },
+            ..
+        } => Some(turns),
+        _ => None,
+    }
+}
+
+// Returns turns that are no turns, if a command has such.
+fn faulty_turns(alloc: Global, command: Command<'_>) -> Result<Option<&str>, AllocError>
+    ensures { IfOk result (λ turns. AreFaultyTurns command.entry (option_map (λ text. text.now) turns)) }
+{
+    let Some(turns) = turns_of(command) else {
+        return Ok(None);
+    };
+    if is_turns(alloc, turns.as_bytes())? {
+        return Ok(None);
+    }
+    Ok(Some(turns))
+}
+
+// Returns the error for turns that are no turns.
+fn turns_fault(
+    alloc: Global,
+    parser: &mut Parser<'_>,
+    turns: &str,
+) -> Result<ParserError, AllocError>
+    ensures { IfOk result (λ error. kind_of error ≡ ValueValidation) }
+{
+    let message = format!(in alloc;
+        "invalid value '{turns}' for '--by <TURNS>': expected PID or PID COUNT, each from 1 to 99999, with ', ' between turns"
+    )?;
+    parser.error(ErrorKind::ValueValidation, message.as_str())
+}
+
+// Returns a command line, if the turns of its command are turns.
+fn checked<'a>(
+    alloc: Global,
+    parser: &mut Parser<'_>,
+    command: Command<'a>,
+    verbose: bool,
+) -> Result<CommandLine<'a>, LineFault>
+    ensures value { IfOk result (λ line. (line.command ≡ command.entry) × (line.is_verbose ≡ verbose)) }
+    ensures turns { IfOk result (λ line. AreFaultyTurns line.command None) }
+    ensures refused { IfErr result (RefusesTurnsOf command.entry) }
+{
+    let Some(turns) = faulty_turns(alloc, command)? else {
+        return Ok(CommandLine {
+            command,
+            is_verbose: verbose,
+        });
+    };
+    let error = turns_fault(alloc, parser, turns)?;
+    Err(LineFault::Parser(error))
+}
+
 // Parses the words of a command line.
 fn parsed<'a, S: AsStr>(alloc: Global, words: &'a [S]) -> Result<CommandLine<'a>, LineFault>
-    ensures asked { IfOk result (λ line. IsCommandIn (subcommand_of pvsim_app (map S.text words.entry.now)) line.command) }
+    ensures asked { IfOk result (λ line. IsValidIn (subcommand_of pvsim_app (map S.text words.entry.now)) line.command) }
     ensures verbose { IfOk result (λ line. line.is_verbose ≡ is_verbose_in (subcommand_of pvsim_app (map S.text words.entry.now))) }
     ensures refused { IfErr result (RefusesWords (map S.text words.entry.now)) }
 {
     let mut parser = parser(alloc)?;
     let matches = parser.try_get_matches_from_mut(words)?;
     match found_in(&matches) {
-        Some(Parsed::Command(command)) => Ok(CommandLine {
-            command,
-            is_verbose: is_verbose(&matches),
-        }),
+        Some(Parsed::Command(command)) => {
+            checked(alloc, &mut parser, command, is_verbose(&matches))
+        }
         Some(Parsed::Number) => Err(LineFault::Number),
         None => Err(LineFault::Parser(parser.error(
             ErrorKind::MissingRequiredArgument,
@@ -98,7 +167,7 @@ fn parsed<'a, S: AsStr>(alloc: Global, words: &'a [S]) -> Result<CommandLine<'a>
 ///
 /// # Errors
 ///
-/// - `Parser`: the parser rejects the words, or they ask for help or the version.
+/// - `Parser`: the parser rejects the words, or they ask for help or the version, or the turns of `--by` are no turns.
 /// - `Number`: a numeric argument is not a decimal number without leading zeros, or is above 4,294,967,295 or another
 ///   limit.
 /// - `Memory`: there is no memory.

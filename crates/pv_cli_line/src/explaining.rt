@@ -4,7 +4,7 @@
 //! A contract says only that an explanation is written to the standard error. Each of its lines begins with two spaces.
 ghost use Rattle.pv_cli_line.specs.Messages.{WritesMore};
 
-use pv_cli_commands::{Command, Fault, Files, RunInput, TreeInput};
+use pv_cli_commands::{Command, Fault, Files, RunInput, ScheduleInput, TreeInput};
 use pv_host_copy::{ExportFault, ImportStop};
 use pv_model::{ImageFault, ListFault, ManifestFault, MigrateFault, RunFault};
 use pv_questions::AskStop;
@@ -138,15 +138,34 @@ fn image_named<'a>(first: &'a str, schedule: Option<&'a str>, out: Option<&'a st
     }
 }
 
+// Returns the files of the input of a run.
+fn run_named(run: RunInput<'_>) -> Names<'_> {
+    match run {
+        RunInput::Image { image, schedule } => image_named(image, file_of(schedule), None),
+        RunInput::Bundle(name) => text_named(name),
+        RunInput::Manifest { manifest, schedule } => Names {
+            first: manifest,
+            is_text: true,
+            has_input: true,
+            schedule: file_of(schedule),
+            out: None,
+        },
+    }
+}
+
+// Returns the file of a schedule.
+fn file_of(schedule: ScheduleInput<'_>) -> Option<&str> {
+    match schedule {
+        ScheduleInput::File(name) => Some(name),
+        ScheduleInput::Turns(_) => None,
+    }
+}
+
 // Returns the files of a command.
 fn names_of(command: Command<'_>) -> Names<'_> {
     match command {
         Command::RunTree(name)
         | Command::WriteSource(name)
-        | Command::Ask {
-            run: RunInput::Bundle(name),
-            ..
-        }
         | Command::AskTree {
             tree: TreeInput::Manifest(name),
             ..
@@ -179,11 +198,8 @@ fn names_of(command: Command<'_>) -> Names<'_> {
             image,
             schedule,
             ..
-        }
-        | Command::Ask {
-            run: RunInput::Files { image, schedule },
-            ..
         } => image_named(image, Some(schedule), None),
+        Command::Ask { run, .. } => run_named(run),
     }
 }
 

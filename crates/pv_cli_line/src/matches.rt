@@ -1,15 +1,15 @@
 //! The command in the matches of the parser.
 ghost use Rattle.std.specs.Prelude.{◌≡◌, ◌⊎◌, ℕ, List, codes, Option, None, Some, IfSome};
 ghost use Rattle.clap.specs.Words.{subcommand_rows_of};
-ghost use Rattle.pv_cli_line.specs.Line.{HasTexts, IsCommandIn, IsFoundIn, IsMigrationOf, IsPlain, IsPlainQuestion, IsQuestionIn, IsRunIn, IsTreeIn, IsValidTreeIn, IsWithoutNumbers, entered_text, size_in};
+ghost use Rattle.pv_cli_line.specs.Line.{HasTexts, IsCommandIn, IsCommandOf, IsFoundIn, IsMigrationOf, IsPlain, IsQuestionIn, IsRunIn, IsTracedIn, IsTreeIn, IsValidRunIn, IsValidTreeIn, IsWithoutNumbers, entered_text, question_name, size_in};
 
 use crate::texts::{
     RunTexts, TreeTexts, count_of, is_flag_given, run_in, run_texts_in, size_of, states_of,
     text_of, tree_in, tree_texts_in, version_of,
 };
 use clap::ArgMatches;
-use pv_cli_commands::{Command, RunInput, TreeInput};
-use pv_questions::{Question, TreeQuestion};
+use pv_cli_commands::{Command, RunInput, ScheduleInput, TreeInput};
+use pv_questions::{Question, RunQuestion, TreeQuestion};
 
 // Returns the `mkimg` command, if the matches are of it.
 fn make_image_in<'a>(matches: &ArgMatches<'a>) -> Option<Command<'a>>
@@ -105,6 +105,92 @@ pub(crate) enum Parsed<'a> {
     Number,
 }
 
+// Returns the name of the command that asks a question about a run.
+fn name_of(question: Question<'_>) -> &'static str
+    ensures { result.now ≡ question_name question.entry }
+{
+    match question {
+        Question::Trace => "run-tree",
+        Question::State => "state",
+        Question::Reach(_) => "reach",
+        Question::Explain => "explain",
+        Question::Needs { .. } => "needs",
+        Question::Audit(_) => "audit",
+    }
+}
+
+// Returns the command of the trace of a whole run. That of a bundle is a command of its own.
+fn whole_trace<'a>(question: RunQuestion<'a>, run: RunInput<'a>) -> Command<'a>
+    requires trace { question.question ≡ Question.Trace }
+    requires whole { question.steps ≡ None }
+    ensures { IsCommandOf question.entry run.entry result }
+{
+    match run {
+        RunInput::Bundle(file) => Command::RunTree(file),
+        RunInput::Image { .. } | RunInput::Manifest { .. } => Command::Ask { question, run },
+    }
+}
+
+// Returns the command of an audit after a whole run. That of an image and a schedule in files is a command of its own.
+fn whole_audit<'a>(
+    question: RunQuestion<'a>,
+    path: Option<&'a [u8]>,
+    run: RunInput<'a>,
+) -> Command<'a>
+    requires audit { question.question ≡ Question.Audit path }
+    requires whole { question.steps ≡ None }
+    ensures { IsCommandOf question.entry run.entry result }
+{
+    match run {
+        RunInput::Image {
+            image,
+            schedule: ScheduleInput::File(schedule),
+        } => Command::AuditImage {
+            image,
+            schedule,
+            path,
+        },
+        RunInput::Image {
+            schedule: ScheduleInput::Turns(_),
+            ..
+        }
+        | RunInput::Bundle(_)
+        | RunInput::Manifest { .. } => Command::Ask { question, run },
+    }
+}
+
+// Returns the command of a question about a run.
+fn command_of_question<'a>(question: RunQuestion<'a>, run: RunInput<'a>) -> Command<'a>
+    ensures { IsCommandOf question.entry run.entry result }
+{
+    match question.steps {
+        Some(_) => Command::Ask { question, run },
+        None => match question.question {
+            Question::Trace => whole_trace(question, run),
+            Question::Audit(path) => whole_audit(question, path, run),
+            Question::State | Question::Reach(_) | Question::Explain | Question::Needs { .. } =>
+                Command::Ask { question, run },
+        },
+    }
+}
+
+// Returns the command of a question about a run that is in the matches, with its number of steps.
+#[tactic(auto, using(crate::proofs::QuestionLemmas::found_command, crate::proofs::QuestionLemmas::no_number))]
+fn with_steps<'a>(matches: &ArgMatches<'a>, question: Question<'a>, run: RunInput<'a>) -> Parsed<'a>
+    requires { IsQuestionIn (subcommand_rows_of matches.now) question run }
+    ensures { IsFoundIn (subcommand_rows_of matches.now) result }
+{
+    let Some(word) = text_of(matches, name_of(question), "steps") else {
+        let steps = None;
+        return Parsed::Command(command_of_question(RunQuestion { question, steps }, run));
+    };
+    let Some(steps) = size_of(word) else {
+        return Parsed::Number;
+    };
+    let steps = Some(steps);
+    Parsed::Command(command_of_question(RunQuestion { question, steps }, run))
+}
+
 // Returns the `reach` command, if the matches are of it.
 fn reach_in<'a>(matches: &ArgMatches<'a>) -> Option<Parsed<'a>>
     ensures found { IfSome result (IsFoundIn (subcommand_rows_of matches.now)) }
@@ -112,62 +198,72 @@ fn reach_in<'a>(matches: &ArgMatches<'a>) -> Option<Parsed<'a>>
 {
     let RunTexts { run, further } = run_texts_in(matches, "reach", "PID")?;
     let Some(word) = further else {
-        return Some(Parsed::Command(Command::Ask {
-            question: Question::Reach(None),
-            run,
-        }));
+        return Some(with_steps(matches, Question::Reach(None), run));
     };
     let Some(pid) = size_of(word) else {
         return Some(Parsed::Number);
     };
-    Some(Parsed::Command(Command::Ask {
-        question: Question::Reach(Some(pid)),
-        run,
-    }))
+    Some(with_steps(matches, Question::Reach(Some(pid)), run))
 }
 
 // Returns the `audit` command, if the matches are of it.
-fn audit_in<'a>(matches: &ArgMatches<'a>) -> Option<Command<'a>>
-    ensures found { IfSome result (IsCommandIn (subcommand_rows_of matches.now)) }
+fn audit_in<'a>(matches: &ArgMatches<'a>) -> Option<Parsed<'a>>
+    ensures found { IfSome result (IsFoundIn (subcommand_rows_of matches.now)) }
     ensures none { result ≡ None → (run : RunInput) (further : Option (List ℕ)) → IsRunIn (subcommand_rows_of matches.now) (codes "audit") (codes "PATH") run further → ⊥ }
 {
     let RunTexts { run, further } = run_texts_in(matches, "audit", "PATH")?;
-    match run {
-        RunInput::Files { image, schedule } => Some(Command::AuditImage {
-            image,
-            schedule,
-            path: further,
-        }),
-        RunInput::Bundle(_) => Some(Command::Ask {
-            question: Question::Audit(further.map(|path| path.as_bytes())),
-            run,
-        }),
-    }
+    let path = further.map(|path| path.as_bytes());
+    Some(with_steps(matches, Question::Audit(path), run))
 }
 
-// Returns the command of a question without a further argument, if the matches are of one.
-#[tactic(auto, using(crate::proofs::LineLemmas::no_plain_question))]
-fn plain_question_in<'a>(matches: &ArgMatches<'a>) -> Option<Command<'a>>
-    ensures found { IfSome result (IsCommandIn (subcommand_rows_of matches.now)) }
-    ensures none { result ≡ None → (question : Question) (run : RunInput) → IsPlainQuestion question → IsQuestionIn (subcommand_rows_of matches.now) question run → ⊥ }
+// Returns the input of `run-tree`, if the matches are of it.
+fn traced_in<'a>(matches: &ArgMatches<'a>) -> Option<RunInput<'a>>
+    ensures found { IfSome result (IsTracedIn (subcommand_rows_of matches.now)) }
+    ensures none { result ≡ None → (run : RunInput) → IsTracedIn (subcommand_rows_of matches.now) run → ⊥ }
 {
+    let manifest = text_of(matches, "run-tree", "FILE")?;
+    let Some(turns) = text_of(matches, "run-tree", "by") else {
+        return Some(RunInput::Bundle(manifest));
+    };
+    let schedule = ScheduleInput::Turns(turns);
+    Some(RunInput::Manifest { manifest, schedule })
+}
+
+// Returns the `needs` command, if the matches are of it.
+fn needs_in<'a>(matches: &ArgMatches<'a>) -> Option<Parsed<'a>>
+    ensures found { IfSome result (IsFoundIn (subcommand_rows_of matches.now)) }
+    ensures none { result ≡ None → (run : RunInput) → IsValidRunIn (subcommand_rows_of matches.now) (codes "needs") run → ⊥ }
+{
+    let run = run_in(matches, "needs")?;
+    let question = Question::Needs {
+        granted: is_flag_given(matches, "needs", "granted"),
+        lines: is_flag_given(matches, "needs", "lines"),
+    };
+    Some(with_steps(matches, question, run))
+}
+
+// Returns the command of a question about a run, if the matches are of one.
+#[tactic(auto, using(crate::proofs::QuestionLemmas::no_question))]
+fn question_in<'a>(matches: &ArgMatches<'a>) -> Option<Parsed<'a>>
+    ensures found { IfSome result (IsFoundIn (subcommand_rows_of matches.now)) }
+    ensures none { result ≡ None → (question : Question) (run : RunInput) → IsQuestionIn (subcommand_rows_of matches.now) question run → ⊥ }
+{
+    if let Some(run) = traced_in(matches) {
+        return Some(with_steps(matches, Question::Trace, run));
+    }
     if let Some(run) = run_in(matches, "state") {
-        return Some(Command::Ask {
-            question: Question::State,
-            run,
-        });
+        return Some(with_steps(matches, Question::State, run));
     }
     if let Some(run) = run_in(matches, "explain") {
-        return Some(Command::Ask {
-            question: Question::Explain,
-            run,
-        });
+        return Some(with_steps(matches, Question::Explain, run));
     }
-    let run = run_in(matches, "needs")?;
-    Some(Command::Ask {
-        question: Question::Needs,
-        run,
-    })
+    if let Some(found) = needs_in(matches) {
+        return Some(found);
+    }
+    if let Some(found) = audit_in(matches) {
+        return Some(found);
+    }
+    reach_in(matches)
 }
 
 // Returns the `ls` command, if the matches are of it.
@@ -252,9 +348,6 @@ fn plain_command_in<'a>(matches: &ArgMatches<'a>) -> Option<Command<'a>>
     ensures found { IfSome result (IsCommandIn (subcommand_rows_of matches.now)) }
     ensures none { result ≡ None → (command : Command) → IsPlain command → IsCommandIn (subcommand_rows_of matches.now) command → ⊥ }
 {
-    if let Some(file) = text_of(matches, "run-tree", "FILE") {
-        return Some(Command::RunTree(file));
-    }
     if let Some(file) = text_of(matches, "source", "FILE") {
         return Some(Command::WriteSource(file));
     }
@@ -312,13 +405,7 @@ fn command_in<'a>(matches: &ArgMatches<'a>) -> Option<Command<'a>>
     if let Some(command) = list_in(matches) {
         return Some(command);
     }
-    if let Some(command) = cat_in(matches) {
-        return Some(command);
-    }
-    if let Some(command) = audit_in(matches) {
-        return Some(command);
-    }
-    plain_question_in(matches)
+    cat_in(matches)
 }
 
 // Returns the command in the matches, if there is one.
@@ -345,5 +432,5 @@ pub(crate) fn found_in<'a>(matches: &ArgMatches<'a>) -> Option<Parsed<'a>>
     if let Some(found) = graph_in(matches) {
         return Some(found);
     }
-    reach_in(matches)
+    question_in(matches)
 }

@@ -55,8 +55,24 @@ const BUNDLE: Argument = Named {
 // An image, which is omitted if a bundle is given.
 const IMAGE: Argument = Optional("IMAGE", "the image");
 
-// A schedule, which is omitted if a bundle is given.
+// A schedule. It is omitted if turns are given, and may be omitted if a bundle is given.
 const SCHEDULE: Argument = Optional("SCHEDULE", "the schedule: the turns of the processes");
+
+// The turns of a run, in place of a schedule.
+const BY: Argument = Named {
+    name: "by",
+    short: None,
+    value: "TURNS",
+    help: "turns in place of SCHEDULE, as 'explore' writes them: 'PID COUNT, PID COUNT'",
+};
+
+// The number of steps after which the schedule of a run is cut.
+const FIRST: Argument = Named {
+    name: "steps",
+    short: None,
+    value: "N",
+    help: "run only the first N steps of the schedule",
+};
 
 // The maximum number of states that a search visits.
 const STATES: Argument = Named {
@@ -71,10 +87,14 @@ const COMMANDS: &[CommandRow] = &[
     CommandRow {
         name: "run-tree",
         about: "Run a bundle and write its trace",
-        arguments: &[Required(
-            "FILE",
-            "a bundle: a manifest, the line 'schedule' and a schedule; '-' is standard input",
-        )],
+        arguments: &[
+            Required(
+                "FILE",
+                "a bundle: a manifest, the line 'schedule' and a schedule; '-' is standard input",
+            ),
+            BY,
+            FIRST,
+        ],
     },
     CommandRow {
         name: "source",
@@ -114,6 +134,8 @@ const COMMANDS: &[CommandRow] = &[
         about: "Run an image under a schedule, and report which files are sealed",
         arguments: &[
             BUNDLE,
+            BY,
+            FIRST,
             IMAGE,
             SCHEDULE,
             Optional("PATH", "a file in the image (default: all files)"),
@@ -122,13 +144,15 @@ const COMMANDS: &[CommandRow] = &[
     CommandRow {
         name: "state",
         about: "Run an image under a schedule, and print the state of each process",
-        arguments: &[BUNDLE, IMAGE, SCHEDULE],
+        arguments: &[BUNDLE, BY, FIRST, IMAGE, SCHEDULE],
     },
     CommandRow {
         name: "reach",
         about: "Run an image under a schedule, and print the operations that each process may perform at each place",
         arguments: &[
             BUNDLE,
+            BY,
+            FIRST,
             IMAGE,
             SCHEDULE,
             Optional("PID", "a process number (default: all processes)"),
@@ -137,12 +161,28 @@ const COMMANDS: &[CommandRow] = &[
     CommandRow {
         name: "explain",
         about: "Run an image under a schedule, and write the trace with the reason for each result",
-        arguments: &[BUNDLE, IMAGE, SCHEDULE],
+        arguments: &[BUNDLE, BY, FIRST, IMAGE, SCHEDULE],
     },
     CommandRow {
         name: "needs",
         about: "Run an image under a schedule, and print the promises and paths that each program used",
-        arguments: &[BUNDLE, IMAGE, SCHEDULE],
+        arguments: &[
+            BUNDLE,
+            BY,
+            FIRST,
+            IMAGE,
+            SCHEDULE,
+            Flag {
+                name: "granted",
+                short: None,
+                help: "leave out the calls that a promise or an unveil table refused",
+            },
+            Flag {
+                name: "lines",
+                short: None,
+                help: "print the unveil and pledge calls for each program, in C and in the format of programs",
+            },
+        ],
     },
     CommandRow {
         name: "cat",

@@ -1,10 +1,10 @@
 //! The texts and numbers of a command in the parser's matches.
-ghost use Rattle.std.specs.Prelude.{◌≡◌, ℕ, List, Option, None, IfSome, option_map};
+ghost use Rattle.std.specs.Prelude.{◌≡◌, ℕ, List, codes, Option, None, Some, IfSome, option_map};
 ghost use Rattle.clap.specs.Words.{subcommand_rows_of};
-ghost use Rattle.pv_cli_line.specs.Line.{IsRunIn, IsTreeIn, IsValidRunIn, IsValidTreeIn, count_in, entered_text, is_given, is_verbose_in, size_in, states_in, version_in};
+ghost use Rattle.pv_cli_line.specs.Line.{IsRunIn, IsScheduleOf, IsTreeIn, IsValidRunIn, IsValidTreeIn, count_in, entered_text, is_given, is_verbose_in, size_in, states_in, version_in};
 
 use clap::ArgMatches;
-use pv_cli_commands::{RunInput, TreeInput};
+use pv_cli_commands::{RunInput, ScheduleInput, TreeInput};
 use pv_model::Version;
 use pv_text::words::decimal;
 
@@ -109,6 +109,72 @@ pub(crate) struct RunTexts<'a> {
     pub(crate) further: Option<&'a str>,
 }
 
+// Returns the image with its schedule and the argument after them, if the matches are of the given command.
+fn image_texts_in<'a>(matches: &ArgMatches<'a>, command: &str, last: &str) -> Option<RunTexts<'a>>
+    requires { entered_text (subcommand_rows_of matches.now) command.now (codes "bundle") ≡ None }
+    ensures found { IfSome result (λ texts. IsRunIn (subcommand_rows_of matches.now) command.now last.now texts.run (option_map (λ text. text.now) texts.further)) }
+    ensures none { result ≡ None → (run : RunInput) (further : Option (List ℕ)) → IsRunIn (subcommand_rows_of matches.now) command.now last.now run further → ⊥ }
+{
+    let image = text_of(matches, command, "IMAGE")?;
+    let second = text_of(matches, command, "SCHEDULE");
+    let third = text_of(matches, command, last);
+    let Some(turns) = text_of(matches, command, "by") else {
+        let schedule = ScheduleInput::File(second?);
+        return Some(RunTexts {
+            run: RunInput::Image { image, schedule },
+            further: third,
+        });
+    };
+    if third.is_some() {
+        return None;
+    }
+    let schedule = ScheduleInput::Turns(turns);
+    Some(RunTexts {
+        run: RunInput::Image { image, schedule },
+        further: second,
+    })
+}
+
+// Returns the bundle, or the manifest with its schedule, and the argument after it, if the matches are of the given
+// command.
+fn bundle_texts_in<'a>(
+    matches: &ArgMatches<'a>,
+    command: &str,
+    last: &str,
+    manifest: &'a str,
+) -> Option<RunTexts<'a>>
+    requires { entered_text (subcommand_rows_of matches.now) command.now (codes "bundle") ≡ Some manifest.now }
+    ensures found { IfSome result (λ texts. IsRunIn (subcommand_rows_of matches.now) command.now last.now texts.run (option_map (λ text. text.now) texts.further)) }
+    ensures none { result ≡ None → (run : RunInput) (further : Option (List ℕ)) → IsRunIn (subcommand_rows_of matches.now) command.now last.now run further → ⊥ }
+{
+    let first = text_of(matches, command, "IMAGE");
+    let second = text_of(matches, command, "SCHEDULE");
+    if let Some(turns) = text_of(matches, command, "by") {
+        if second.is_some() {
+            return None;
+        }
+        let schedule = ScheduleInput::Turns(turns);
+        return Some(RunTexts {
+            run: RunInput::Manifest { manifest, schedule },
+            further: first,
+        });
+    }
+    let Some(further) = second else {
+        return Some(RunTexts {
+            run: RunInput::Bundle(manifest),
+            further: first,
+        });
+    };
+    if text_of(matches, command, last).is_some() {
+        return None;
+    }
+    let schedule = ScheduleInput::File(first?);
+    Some(RunTexts {
+        run: RunInput::Manifest { manifest, schedule },
+        further: Some(further),
+    })
+}
+
 // Returns the input of a run and the argument after it, if the matches are of the given command. `last` is the name of
 // the argument that follows an image and a schedule.
 pub(crate) fn run_texts_in<'a>(
@@ -119,34 +185,47 @@ pub(crate) fn run_texts_in<'a>(
     ensures found { IfSome result (λ texts. IsRunIn (subcommand_rows_of matches.now) command.now last.now texts.run (option_map (λ text. text.now) texts.further)) }
     ensures none { result ≡ None → (run : RunInput) (further : Option (List ℕ)) → IsRunIn (subcommand_rows_of matches.now) command.now last.now run further → ⊥ }
 {
-    if let Some(bundle) = text_of(matches, command, "bundle") {
-        if text_of(matches, command, "SCHEDULE").is_some() {
-            return None;
-        }
-        return Some(RunTexts {
-            run: RunInput::Bundle(bundle),
-            further: text_of(matches, command, "IMAGE"),
-        });
+    match text_of(matches, command, "bundle") {
+        Some(manifest) => bundle_texts_in(matches, command, last, manifest),
+        None => image_texts_in(matches, command, last),
     }
-    let image = text_of(matches, command, "IMAGE")?;
-    let schedule = text_of(matches, command, "SCHEDULE")?;
-    Some(RunTexts {
-        run: RunInput::Files { image, schedule },
-        further: text_of(matches, command, last),
-    })
 }
 
 // Returns the input of a run of a command without a further argument, if the matches are of that command.
-#[tactic(auto, using(crate::proofs::LineLemmas::run_further))]
 pub(crate) fn run_in<'a>(matches: &ArgMatches<'a>, command: &str) -> Option<RunInput<'a>>
     ensures found { IfSome result (λ run. IsValidRunIn (subcommand_rows_of matches.now) command.now run) }
     ensures none { result ≡ None → (run : RunInput) → IsValidRunIn (subcommand_rows_of matches.now) command.now run → ⊥ }
 {
-    let texts = run_texts_in(matches, command, "PID")?;
-    if texts.further.is_some() {
+    let turns = text_of(matches, command, "by");
+    let first = text_of(matches, command, "IMAGE");
+    let second = text_of(matches, command, "SCHEDULE");
+    let Some(manifest) = text_of(matches, command, "bundle") else {
+        let schedule = one_schedule(second, turns)?;
+        return Some(RunInput::Image {
+            image: first?,
+            schedule,
+        });
+    };
+    if second.is_some() {
         return None;
     }
-    Some(texts.run)
+    if first.is_none() && turns.is_none() {
+        return Some(RunInput::Bundle(manifest));
+    }
+    let schedule = one_schedule(first, turns)?;
+    Some(RunInput::Manifest { manifest, schedule })
+}
+
+// Returns the schedule, if exactly one of a file and turns is given.
+fn one_schedule<'a>(file: Option<&'a str>, turns: Option<&'a str>) -> Option<ScheduleInput<'a>>
+    ensures found { IfSome result (λ schedule. IsScheduleOf (option_map (λ text. text.now) file.entry) (option_map (λ text. text.now) turns.entry) schedule) }
+    ensures none { result ≡ None → (schedule : ScheduleInput) → IsScheduleOf (option_map (λ text. text.now) file.entry) (option_map (λ text. text.now) turns.entry) schedule → ⊥ }
+{
+    match (file, turns) {
+        (Some(file), None) => Some(ScheduleInput::File(file)),
+        (None, Some(turns)) => Some(ScheduleInput::Turns(turns)),
+        _ => None,
+    }
 }
 
 // The input that has a tree, and the argument after it.

@@ -10,7 +10,7 @@ use Rattle.pv_model.specs.Grammar.Lines.{lines_of}
 use Rattle.pv_model.specs.Grammar.Manifests.{Listed, Manifest, read_bundle, read_manifest, tree_of, with_line_end}
 use Rattle.pv_model.specs.Grammar.Texts.{HasLines, IsLine, ended}
 use Rattle.pv_model.specs.Image.{IsImageOf}
-use Rattle.pv_model.specs.Start.{and_then, bundle_started, image_started}
+use Rattle.pv_model.specs.Start.{and_then, bundle_started, image_started, started_on}
 use Rattle.pv_model.specs.Tree.{Tree}
 use Rattle.pv_laws_trees.proofs.Back.{image-mounted}
 use Rattle.pv_laws_grammar.proofs.TextLines.{HasLines-lines_of, lines_from_relation}
@@ -130,6 +130,10 @@ module _ (image : Bytes) (t : Tree) (holds : IsImageOf image t) where
   unfolding image_started bundle_started
   image_starts turns lines are made =
       let m = manifest_made (ended lines) t made in rw (image-mounted image t holds, bundle_read lines turns m.manifest are m.is_read, m.makes) refl
+
+  pub image_started-made : (turns : Bytes) → image_started image turns ≡ started_on t (lines_of turns)
+  unfolding image_started
+  image_started-made turns = rw (image-mounted image t holds) refl
 
 pub manifest_tree-made : (bytes : Bytes) (t : Tree) → tree_made bytes ≡ Ok t → manifest_tree bytes ≡ Ok t
 unfolding manifest_tree

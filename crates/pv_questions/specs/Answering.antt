@@ -1,10 +1,9 @@
 -- The answer to a question: a text or a refusal.
-use Rattle.std.specs.Prelude.{◌≡◌, List, Option, None, Some, option_map, Result, Ok, Err}
+use Rattle.std.specs.Prelude.{◌≡◌, true, false, List, Option, None, Some, option_map, Result, Ok, Err}
 use Rattle.pv_model.specs.declared.run_fault.RunFault.{RunFault}
 use Rattle.pv_model.specs.declared.verdict.AuditFault.{AuditFault}
 use Rattle.pv_model.specs.Answers.Explain.{explain_lines}
 use Rattle.pv_model.specs.Answers.Lines.{AnswerLine, answer_bytes}
-use Rattle.pv_model.specs.Answers.Needs.{needs_lines}
 use Rattle.pv_model.specs.Answers.ProcessRecord.{state_lines}
 use Rattle.pv_model.specs.Answers.Reach.{reach_lines, reach_of_one}
 use Rattle.pv_model.specs.Bytes.{Bytes}
@@ -12,10 +11,15 @@ use Rattle.pv_model.specs.Grammar.Programs.{program_of}
 use Rattle.pv_model.specs.Start.{Started, and_then, bundle_started, image_started}
 use Rattle.pv_model.specs.State.{State}
 use Rattle.pv_model.specs.Step.{steps_of}
+use Rattle.pv_needs.specs.Granted.{lines_of_demands}
+use Rattle.pv_needs.specs.Restraints.{restraints}
 use Rattle.pv_run.specs.Auditing.{audit_text}
+use Rattle.pv_run.specs.Run.{text_of}
 use Rattle.pv_session.specs.Running.{run_of}
+use Rattle.pv_questions.specs.Schedules.{cut_after}
 use Rattle.pv_questions.specs.declared.question.Question.{Question}
 use Rattle.pv_questions.specs.declared.question.Question.TheVariants as asked
+use Rattle.pv_questions.specs.declared.question.RunQuestion.{RunQuestion}
 use Rattle.pv_questions.specs.declared.stop.AskStop.{AskStop}
 use Rattle.pv_questions.specs.declared.stop.AskStop.TheVariants.{Machine, NoProcess, Audited}
 
@@ -41,17 +45,23 @@ last_state it = (run_of it.state it.schedule).final
 
 -- the answer about a run
 abbrev pub run_answer : Question → Started → Answer
+run_answer asked.Trace it = Ok (text_of it)
 run_answer asked.State it = of_lines (state_lines (last_state it))
 run_answer (asked.Reach None) it = of_lines (reach_lines (last_state it))
 run_answer (asked.Reach (Some pid)) it = of_process (reach_of_one (last_state it) pid)
 run_answer asked.Explain it = of_lines (explain_lines program_of (steps_of it.schedule) it.state)
-run_answer asked.Needs it = of_lines (needs_lines program_of (steps_of it.schedule) it.state)
+run_answer (asked.Needs granted false) it = of_lines (lines_of_demands program_of granted (steps_of it.schedule) it.state)
+run_answer (asked.Needs granted true) it = Ok (restraints program_of granted (steps_of it.schedule) it.state)
 run_answer (asked.Audit path) it = of_audit (audit_text (last_state it) (option_map (λ p. p.now) path))
 
+-- the answer about a run, or about its first steps
+abbrev pub answer_of : RunQuestion → Started → Answer
+answer_of asked it = run_answer asked.question (cut_after asked.steps it)
+
 -- the answer about the run of a schedule on an image, after its checks
-abbrev pub image_answer : Question → (image turns : Bytes) → Answer
-image_answer question image turns = and_then Machine (image_started image turns) (run_answer question)
+abbrev pub image_answer : RunQuestion → (image turns : Bytes) → Answer
+image_answer asked image turns = and_then Machine (image_started image turns) (answer_of asked)
 
 -- the answer about the run of a bundle
-abbrev pub bundle_answer : Question → Bytes → Answer
-bundle_answer question bytes = and_then Machine (bundle_started bytes) (run_answer question)
+abbrev pub bundle_answer : RunQuestion → Bytes → Answer
+bundle_answer asked bytes = and_then Machine (bundle_started bytes) (answer_of asked)

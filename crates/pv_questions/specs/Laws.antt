@@ -1,15 +1,17 @@
 -- A bundle or a manifest gives the same answers as the image that is made of it.
-use Rattle.std.specs.Prelude.{◌≡◌, List, [], ◌∷◌, ◌++◌, codes, Ok}
+use Rattle.std.specs.Prelude.{◌≡◌, ℕ, take, List, [], ◌∷◌, ◌++◌, codes, Ok}
 use Rattle.std.specs.List.{AllByRecursion}
 use Rattle.pv_model.specs.Bytes.{Bytes}
 use Rattle.pv_model.specs.Grammar.Manifests.{Manifest, read_manifest}
 use Rattle.pv_model.specs.Grammar.Texts.{IsLine, ended}
 use Rattle.pv_model.specs.Image.{IsImageOf}
+use Rattle.pv_model.specs.Step.{Schedule, steps_of}
 use Rattle.pv_model.specs.Tree.{Tree}
 use Rattle.pv_run.specs.Making.{tree_made}
 use Rattle.pv_questions.specs.Answering.{bundle_answer, image_answer}
-use Rattle.pv_questions.specs.Trees.{image_tree_answer, manifest_tree_answer, read_manifest_of}
-use Rattle.pv_questions.specs.declared.question.Question.{Question}
+use Rattle.pv_questions.specs.Schedules.{first_steps}
+use Rattle.pv_questions.specs.Trees.{image_tree_answer, manifest_answer, manifest_tree_answer, read_manifest_of}
+use Rattle.pv_questions.specs.declared.question.RunQuestion.{RunQuestion}
 use Rattle.pv_questions.specs.declared.question.TreeQuestion.{TreeQuestion}
 
 abbrev pub ManifestsStandAlone : Type 0
@@ -26,11 +28,21 @@ ImagesAnswerAsManifests =
 
 abbrev pub ImagesAnswerAsBundles : Type 0
 ImagesAnswerAsBundles =
-    (question : Question) (lines : List Bytes) (turns image : Bytes) (t : Tree) → AllByRecursion IsLine lines → tree_made (ended lines) ≡ Ok t → IsImageOf image t
-    → image_answer question image turns ≡ bundle_answer question (bundle_of lines turns)
+    (asked : RunQuestion) (lines : List Bytes) (turns image : Bytes) (t : Tree) → AllByRecursion IsLine lines → tree_made (ended lines) ≡ Ok t → IsImageOf image t
+    → image_answer asked image turns ≡ bundle_answer asked (bundle_of lines turns)
+
+-- an image gives the same answer under a schedule as its manifest, alone or in a bundle
+abbrev pub ImagesAnswerAsTheirManifests : Type 0
+ImagesAnswerAsTheirManifests =
+    (asked : RunQuestion) (manifest turns image : Bytes) (t : Tree) → tree_made manifest ≡ Ok t → IsImageOf image t
+    → image_answer asked image turns ≡ manifest_answer asked manifest turns
 
 -- the lines after `schedule` do not change the answer to a question of the tree
 abbrev pub BundlesAnswerAsManifests : Type 0
 BundlesAnswerAsManifests =
     (question : TreeQuestion) (lines : List Bytes) (turns : Bytes) (t : Tree) → AllByRecursion IsLine lines → tree_made (ended lines) ≡ Ok t
     → manifest_tree_answer question (bundle_of lines turns) ≡ manifest_tree_answer question (ended lines)
+
+-- the steps of a schedule that is cut are the first steps of the schedule
+abbrev pub CutsKeepFirstSteps : Type 0
+CutsKeepFirstSteps = (n : ℕ) (schedule : Schedule) → steps_of (first_steps n schedule) ≡ take n (steps_of schedule)

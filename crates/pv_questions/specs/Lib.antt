@@ -2,4 +2,5 @@ pub mod Answering
 pub mod Asking
 pub mod Files
 pub mod Laws
+pub mod Schedules
 pub mod Trees

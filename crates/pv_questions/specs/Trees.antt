@@ -11,15 +11,17 @@ use Rattle.pv_model.specs.Answers.Explore.{explore_lines}
 use Rattle.pv_model.specs.Answers.Graph.{graph_lines}
 use Rattle.pv_model.specs.Answers.Turns.{schedule_text, turns}
 use Rattle.pv_model.specs.Bytes.{Bytes}
+use Rattle.pv_model.specs.Grammar.Lines.{lines_of}
 use Rattle.pv_model.specs.Grammar.Manifests.{Manifest, read_bundle, read_manifest, tree_of}
 use Rattle.pv_model.specs.Grammar.Programs.{program_of}
 use Rattle.pv_model.specs.Listing.{listing}
 use Rattle.pv_model.specs.Mount.{mounted}
 use Rattle.pv_model.specs.RunFault.{of_boot, of_image, of_manifest}
-use Rattle.pv_model.specs.Start.{and_then, booted}
+use Rattle.pv_model.specs.Start.{Started, and_then, booted, started_on}
 use Rattle.pv_model.specs.Tree.{Tree}
-use Rattle.pv_questions.specs.Answering.{Answer, of_lines}
+use Rattle.pv_questions.specs.Answering.{Answer, answer_of, of_lines}
 use Rattle.pv_questions.specs.Files.{cat_of}
+use Rattle.pv_questions.specs.declared.question.RunQuestion.{RunQuestion}
 use Rattle.pv_questions.specs.declared.question.TreeQuestion.{TreeQuestion}
 use Rattle.pv_questions.specs.declared.question.TreeQuestion.TheVariants.{Listing, File, Turns, Explore, Graph}
 use Rattle.pv_questions.specs.declared.stop.AskStop.{AskStop}
@@ -69,3 +71,11 @@ image_tree_answer question bytes = and_then Machine (image_tree bytes) (tree_ans
 -- the answer about the tree of a manifest
 abbrev pub manifest_tree_answer : TreeQuestion → Bytes → Answer
 manifest_tree_answer question bytes = and_then Machine (manifest_tree bytes) (tree_answer question)
+
+-- the start of the run of a schedule on the tree of a manifest, whose own schedule is ignored
+abbrev pub manifest_started : (manifest turns : Bytes) → Result Started RunFault
+manifest_started manifest turns = and_then (λ fault. fault) (manifest_tree manifest) (λ t. started_on t (lines_of turns))
+
+-- the answer about that run
+abbrev pub manifest_answer : RunQuestion → (manifest turns : Bytes) → Answer
+manifest_answer asked manifest turns = and_then Machine (manifest_started manifest turns) (answer_of asked)

@@ -1,7 +1,7 @@
 //! Laws of answers: a bundle or a manifest gives the same answers as the image that is made of it.
 //!
 //! Each function has an empty body. Its contract is the law, which the check proves.
-ghost use Rattle.pv_questions.specs.Laws.{BundlesAnswerAsManifests, ImagesAnswerAsBundles, ImagesAnswerAsManifests, ManifestsStandAlone};
+ghost use Rattle.pv_questions.specs.Laws.{BundlesAnswerAsManifests, CutsKeepFirstSteps, ImagesAnswerAsBundles, ImagesAnswerAsManifests, ImagesAnswerAsTheirManifests, ManifestsStandAlone};
 
 /// States that a manifest alone parses the same where a bundle is allowed.
 pub fn manifests_stand_alone()
@@ -19,8 +19,19 @@ pub fn images_answer_as_bundles()
     ensures { ImagesAnswerAsBundles }
 {}
 
+/// States that an image gives the same answer to each question of a run under a schedule as the manifest that it is made
+/// from.
+pub fn images_answer_as_their_manifests()
+    ensures { ImagesAnswerAsTheirManifests }
+{}
+
 /// States that a bundle gives the same answer to each question of a tree as its manifest alone, whatever follows the
 /// line `schedule`.
 pub fn bundles_answer_as_manifests()
     ensures { BundlesAnswerAsManifests }
+{}
+
+/// States that the steps of a schedule that is cut are the first steps of the schedule.
+pub fn cuts_keep_first_steps()
+    ensures { CutsKeepFirstSteps }
 {}

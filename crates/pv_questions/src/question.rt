@@ -1,8 +1,19 @@
 //! Questions.
 
+/// A question about the run of a schedule.
+#[derive(Clone, Copy, Debug, PartialEq, Eq)]
+pub struct RunQuestion<'a> {
+    /// The question.
+    pub question: Question<'a>,
+    /// The number of steps after which the schedule is cut. Without a number, the whole schedule is run.
+    pub steps: Option<u32>,
+}
+
 /// A question about a run.
 #[derive(Clone, Copy, Debug, PartialEq, Eq)]
 pub enum Question<'a> {
+    /// The trace of the run.
+    Trace,
     /// The state of each process after the run.
     State,
     /// The permissions of the next call of each live process after the run, or of the live process with this number.
@@ -10,7 +21,12 @@ pub enum Question<'a> {
     /// The explained trace of the run.
     Explain,
     /// The demands of each program on its sandbox in the run.
-    Needs,
+    Needs {
+        /// Whether the calls that a promise or a table refused are left out.
+        granted: bool,
+        /// Whether the calls of pledge(2) and unveil(2) that meet the demands are written, in place of the demands.
+        lines: bool,
+    },
     /// The verdict on the file at a path after the run, or on all files.
     Audit(Option<&'a [u8]>),
 }

@@ -1,19 +1,24 @@
 //! Questions about a run.
-ghost use Rattle.std.specs.Prelude.{◌≡◌, ◌⊎◌, IfOk, IfErr, IfSome, OnOk, OnErr, Err, IsSome};
+ghost use Rattle.std.specs.Prelude.{◌≡◌, ◌≤◌, ◌⊎◌, length, IfOk, IfErr, IfSome, OnOk, OnErr, Err, IsSome};
+ghost use Rattle.pv_model.specs.declared.limits.TheConstants.{SCHEDULE_LINES};
 ghost use Rattle.pv_model.specs.declared.run_fault.RunFault.TheVariants.{Memory};
 ghost use Rattle.pv_model.specs.State.{process_at};
 ghost use Rattle.pv_model.specs.Stream.{Rose};
-ghost use Rattle.pv_questions.specs.Answering.{bundle_answer, image_answer, last_state, run_answer};
+ghost use Rattle.pv_questions.specs.Answering.{answer_of, bundle_answer, image_answer, last_state, run_answer};
 ghost use Rattle.pv_questions.specs.Asking.{BufferedOnlyIfUnwritten, IsAnswerStop, IsBundleStop, IsImageStop, AppearsInAnswer, WritesAnswer, WritesNothingUnlessStopped};
+ghost use Rattle.pv_questions.specs.Schedules.{first_steps, turns_text};
+ghost use Rattle.pv_questions.specs.Trees.{manifest_answer};
 ghost use Rattle.pv_questions.specs.declared.stop.AskStop.TheVariants.{Machine as MachineStop};
 ghost use Rattle.pv_run.specs.Run.{started_from};
 ghost use Rattle.pv_streams.specs.Sources.{FailsToGive};
 
-use crate::question::Question;
+use crate::question::{Question, RunQuestion};
+use crate::schedules::{cut_turns, text_of_turns};
+use crate::starting::{ready_by, ready_on_manifest, ready_on_manifest_by};
 use crate::stop::AskStop;
 use crate::writers::{
-    report_audit, report_needs, report_reach, report_reach_of, report_state, report_steps,
-    report_verdict,
+    report_audit, report_needs, report_reach, report_reach_of, report_restraints, report_state,
+    report_steps, report_trace, report_verdict,
 };
 use pv_explain::Explainer;
 use pv_model::RunFault;
@@ -23,43 +28,49 @@ use pv_streams::{Sink, Source};
 use std::alloc::Global;
 
 // Runs the schedule without writing lines.
-fn leave(alloc: Global, ready: &mut Ready) -> Result<(), AskStop>
-    ensures left { OnOk result (ready.new.session ≡ last_state (started_from ready.old.session ready.old.schedule)) }
+fn leave(alloc: Global, session: &mut Session, turns: &[(u32, u32)]) -> Result<(), AskStop>
+    ensures left { OnOk result (session.new ≡ last_state (started_from session.old turns.now)) }
     ensures kind { IfErr result (λ stop. stop ≡ MachineStop Memory) }
 {
-    pass_schedule(alloc, &mut ready.session, ready.schedule.turns())?;
+    pass_schedule(alloc, session, turns)?;
     Ok(())
 }
 
 // Writes the state of each process after the run.
-fn answer_state<W: Sink>(alloc: Global, ready: &mut Ready, out: &mut W) -> Result<(), AskStop>
-    ensures answered { OnOk result (WritesAnswer (run_answer Question.State (started_from ready.old.session ready.old.schedule)) (W.written out.old) (W.written out.new)) }
+fn answer_state<W: Sink>(
+    alloc: Global,
+    session: &mut Session,
+    turns: &[(u32, u32)],
+    out: &mut W,
+) -> Result<(), AskStop>
+    ensures answered { OnOk result (WritesAnswer (run_answer Question.State (started_from session.old turns.now)) (W.written out.old) (W.written out.new)) }
     ensures empty { OnOk result (W.buffered out.new ≡ 0) }
-    ensures refused { IfErr result (AppearsInAnswer (run_answer Question.State (started_from ready.old.session ready.old.schedule)) (W.written out.old) (W.written out.new)) }
+    ensures refused { IfErr result (AppearsInAnswer (run_answer Question.State (started_from session.old turns.now)) (W.written out.old) (W.written out.new)) }
     ensures kind { IfErr result IsAnswerStop }
     ensures stopped { IfErr result (λ stop. W.buffered out.old ≡ 0 → BufferedOnlyIfUnwritten stop (W.buffered out.new)) }
     ensures failed { result ≡ Err AskStop.Write → Rose (W.failures out.old) (W.failures out.new) }
 {
-    leave(alloc, ready)?;
-    report_state(ready.session.parts(), out)
+    leave(alloc, session, turns)?;
+    report_state(session.parts(), out)
 }
 
 // Writes the permissions of each live process after the run, or of the process with a number.
 fn answer_reach<W: Sink>(
     alloc: Global,
     pid: Option<u32>,
-    ready: &mut Ready,
+    session: &mut Session,
+    turns: &[(u32, u32)],
     out: &mut W,
 ) -> Result<(), AskStop>
-    ensures answered { OnOk result (WritesAnswer (run_answer (Question.Reach pid) (started_from ready.old.session ready.old.schedule)) (W.written out.old) (W.written out.new)) }
+    ensures answered { OnOk result (WritesAnswer (run_answer (Question.Reach pid) (started_from session.old turns.now)) (W.written out.old) (W.written out.new)) }
     ensures empty { OnOk result (W.buffered out.new ≡ 0) }
-    ensures refused { IfErr result (AppearsInAnswer (run_answer (Question.Reach pid) (started_from ready.old.session ready.old.schedule)) (W.written out.old) (W.written out.new)) }
+    ensures refused { IfErr result (AppearsInAnswer (run_answer (Question.Reach pid) (started_from session.old turns.now)) (W.written out.old) (W.written out.new)) }
     ensures kind { IfErr result IsAnswerStop }
     ensures stopped { IfErr result (λ stop. W.buffered out.old ≡ 0 → BufferedOnlyIfUnwritten stop (W.buffered out.new)) }
     ensures failed { result ≡ Err AskStop.Write → Rose (W.failures out.old) (W.failures out.new) }
 {
-    leave(alloc, ready)?;
-    let parts = ready.session.parts();
+    leave(alloc, session, turns)?;
+    let parts = session.parts();
     let Some(pid) = pid else {
         return report_reach(parts, out);
     };
@@ -73,66 +84,168 @@ fn answer_reach<W: Sink>(
 fn answer_audit<W: Sink>(
     alloc: Global,
     path: Option<&[u8]>,
-    ready: &mut Ready,
+    session: &mut Session,
+    turns: &[(u32, u32)],
     out: &mut W,
 ) -> Result<(), AskStop>
-    ensures answered { OnOk result (WritesAnswer (run_answer (Question.Audit path.entry) (started_from ready.old.session ready.old.schedule)) (W.written out.old) (W.written out.new)) }
+    ensures answered { OnOk result (WritesAnswer (run_answer (Question.Audit path.entry) (started_from session.old turns.now)) (W.written out.old) (W.written out.new)) }
     ensures empty { OnOk result (W.buffered out.new ≡ 0) }
-    ensures refused { IfErr result (AppearsInAnswer (run_answer (Question.Audit path.entry) (started_from ready.old.session ready.old.schedule)) (W.written out.old) (W.written out.new)) }
+    ensures refused { IfErr result (AppearsInAnswer (run_answer (Question.Audit path.entry) (started_from session.old turns.now)) (W.written out.old) (W.written out.new)) }
     ensures kind { IfErr result IsAnswerStop }
     ensures stopped { IfErr result (λ stop. W.buffered out.old ≡ 0 → BufferedOnlyIfUnwritten stop (W.buffered out.new)) }
     ensures failed { result ≡ Err AskStop.Write → Rose (W.failures out.old) (W.failures out.new) }
 {
-    leave(alloc, ready)?;
+    leave(alloc, session, turns)?;
     let Some(path) = path else {
-        return report_audit(alloc, &ready.session, out);
+        return report_audit(alloc, session, out);
     };
-    let found = ready.session.audit(path)?;
+    let found = session.audit(path)?;
     report_verdict(&found, out)
 }
 
 // Writes the explained trace of the run.
-fn answer_steps<W: Sink>(alloc: Global, ready: &mut Ready, out: &mut W) -> Result<(), AskStop>
-    ensures answered { OnOk result (WritesAnswer (run_answer Question.Explain (started_from ready.old.session ready.old.schedule)) (W.written out.old) (W.written out.new)) }
+fn answer_steps<W: Sink>(
+    alloc: Global,
+    session: &mut Session,
+    turns: &[(u32, u32)],
+    out: &mut W,
+) -> Result<(), AskStop>
+    requires { length turns.now ≤ SCHEDULE_LINES }
+    ensures answered { OnOk result (WritesAnswer (run_answer Question.Explain (started_from session.old turns.now)) (W.written out.old) (W.written out.new)) }
     ensures empty { OnOk result (W.buffered out.new ≡ 0) }
-    ensures refused { IfErr result (AppearsInAnswer (run_answer Question.Explain (started_from ready.old.session ready.old.schedule)) (W.written out.old) (W.written out.new)) }
+    ensures refused { IfErr result (AppearsInAnswer (run_answer Question.Explain (started_from session.old turns.now)) (W.written out.old) (W.written out.new)) }
     ensures kind { IfErr result IsAnswerStop }
     ensures stopped { IfErr result (λ stop. W.buffered out.old ≡ 0 → BufferedOnlyIfUnwritten stop (W.buffered out.new)) }
     ensures failed { result ≡ Err AskStop.Write → Rose (W.failures out.old) (W.failures out.new) }
 {
     let mut explainer = Explainer::new(alloc)?;
-    report_steps(alloc, &mut explainer, ready, out)
+    report_steps(alloc, &mut explainer, session, turns, out)
+}
+
+// Writes the demands of each program in the run, or the calls that meet them.
+fn answer_needs<W: Sink>(
+    alloc: Global,
+    granted: bool,
+    lines: bool,
+    session: &mut Session,
+    turns: &[(u32, u32)],
+    out: &mut W,
+) -> Result<(), AskStop>
+    requires { length turns.now ≤ SCHEDULE_LINES }
+    ensures answered { OnOk result (WritesAnswer (run_answer (Question.Needs granted lines) (started_from session.old turns.now)) (W.written out.old) (W.written out.new)) }
+    ensures empty { OnOk result (W.buffered out.new ≡ 0) }
+    ensures refused { IfErr result (AppearsInAnswer (run_answer (Question.Needs granted lines) (started_from session.old turns.now)) (W.written out.old) (W.written out.new)) }
+    ensures kind { IfErr result IsAnswerStop }
+    ensures stopped { IfErr result (λ stop. W.buffered out.old ≡ 0 → BufferedOnlyIfUnwritten stop (W.buffered out.new)) }
+    ensures failed { result ≡ Err AskStop.Write → Rose (W.failures out.old) (W.failures out.new) }
+{
+    if lines {
+        report_restraints(alloc, granted, session, turns, out)
+    } else {
+        report_needs(alloc, granted, session, turns, out)
+    }
 }
 
 // Answers a question about a run.
 fn answer<W: Sink>(
     alloc: Global,
     question: Question<'_>,
-    ready: &mut Ready,
+    session: &mut Session,
+    turns: &[(u32, u32)],
     out: &mut W,
 ) -> Result<(), AskStop>
-    ensures answered { OnOk result (WritesAnswer (run_answer question.entry (started_from ready.old.session ready.old.schedule)) (W.written out.old) (W.written out.new)) }
+    requires { length turns.now ≤ SCHEDULE_LINES }
+    ensures answered { OnOk result (WritesAnswer (run_answer question.entry (started_from session.old turns.now)) (W.written out.old) (W.written out.new)) }
     ensures empty { OnOk result (W.buffered out.new ≡ 0) }
-    ensures refused { IfErr result (AppearsInAnswer (run_answer question.entry (started_from ready.old.session ready.old.schedule)) (W.written out.old) (W.written out.new)) }
+    ensures refused { IfErr result (AppearsInAnswer (run_answer question.entry (started_from session.old turns.now)) (W.written out.old) (W.written out.new)) }
     ensures kind { IfErr result IsAnswerStop }
     ensures stopped { IfErr result (λ stop. W.buffered out.old ≡ 0 → BufferedOnlyIfUnwritten stop (W.buffered out.new)) }
     ensures failed { result ≡ Err AskStop.Write → Rose (W.failures out.old) (W.failures out.new) }
 {
     match question {
-        Question::State => answer_state(alloc, ready, out),
-        Question::Reach(pid) => answer_reach(alloc, pid, ready, out),
-        Question::Explain => answer_steps(alloc, ready, out),
-        Question::Needs => report_needs(alloc, ready, out),
-        Question::Audit(path) => answer_audit(alloc, path, ready, out),
+        Question::Trace => report_trace(alloc, session, turns, out),
+        Question::State => answer_state(alloc, session, turns, out),
+        Question::Reach(pid) => answer_reach(alloc, pid, session, turns, out),
+        Question::Explain => answer_steps(alloc, session, turns, out),
+        Question::Needs { granted, lines } => {
+            answer_needs(alloc, granted, lines, session, turns, out)
+        }
+        Question::Audit(path) => answer_audit(alloc, path, session, turns, out),
     }
+}
+
+// Answers a question about the first steps of a run.
+fn answer_first<W: Sink>(
+    alloc: Global,
+    question: Question<'_>,
+    session: &mut Session,
+    turns: &[(u32, u32)],
+    steps: u32,
+    out: &mut W,
+) -> Result<(), AskStop>
+    requires { length turns.now ≤ SCHEDULE_LINES }
+    ensures answered { OnOk result (WritesAnswer (run_answer question.entry (started_from session.old (first_steps steps turns.now))) (W.written out.old) (W.written out.new)) }
+    ensures empty { OnOk result (W.buffered out.new ≡ 0) }
+    ensures refused { IfErr result (AppearsInAnswer (run_answer question.entry (started_from session.old (first_steps steps turns.now))) (W.written out.old) (W.written out.new)) }
+    ensures kind { IfErr result IsAnswerStop }
+    ensures stopped { IfErr result (λ stop. W.buffered out.old ≡ 0 → BufferedOnlyIfUnwritten stop (W.buffered out.new)) }
+    ensures failed { result ≡ Err AskStop.Write → Rose (W.failures out.old) (W.failures out.new) }
+{
+    let first = cut_turns(alloc, turns, steps)?;
+    answer(alloc, question, session, first.as_slice(), out)
+}
+
+// Answers a question about a run, or about its first steps.
+fn answer_asked<W: Sink>(
+    alloc: Global,
+    asked: RunQuestion<'_>,
+    session: &mut Session,
+    turns: &[(u32, u32)],
+    out: &mut W,
+) -> Result<(), AskStop>
+    requires { length turns.now ≤ SCHEDULE_LINES }
+    ensures answered { OnOk result (WritesAnswer (answer_of asked.entry (started_from session.old turns.now)) (W.written out.old) (W.written out.new)) }
+    ensures empty { OnOk result (W.buffered out.new ≡ 0) }
+    ensures refused { IfErr result (AppearsInAnswer (answer_of asked.entry (started_from session.old turns.now)) (W.written out.old) (W.written out.new)) }
+    ensures kind { IfErr result IsAnswerStop }
+    ensures stopped { IfErr result (λ stop. W.buffered out.old ≡ 0 → BufferedOnlyIfUnwritten stop (W.buffered out.new)) }
+    ensures failed { result ≡ Err AskStop.Write → Rose (W.failures out.old) (W.failures out.new) }
+{
+    match asked.steps {
+        Some(steps) => answer_first(alloc, asked.question, session, turns, steps, out),
+        None => answer(alloc, asked.question, session, turns, out),
+    }
+}
+
+// Answers a question about the run of a schedule.
+fn answer_ready<W: Sink>(
+    alloc: Global,
+    asked: RunQuestion<'_>,
+    ready: &mut Ready,
+    out: &mut W,
+) -> Result<(), AskStop>
+    ensures answered { OnOk result (WritesAnswer (answer_of asked.entry (started_from ready.old.session ready.old.schedule)) (W.written out.old) (W.written out.new)) }
+    ensures empty { OnOk result (W.buffered out.new ≡ 0) }
+    ensures refused { IfErr result (AppearsInAnswer (answer_of asked.entry (started_from ready.old.session ready.old.schedule)) (W.written out.old) (W.written out.new)) }
+    ensures kind { IfErr result IsAnswerStop }
+    ensures stopped { IfErr result (λ stop. W.buffered out.old ≡ 0 → BufferedOnlyIfUnwritten stop (W.buffered out.new)) }
+    ensures failed { result ≡ Err AskStop.Write → Rose (W.failures out.old) (W.failures out.new) }
+{
+    let turns = ready.schedule.turns();
+    answer_asked(alloc, asked, &mut ready.session, turns, out)
+}
+
+// Returns whether the answer to a question lists all files of an image.
+fn lists_all(question: Question<'_>) -> bool {
+    matches!(question, Question::Reach(_) | Question::Audit(None))
 }
 
 /// Answers a question about the run of a schedule on an image. No image is written.
 ///
 /// The image and the schedule are read to their ends. The image, the schedule and the program of `init` are checked in
-/// this order before the first step. Then all steps are made, and the answer is written; for `Explain`, the lines of
-/// each step are written before the next step is made. On success, `out` received exactly the text of the answer, all
-/// of it flushed.
+/// this order before the first step. Then all steps are made, or those before the cut, and the answer is written; for
+/// `Trace` and `Explain`, the lines of each step are written before the next step is made. On success, `out` received
+/// exactly the text of the answer, all of it flushed.
 ///
 /// # Errors
 ///
@@ -146,15 +259,15 @@ fn answer<W: Sink>(
 /// Except after `Write`, everything that was written is flushed.
 pub fn ask<I: Source, S: Source, W: Sink>(
     alloc: Global,
-    question: Question<'_>,
+    asked: RunQuestion<'_>,
     image: &mut I,
     schedule: &mut S,
     out: &mut W,
 ) -> Result<(), AskStop>
     ensures answered { OnOk result (IfSome (I.remaining image.old) (λ bytes. IfSome (S.remaining schedule.old) (λ turns.
-        WritesAnswer (image_answer question.entry bytes turns) (W.written out.old) (W.written out.new)))) }
+        WritesAnswer (image_answer asked.entry bytes turns) (W.written out.old) (W.written out.new)))) }
     ensures refused { IfErr result (λ stop. IfSome (I.remaining image.old) (λ bytes. IfSome (S.remaining schedule.old) (λ turns.
-        AppearsInAnswer (image_answer question.entry bytes turns) (W.written out.old) (W.written out.new) stop))) }
+        AppearsInAnswer (image_answer asked.entry bytes turns) (W.written out.old) (W.written out.new) stop))) }
     ensures kind { IfErr result IsImageStop }
 
     // `out` receives nothing but the answer, flushed, and each failed read or write is counted.
@@ -164,9 +277,37 @@ pub fn ask<I: Source, S: Source, W: Sink>(
     ensures read { result ≡ Err (AskStop.Machine RunFault.Read) → FailsToGive I.Source image.old image.new ⊎ FailsToGive S.Source schedule.old schedule.new }
     ensures write { result ≡ Err AskStop.Write → Rose (W.failures out.old) (W.failures out.new) }
 {
-    let lists_all = matches!(question, Question::Reach(_) | Question::Audit(None));
-    let mut ready = ready_on_image(alloc, image, schedule, lists_all)?;
-    answer(alloc, question, &mut ready, out)
+    let mut ready = ready_on_image(alloc, image, schedule, lists_all(asked.question))?;
+    answer_ready(alloc, asked, &mut ready, out)
+}
+
+/// Answers a question about the run of turns on an image, as `ask` does for a schedule. `turns` is the text of the turns
+/// with `, ` between, as `explore` writes a witness. An error `Schedule` of it has the number of a turn, counted from 1.
+///
+/// # Errors
+///
+/// As for `ask`.
+pub fn ask_by<I: Source, W: Sink>(
+    alloc: Global,
+    asked: RunQuestion<'_>,
+    image: &mut I,
+    turns: &[u8],
+    out: &mut W,
+) -> Result<(), AskStop>
+    ensures answered { OnOk result (IfSome (I.remaining image.old) (λ bytes. WritesAnswer (image_answer asked.entry bytes (turns_text turns.now)) (W.written out.old) (W.written out.new))) }
+    ensures refused { IfErr result (λ stop. IfSome (I.remaining image.old) (λ bytes. AppearsInAnswer (image_answer asked.entry bytes (turns_text turns.now)) (W.written out.old) (W.written out.new) stop)) }
+    ensures kind { IfErr result IsImageStop }
+
+    // `out` receives nothing but the answer, flushed, and each failed read or write is counted.
+    ensures unwritten { IfErr result (WritesNothingUnlessStopped (W.written out.old) (W.written out.new)) }
+    ensures empty { OnOk result (W.buffered out.new ≡ 0) }
+    ensures stopped { IfErr result (λ stop. W.buffered out.old ≡ 0 → BufferedOnlyIfUnwritten stop (W.buffered out.new)) }
+    ensures read { result ≡ Err (AskStop.Machine RunFault.Read) → FailsToGive I.Source image.old image.new }
+    ensures write { result ≡ Err AskStop.Write → Rose (W.failures out.old) (W.failures out.new) }
+{
+    let schedule = text_of_turns(alloc, turns)?;
+    let mut ready = ready_by(alloc, image, schedule.as_slice(), lists_all(asked.question))?;
+    answer_ready(alloc, asked, &mut ready, out)
 }
 
 /// Answers a question about the run of a bundle, as `ask` does for a schedule on an image. The manifest of the bundle
@@ -177,12 +318,12 @@ pub fn ask<I: Source, S: Source, W: Sink>(
 /// As for `ask`. `Machine` has the first error of the manifest, its entries, the schedule or the program of `init`.
 pub fn ask_bundle<S: Source, W: Sink>(
     alloc: Global,
-    question: Question<'_>,
+    asked: RunQuestion<'_>,
     bundle: &mut S,
     out: &mut W,
 ) -> Result<(), AskStop>
-    ensures answered { OnOk result (IfSome (S.remaining bundle.old) (λ bytes. WritesAnswer (bundle_answer question.entry bytes) (W.written out.old) (W.written out.new))) }
-    ensures refused { IfErr result (λ stop. IfSome (S.remaining bundle.old) (λ bytes. AppearsInAnswer (bundle_answer question.entry bytes) (W.written out.old) (W.written out.new) stop)) }
+    ensures answered { OnOk result (IfSome (S.remaining bundle.old) (λ bytes. WritesAnswer (bundle_answer asked.entry bytes) (W.written out.old) (W.written out.new))) }
+    ensures refused { IfErr result (λ stop. IfSome (S.remaining bundle.old) (λ bytes. AppearsInAnswer (bundle_answer asked.entry bytes) (W.written out.old) (W.written out.new) stop)) }
     ensures kind { IfErr result IsBundleStop }
 
     // `out` receives nothing but the answer, flushed, and each failed read or write is counted.
@@ -193,5 +334,64 @@ pub fn ask_bundle<S: Source, W: Sink>(
     ensures write { result ≡ Err AskStop.Write → Rose (W.failures out.old) (W.failures out.new) }
 {
     let mut ready = ready_on_bundle(alloc, bundle)?;
-    answer(alloc, question, &mut ready, out)
+    answer_ready(alloc, asked, &mut ready, out)
+}
+
+/// Answers a question about the run of a schedule on the tree of a manifest, as `ask` does for an image. If the first
+/// source is a bundle, its lines from `schedule` on are ignored.
+///
+/// # Errors
+///
+/// As for `ask_bundle`.
+pub fn ask_manifest_run<I: Source, S: Source, W: Sink>(
+    alloc: Global,
+    asked: RunQuestion<'_>,
+    manifest: &mut I,
+    schedule: &mut S,
+    out: &mut W,
+) -> Result<(), AskStop>
+    ensures answered { OnOk result (IfSome (I.remaining manifest.old) (λ bytes. IfSome (S.remaining schedule.old) (λ turns.
+        WritesAnswer (manifest_answer asked.entry bytes turns) (W.written out.old) (W.written out.new)))) }
+    ensures refused { IfErr result (λ stop. IfSome (I.remaining manifest.old) (λ bytes. IfSome (S.remaining schedule.old) (λ turns.
+        AppearsInAnswer (manifest_answer asked.entry bytes turns) (W.written out.old) (W.written out.new) stop))) }
+    ensures kind { IfErr result IsBundleStop }
+
+    // `out` receives nothing but the answer, flushed, and each failed read or write is counted.
+    ensures unwritten { IfErr result (WritesNothingUnlessStopped (W.written out.old) (W.written out.new)) }
+    ensures empty { OnOk result (W.buffered out.new ≡ 0) }
+    ensures stopped { IfErr result (λ stop. W.buffered out.old ≡ 0 → BufferedOnlyIfUnwritten stop (W.buffered out.new)) }
+    ensures read { result ≡ Err (AskStop.Machine RunFault.Read) → FailsToGive I.Source manifest.old manifest.new ⊎ FailsToGive S.Source schedule.old schedule.new }
+    ensures write { result ≡ Err AskStop.Write → Rose (W.failures out.old) (W.failures out.new) }
+{
+    let mut ready = ready_on_manifest(alloc, manifest, schedule)?;
+    answer_ready(alloc, asked, &mut ready, out)
+}
+
+/// Answers a question about the run of turns on the tree of a manifest, as `ask_manifest_run` does for a schedule.
+/// `turns` is as for `ask_by`.
+///
+/// # Errors
+///
+/// As for `ask_bundle`.
+pub fn ask_manifest_by<I: Source, W: Sink>(
+    alloc: Global,
+    asked: RunQuestion<'_>,
+    manifest: &mut I,
+    turns: &[u8],
+    out: &mut W,
+) -> Result<(), AskStop>
+    ensures answered { OnOk result (IfSome (I.remaining manifest.old) (λ bytes. WritesAnswer (manifest_answer asked.entry bytes (turns_text turns.now)) (W.written out.old) (W.written out.new))) }
+    ensures refused { IfErr result (λ stop. IfSome (I.remaining manifest.old) (λ bytes. AppearsInAnswer (manifest_answer asked.entry bytes (turns_text turns.now)) (W.written out.old) (W.written out.new) stop)) }
+    ensures kind { IfErr result IsBundleStop }
+
+    // `out` receives nothing but the answer, flushed, and each failed read or write is counted.
+    ensures unwritten { IfErr result (WritesNothingUnlessStopped (W.written out.old) (W.written out.new)) }
+    ensures empty { OnOk result (W.buffered out.new ≡ 0) }
+    ensures stopped { IfErr result (λ stop. W.buffered out.old ≡ 0 → BufferedOnlyIfUnwritten stop (W.buffered out.new)) }
+    ensures read { result ≡ Err (AskStop.Machine RunFault.Read) → FailsToGive I.Source manifest.old manifest.new }
+    ensures write { result ≡ Err AskStop.Write → Rose (W.failures out.old) (W.failures out.new) }
+{
+    let schedule = text_of_turns(alloc, turns)?;
+    let mut ready = ready_on_manifest_by(alloc, manifest, schedule.as_slice())?;
+    answer_ready(alloc, asked, &mut ready, out)
 }

@@ -49,7 +49,7 @@ fn parse(alloc: Global, bytes: &[u8]) -> Result<Manifest, ManifestFault>
 }
 
 // Returns the store of the tree that the manifest in `bytes` makes.
-fn store_of_bytes(alloc: Global, bytes: &[u8]) -> Result<Store, RunFault>
+pub(crate) fn store_of_bytes(alloc: Global, bytes: &[u8]) -> Result<Store, RunFault>
     requires { length bytes.now ≤ SOURCE_BYTES }
     ensures made { IfOk result (λ store. manifest_tree bytes.now ≡ Ok store) }
     ensures refused { IfErr result (λ fault. RefusesStart fault (manifest_tree bytes.now)) }

@@ -1,11 +1,10 @@
 //! Answers, written and flushed.
-ghost use Rattle.std.specs.Prelude.{◌≡◌, ◌⊎◌, ◌≤◌, [], Err, IfErr, OnOk, OnErr};
+ghost use Rattle.std.specs.Prelude.{◌≡◌, ◌⊎◌, ◌≤◌, [], length, Err, IfErr, OnOk, OnErr};
 ghost use Rattle.pv_answers.specs.Reaching.{reached_by};
 ghost use Rattle.pv_model.specs.Answers.Explain.{explain_lines};
 ghost use Rattle.pv_model.specs.Answers.Explore.{explore_lines};
 ghost use Rattle.pv_model.specs.Answers.Graph.{graph_lines};
 ghost use Rattle.pv_model.specs.Answers.Lines.{answer_bytes};
-ghost use Rattle.pv_model.specs.Answers.Needs.{needs_lines};
 ghost use Rattle.pv_model.specs.Answers.ProcessRecord.{state_lines};
 ghost use Rattle.pv_model.specs.Answers.Reach.{reach_lines};
 ghost use Rattle.pv_model.specs.Answers.Turns.{schedule_text, turns};
@@ -14,9 +13,14 @@ ghost use Rattle.pv_model.specs.Listing.{listing, report};
 ghost use Rattle.pv_model.specs.Sealed.{verdict_line};
 ghost use Rattle.pv_model.specs.Step.{steps_of};
 ghost use Rattle.pv_model.specs.Stream.{Rose};
+ghost use Rattle.pv_model.specs.Trace.{trace_bytes};
+ghost use Rattle.pv_model.specs.declared.limits.TheConstants.{SCHEDULE_LINES};
 ghost use Rattle.pv_dirs.specs.Trees.{bytes_at};
+ghost use Rattle.pv_needs.specs.Granted.{lines_of_demands};
+ghost use Rattle.pv_needs.specs.Restraints.{restraints};
 ghost use Rattle.pv_questions.specs.Files.{IsFileAt};
 ghost use Rattle.pv_questions.specs.Asking.{BufferedOnlyIfUnwritten, IsWritingStop};
+ghost use Rattle.pv_session.specs.Running.{FailsBy, run_of};
 ghost use Rattle.pv_streams.specs.Sinks.{and_all, WritesPrefix};
 
 use crate::file::write_file;
@@ -27,9 +31,9 @@ use pv_explain::{Explainer, explain_schedule};
 use pv_explore::{FirstMachine, Progress, write_explore, write_graph};
 use pv_listing::{ListStop, write_listing};
 use pv_model::{RunFault, Verdict};
-use pv_needs::{write_needs, write_turns};
-use pv_run::{Ready, write_report, write_verdict};
-use pv_session::{Session, Stop};
+use pv_needs::{write_demands, write_restraints, write_turns};
+use pv_run::{write_report, write_verdict};
+use pv_session::{Session, Stop, run_schedule};
 use pv_streams::Sink;
 use pv_tree::Tree;
 use std::alloc::Global;
@@ -55,6 +59,23 @@ fn flush_buffer<T: Drop, W: Sink>(end: Result<T, Stop>, out: &mut W) -> Result<(
         }
         Err(Stop::Write) => Err(AskStop::Write),
     }
+}
+
+// Writes the lines of a run, and leaves its last lines buffered.
+fn trace_run<W: Sink>(
+    alloc: Global,
+    session: &mut Session,
+    turns: &[(u32, u32)],
+    out: &mut W,
+) -> Result<(), Stop>
+    requires { length turns.now ≤ SCHEDULE_LINES }
+    ensures whole { OnOk result (W.written out.new ≡ and_all (W.written out.old) (trace_bytes (run_of session.old turns.now).lines)) }
+    ensures prefix { OnErr result (WritesPrefix (trace_bytes (run_of session.old turns.now).lines) (W.written out.old) (W.written out.new)) }
+    ensures failed { IfErr result (λ stop. FailsBy stop (W.failures out.old) (W.failures out.new)) }
+    ensures quiet { OnOk result (W.failures out.new ≡ W.failures out.old) }
+{
+    run_schedule(alloc, session, turns, out)?;
+    Ok(())
 }
 
 // Writes the state of each process.
@@ -144,42 +165,88 @@ pub(crate) fn report_audit<W: Sink>(
     }
 }
 
+// Writes the trace of the run of a schedule.
+#[tactic(auto, using(pv_streams::proofs::Sinks::begins_whole))]
+pub(crate) fn report_trace<W: Sink>(
+    alloc: Global,
+    session: &mut Session,
+    turns: &[(u32, u32)],
+    out: &mut W,
+) -> Result<(), AskStop>
+    requires { length turns.now ≤ SCHEDULE_LINES }
+    ensures whole { OnOk result (W.written out.new ≡ and_all (W.written out.old) (trace_bytes (run_of session.old turns.now).lines)) }
+    ensures prefix { OnErr result (WritesPrefix (trace_bytes (run_of session.old turns.now).lines) (W.written out.old) (W.written out.new)) }
+    ensures empty { OnOk result (W.buffered out.new ≡ 0) }
+    ensures kind { IfErr result IsWritingStop }
+    ensures stopped { IfErr result (λ stop. BufferedOnlyIfUnwritten stop (W.buffered out.new)) }
+    ensures failed { result ≡ Err AskStop.Write → Rose (W.failures out.old) (W.failures out.new) }
+{
+    let end = trace_run(alloc, session, turns, out);
+    flush_buffer(end, out)
+}
+
 // Writes the explained steps of a schedule.
 #[tactic(auto, using(pv_streams::proofs::Sinks::begins_whole))]
 pub(crate) fn report_steps<W: Sink>(
     alloc: Global,
     explainer: &mut Explainer,
-    ready: &mut Ready,
+    session: &mut Session,
+    turns: &[(u32, u32)],
     out: &mut W,
 ) -> Result<(), AskStop>
-    requires { explainer.old ≡ [] }
-    ensures whole { OnOk result (W.written out.new ≡ and_all (W.written out.old) (answer_bytes (explain_lines program_of (steps_of ready.old.schedule) ready.old.session))) }
-    ensures prefix { OnErr result (WritesPrefix (answer_bytes (explain_lines program_of (steps_of ready.old.schedule) ready.old.session)) (W.written out.old) (W.written out.new)) }
+    requires lines { length turns.now ≤ SCHEDULE_LINES }
+    requires fresh { explainer.old ≡ [] }
+    ensures whole { OnOk result (W.written out.new ≡ and_all (W.written out.old) (answer_bytes (explain_lines program_of (steps_of turns.now) session.old))) }
+    ensures prefix { OnErr result (WritesPrefix (answer_bytes (explain_lines program_of (steps_of turns.now) session.old)) (W.written out.old) (W.written out.new)) }
     ensures empty { OnOk result (W.buffered out.new ≡ 0) }
     ensures kind { IfErr result IsWritingStop }
     ensures stopped { IfErr result (λ stop. BufferedOnlyIfUnwritten stop (W.buffered out.new)) }
     ensures failed { result ≡ Err AskStop.Write → Rose (W.failures out.old) (W.failures out.new) }
 {
-    let turns = ready.schedule.turns();
-    let end = explain_schedule(alloc, &mut ready.session, explainer, turns, out);
+    let end = explain_schedule(alloc, session, explainer, turns, out);
     flush_buffer(end, out)
 }
 
-// Writes the demands of each program in the steps of a schedule.
+// Writes the demands of each program in the steps of a schedule, or of its granted calls alone.
 #[tactic(auto, using(pv_streams::proofs::Sinks::begins_whole))]
 pub(crate) fn report_needs<W: Sink>(
     alloc: Global,
-    ready: &mut Ready,
+    granted: bool,
+    session: &mut Session,
+    turns: &[(u32, u32)],
     out: &mut W,
 ) -> Result<(), AskStop>
-    ensures whole { OnOk result (W.written out.new ≡ and_all (W.written out.old) (answer_bytes (needs_lines program_of (steps_of ready.old.schedule) ready.old.session))) }
-    ensures prefix { OnErr result (WritesPrefix (answer_bytes (needs_lines program_of (steps_of ready.old.schedule) ready.old.session)) (W.written out.old) (W.written out.new)) }
+    requires { length turns.now ≤ SCHEDULE_LINES }
+    ensures whole { OnOk result (W.written out.new ≡ and_all (W.written out.old) (answer_bytes (lines_of_demands program_of granted (steps_of turns.now) session.old))) }
+    ensures prefix { OnErr result (WritesPrefix (answer_bytes (lines_of_demands program_of granted (steps_of turns.now) session.old)) (W.written out.old) (W.written out.new)) }
     ensures empty { OnOk result (W.buffered out.new ≡ 0) }
     ensures kind { IfErr result IsWritingStop }
     ensures stopped { IfErr result (λ stop. BufferedOnlyIfUnwritten stop (W.buffered out.new)) }
     ensures failed { result ≡ Err AskStop.Write → Rose (W.failures out.old) (W.failures out.new) }
 {
-    let end = write_needs(alloc, &mut ready.session, ready.schedule.turns(), out);
+    let end = write_demands(alloc, session, turns, granted, out);
+    flush_buffer(end, out)
+}
+
+// Writes the calls by which each program can restrict itself to its demands in the steps of a schedule, or to those of
+// its granted calls alone.
+#[tactic(auto, using(pv_streams::proofs::Sinks::begins_whole))]
+pub(crate) fn report_restraints<W: Sink>(
+    alloc: Global,
+    granted: bool,
+    session: &mut Session,
+    turns: &[(u32, u32)],
+    out: &mut W,
+) -> Result<(), AskStop>
+    requires { length turns.now ≤ SCHEDULE_LINES }
+    ensures whole { OnOk result (W.written out.new ≡ and_all (W.written out.old) (restraints program_of granted (steps_of turns.now) session.old)) }
+    ensures prefix { OnErr result (WritesPrefix (restraints program_of granted (steps_of turns.now) session.old) (W.written out.old) (W.written out.new)) }
+    ensures empty { OnOk result (W.buffered out.new ≡ 0) }
+    ensures kind { IfErr result IsWritingStop }
+    ensures stopped { IfErr result (λ stop. BufferedOnlyIfUnwritten stop (W.buffered out.new)) }
+    ensures failed { result ≡ Err AskStop.Write → Rose (W.failures out.old) (W.failures out.new) }
+{
+    let end = write_restraints(alloc, session, turns, granted, out);
     flush_buffer(end, out)
 }
 

@@ -31,14 +31,20 @@ fn store_of(alloc: Global, image: Vec<u8>, listed: bool) -> Result<Store, ImageF
     Ok(store)
 }
 
-// Returns the start of a run on an image, given the text of the schedule. `listed` is as for `store_of`.
-pub(crate) fn start_image(
+/// Returns the start of a run on an image, given the text of the schedule. `listed` says whether all directories of the
+/// image will be listed, so that it pays to sort their entries.
+///
+/// # Errors
+///
+/// - `Image`, `Schedule`, `Init`: the first error, in this order. Each names the first inode or the first line with such
+///   an error.
+/// - `Memory`: there is no memory.
+pub fn start_image(
     alloc: Global,
     image: Vec<u8>,
     schedule: &[u8],
     listed: bool,
 ) -> Result<Ready, RunFault>
-    requires { length schedule.now ≤ SOURCE_BYTES }
     ensures asked { IfOk result (λ r. image_started image.items schedule.now ≡ Ok (started_from r.session r.schedule)) }
     ensures machine { IfOk result (λ r. boot program_of r.session.tree ≡ Some r.session) }
     ensures fault { IfErr result (λ f. RefusesStart f (image_started image.items schedule.now)) }

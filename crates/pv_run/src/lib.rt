@@ -1,8 +1,8 @@
 //! The operations of `pvsim` on bundles and images, from bytes to bytes.
 //!
 //! `bundle` has `run_tree`, which runs a bundle, and `image` has `run`, which runs a schedule on an image; `turns`
-//! starts and makes a run. Their `ready_on_bundle` and `ready_on_image` return the start of a run to callers with
-//! another question. `machine_after` (`machine`) returns the machine after a run. `list` (`listing`) writes the listing
+//! starts and makes a run. Their `ready_on_bundle`, `ready_on_image`, `start_image` and `start_on` return the start of a
+//! run to callers with another question. `machine_after` (`machine`) returns the machine after a run. `list` (`listing`) writes the listing
 //! of an image's tree, `make_image` (`making`) the image of a manifest, `migrate_image` (`migrating`) an image of
 //! version 2 with the tree of one of version 1, and `audit_image` (`auditing`, `report`) the verdicts on the files
 //! after a run. Contracts cite the tree that bytes hold (`mounted`), the tree that a manifest makes (`tree_made`), the
@@ -22,7 +22,7 @@ pub mod turns;
 
 pub use auditing::{AuditStop, audit_image};
 pub use bundle::{ready_on_bundle, run_tree};
-pub use image::{ready_on_image, run, write_image};
+pub use image::{ready_on_image, run, start_image, write_image};
 pub use listing::list;
 pub use machine::machine_after;
 pub use making::make_image;
@@ -30,4 +30,4 @@ pub use migrating::{MigrateStop, migrate_image};
 pub use pv_listing::write_verdict;
 pub use pv_session::Session;
 pub use report::write_report;
-pub use turns::{Ready, Summary};
+pub use turns::{Ready, Summary, start_on};

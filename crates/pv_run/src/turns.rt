@@ -1,5 +1,5 @@
 //! The start of a run, and the turns of its schedule.
-ghost use Rattle.std.specs.Prelude.{◌≡◌, ◌≤◌, length, Some, Ok, IfOk, IfErr, OnOk, OnErr};
+ghost use Rattle.std.specs.Prelude.{◌≡◌, Some, Ok, IfOk, IfErr, OnOk, OnErr};
 ghost use Rattle.pv_model.specs.Grammar.Lines.{lines_of};
 ghost use Rattle.pv_model.specs.Grammar.Programs.{program_of};
 ghost use Rattle.pv_model.specs.Start.{started_on};
@@ -11,7 +11,7 @@ ghost use Rattle.pv_session.specs.Running.{BeginsLines, WrittenLines, run_of};
 use pv_model::RunFault;
 use pv_script::Schedule;
 use pv_session::{Session, Stop, run_schedule, step_count};
-use pv_streams::{Failed, SOURCE_BYTES, Sink};
+use pv_streams::{Failed, Sink};
 use pv_tree::Store;
 use std::alloc::Global;
 
@@ -33,9 +33,14 @@ pub struct Ready {
     pub schedule: Schedule,
 }
 
-// Returns the start of a run on a tree, given the text of the schedule.
-pub(crate) fn start_on(alloc: Global, store: Store, schedule: &[u8]) -> Result<Ready, RunFault>
-    requires { length schedule.now ≤ SOURCE_BYTES }
+/// Returns the start of a run on a tree, given the text of the schedule.
+///
+/// # Errors
+///
+/// - `Schedule`, `Init`: the first error of the schedule or else of the program of `init`. Each names the first line
+///   with such an error.
+/// - `Memory`: there is no memory.
+pub fn start_on(alloc: Global, store: Store, schedule: &[u8]) -> Result<Ready, RunFault>
     ensures asked { IfOk result (λ r. started_on store (lines_of schedule.now) ≡ Ok (started_from r.session r.schedule)) }
     ensures machine { IfOk result (λ r. boot program_of r.session.tree ≡ Some r.session) }
     ensures fault { IfErr result (λ f. RefusesStart f (started_on store (lines_of schedule.now))) }

@@ -1,11 +1,11 @@
-use Rattle.std.proofs.Common.{◌≡◌, ◌∙◌, ap, map, refl, true, subst, List, Option}
+use Rattle.std.proofs.Common.{◌≡◌, ◌∙◌, ap, map, refl, true, subst, inl, List}
 use Rattle.clap.specs.Words.{App, HasKind, HasMatchesOf, Row, Text, app_of, fault_of, is_simple_and_free, kind_of, subcommand_of, subcommand_rows_of, takes}
 use Rattle.clap.specs.declared.builder.command.Command.{Command as Parser}
 use Rattle.clap.specs.declared.parser.matches.ArgMatches.{ArgMatches}
 use Rattle.clap.specs.declared.error.kind.ErrorKind.TheVariants.{OutOfMemory}
-use Rattle.pv_cli_line.specs.Line.{IsCommandIn, LacksNumber, RefusesWords, is_verbose_in, of_parser}
+use Rattle.pv_cli_line.specs.Line.{LacksNumber, RefusesWords, is_verbose_in, of_parser}
 use Rattle.pv_cli_line.specs.Parser.{pvsim_app}
-use Rattle.pv_cli_line.proofs.LineLemmas.{nothing-asked, refused_by_parser, refused_result, pvsim_has_matches, pvsim_is_simple}
+use Rattle.pv_cli_line.proofs.LineLemmas.{asked_by, nothing-asked, refused_by_turns, verbose_by, refused_by_parser, refused_result, pvsim_has_matches, pvsim_is_simple}
 use Rattle.pv_cli_line.proofs.command.parsed.Goals as goal
 
 pub returns-in_err-matches-clause-refused : goal.returns-in_err-matches-clause-refused
@@ -25,13 +25,22 @@ appears parser words m app_is has = (subst (λ (app : App). HasMatchesOf app wor
 
 pub returns-in-Some-Command-clause-asked : goal.returns-in-Some-Command-clause-asked
 returns-in-Some-Command-clause-asked g c =
-    let e = appears c.in_ok-parser.parser (map g.S.AsStr.text c.args.words.now) c.in_ok-matches.matches c.in_ok-parser.ensures c.in_ok-matches.ensures.ok.2 in
-    subst (λ (entered : Option (Text × List Row)). IsCommandIn entered c.in-Some-Command.command) e (rw c.in-Some-Command.field-0-is at c.in-Some-Command.ensures.found)
+    let words = map g.S.AsStr.text c.args.words.now in
+    let e = appears c.in_ok-parser.parser words c.in_ok-matches.matches c.in_ok-parser.ensures c.in_ok-matches.ensures.ok.2 in
+    asked_by words (subcommand_rows_of c.in_ok-matches.matches) e c.in-Some-Command.command (rw c.in-Some-Command.field-0-is at c.in-Some-Command.ensures.found)
+    c.checked.result c.is_verbose.result c.checked.ensures.value c.checked.ensures.turns
 
 pub returns-in-Some-Command-clause-verbose : goal.returns-in-Some-Command-clause-verbose
 returns-in-Some-Command-clause-verbose g c =
     let e = appears c.in_ok-parser.parser (map g.S.AsStr.text c.args.words.now) c.in_ok-matches.matches c.in_ok-parser.ensures c.in_ok-matches.ensures.ok.2 in
-    c.is_verbose.ensures ∙ ap is_verbose_in e
+    verbose_by c.checked.result c.in-Some-Command.command c.is_verbose.result _ c.checked.ensures.value (c.is_verbose.ensures ∙ ap is_verbose_in e)
+
+pub returns-in-Some-Command-clause-refused : goal.returns-in-Some-Command-clause-refused
+returns-in-Some-Command-clause-refused g c =
+    let words = map g.S.AsStr.text c.args.words.now in
+    let e = appears c.in_ok-parser.parser words c.in_ok-matches.matches c.in_ok-parser.ensures c.in_ok-matches.ensures.ok.2 in
+    refused_by_turns words (subcommand_rows_of c.in_ok-matches.matches) e c.in-Some-Command.command (rw c.in-Some-Command.field-0-is at c.in-Some-Command.ensures.found)
+    c.checked.result c.checked.ensures.refused
 
 pub returns-in-Some-Number-clause-refused : goal.returns-in-Some-Number-clause-refused
 returns-in-Some-Number-clause-refused g c =
@@ -42,4 +51,4 @@ pub returns-clause-refused : goal.returns-clause-refused
 returns-clause-refused g c =
     let words = map g.S.AsStr.text c.args.words.now in
     let e = appears c.in_ok-parser.parser words c.in_ok-matches.matches c.in_ok-parser.ensures c.in_ok-matches.ensures.ok.2 in
-    nothing-asked words (subcommand_rows_of c.in_ok-matches.matches) e c.in_ok-error-in-None.field-0 c.in_ok-error-in-None.ensures.kind (c.in-None.ensures.none refl)
+    inl (nothing-asked words (subcommand_rows_of c.in_ok-matches.matches) e c.in_ok-error-in-None.field-0 c.in_ok-error-in-None.ensures.kind (c.in-None.ensures.none refl))

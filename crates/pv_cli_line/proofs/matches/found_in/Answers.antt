@@ -11,4 +11,4 @@ returns-clause-none c is =
     (c.turns_in.ensures.none (none_by c.turns_in.result c.in_default-turns_in.not-Some))
     (c.explore_in.ensures.none (none_by c.explore_in.result c.in_default-explore_in.not-Some))
     (c.graph_in.ensures.none (none_by c.graph_in.result c.in_default-graph_in.not-Some))
-    (c.reach_in.ensures.none is)
+    (c.question_in.ensures.none is)

@@ -1,9 +1,7 @@
-use Rattle.std.proofs.Common.{subst, OnErr}
 use Rattle.pv_model.specs.Answers.Explain.{explain_lines}
 use Rattle.pv_model.specs.Answers.Lines.{answer_bytes}
 use Rattle.pv_model.specs.Grammar.Programs.{program_of}
-use Rattle.pv_model.specs.Step.{Schedule, steps_of}
-use Rattle.pv_streams.specs.Sinks.{WritesPrefix}
+use Rattle.pv_model.specs.Step.{steps_of}
 use Rattle.pv_questions.proofs.Handed.{failed, began}
 use Rattle.pv_questions.proofs.writers.report_steps.Goals as goal
 
@@ -14,7 +12,6 @@ returns-clause-failed g c =
 
 pub returns-clause-prefix : goal.returns-clause-prefix
 returns-clause-prefix g c =
-    subst (λ (turns : Schedule). OnErr c.flush_buffer.result (WritesPrefix (answer_bytes (explain_lines program_of (steps_of turns) c.args.ready.now.session)) (g.W.Sink.written c.args.out.now) (g.W.Sink.written c.flush_buffer.new.out))) c.turns-turns.ensures.value
-    (began (answer_bytes (explain_lines program_of (steps_of c.turns-turns.result.now) c.args.ready.now.session))
+    began (answer_bytes (explain_lines program_of (steps_of c.args.turns.now) c.args.session.now))
     (g.W.Sink.written c.args.out.now) (g.W.Sink.written c.explain_schedule-end.new.out) (g.W.Sink.written c.flush_buffer.new.out) c.explain_schedule-end.result c.flush_buffer.result
-    c.explain_schedule-end.ensures.whole c.explain_schedule-end.ensures.prefix c.flush_buffer.ensures.preserved)
+    c.explain_schedule-end.ensures.whole c.explain_schedule-end.ensures.prefix c.flush_buffer.ensures.preserved
