@@ -1,7 +1,10 @@
 -- Lemmas about accesses: Accessed (the accesses of a call by its candidates), Started (the walks that a call begins),
--- Prepared (the texts of candidates), Past (descriptors past the last), Alike (what the accesses of a step depend on).
+-- Prepared (the texts of candidates), Past (descriptors past the last), Listed (the files of a tree), Notes (notes, and
+-- files without a note), Written (the bytes of a search).
 pub mod Accessed
-pub mod Alike
+pub mod Listed
+pub mod Notes
 pub mod Past
 pub mod Prepared
 pub mod Started
+pub mod Written

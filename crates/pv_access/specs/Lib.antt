@@ -1,2 +1,4 @@
+pub mod Alike
 pub mod Candidates
 pub mod Texts
+pub mod Unread

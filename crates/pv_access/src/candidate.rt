@@ -41,8 +41,12 @@ pub(crate) fn text_of<P: Fragment>(alloc: Global, fragment: &P) -> Result<Vec<u8
     }
 }
 
-// Returns the note of a file.
-fn note_of(alloc: Global, node: u16) -> Result<Vec<u8>, AllocError>
+/// Returns the note of a file.
+///
+/// # Errors
+///
+/// `AllocError`, if there is no memory.
+pub(crate) fn note_of(alloc: Global, node: u16) -> Result<Vec<u8>, AllocError>
     ensures { IfOk result (λ bytes. bytes.items ≡ note node) }
 {
     let mut bytes = Vec::new(alloc);

@@ -5,7 +5,7 @@ use Rattle.pv_model.specs.declared.stream.Source.{Ghosts as Reading}
 use Rattle.pv_cli_commands.specs.declared.command.Command.{Command}
 use Rattle.pv_cli_commands.specs.declared.command.Command.TheVariants.{RunTree, MakeImage, ListImage, RunImage, MigrateImage, ImportDirectory, ExportImage, AuditImage, WriteSource, Ask, AskTree}
 use Rattle.pv_cli_commands.specs.declared.system.HostSystem.{HostSystem}
-use Rattle.pv_cli_commands.specs.Asking.{AsksRun, AsksTree, ReadsRunFiles, ReadsTreeFile}
+use Rattle.pv_cli_commands.specs.Asking.{AsksRun, AsksTree, KeepsRunErrors, KeepsTreeErrors, ReadsRunFiles, ReadsTreeFile}
 use Rattle.pv_cli_commands.specs.Auditing.{AuditsFiles}
 use Rattle.pv_cli_commands.specs.Exporting.{ExportsFile}
 use Rattle.pv_cli_commands.specs.Faults.{Answer}
@@ -34,13 +34,13 @@ Performs disk host reading writing reporting (ExportImage image directory) befor
     ExportsFile disk host reporting before.files image.now directory.now before.errors after.errors answer
 Performs disk host reading writing reporting (AuditImage image schedule path) before after answer =
     AuditsFiles disk writing before.files (inputs_of image.now schedule.now) (option_map (λ bytes. bytes.now) path) before.output after.output answer
-Performs disk host reading writing reporting (WriteSource name) before after answer =
-    (name.now ≡ codes "-" → WritesSource reading writing reporting name.now before.input after.input before.output after.output before.errors after.errors answer)
-    × (name.now ≢ codes "-" → WritesSourceFile disk writing reporting before.files name.now before.output after.output before.errors after.errors answer)
+Performs disk host reading writing reporting (WriteSource name kind) before after answer =
+    (name.now ≡ codes "-" → WritesSource reading writing reporting kind name.now before.input after.input before.output after.output before.errors after.errors answer)
+    × (name.now ≢ codes "-" → WritesSourceFile disk writing reporting before.files kind name.now before.output after.output before.errors after.errors answer)
 Performs disk host reading writing reporting (Ask question run) before after answer =
-    AsksRun disk reading writing before.files question run before.input after.input before.output after.output answer
+    AsksRun disk reading writing reporting before.files question run before.input after.input before.output after.output before.errors after.errors answer
 Performs disk host reading writing reporting (AskTree question tree) before after answer =
-    AsksTree disk reading writing before.files question tree before.input after.input before.output after.output answer
+    AsksTree disk reading writing reporting before.files question tree before.input after.input before.output after.output before.errors after.errors answer
 
 -- the command writes only to a file, or makes a directory
 abbrev pub WritesFile : Command → Type 0
@@ -53,14 +53,16 @@ WritesFile command = ⊥
 -- the command reads only files
 abbrev pub ReadsFiles : Command → Type 0
 ReadsFiles (RunTree name) = name.now ≢ codes "-"
-ReadsFiles (WriteSource name) = name.now ≢ codes "-"
+ReadsFiles (WriteSource name kind) = name.now ≢ codes "-"
 ReadsFiles (Ask question run) = ReadsRunFiles run
 ReadsFiles (AskTree question tree) = ReadsTreeFile tree
 ReadsFiles command = ⊤
 
 -- the command reports nothing on the standard error itself
 abbrev pub KeepsErrors : Command → Type 0
-KeepsErrors (WriteSource name) = ⊥
+KeepsErrors (WriteSource name kind) = ⊥
 KeepsErrors (ImportDirectory directory image version skips) = ⊥
 KeepsErrors (ExportImage image directory) = ⊥
+KeepsErrors (Ask question run) = KeepsRunErrors run
+KeepsErrors (AskTree question tree) = KeepsTreeErrors tree
 KeepsErrors command = ⊤

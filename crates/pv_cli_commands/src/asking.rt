@@ -3,13 +3,14 @@ ghost use Rattle.std.specs.Prelude.{◌≡◌};
 ghost use Rattle.pv_questions.specs.Answering.{image_answer};
 ghost use Rattle.pv_questions.specs.Asking.{IsBundleStop, IsImageStop};
 ghost use Rattle.pv_questions.specs.Trees.{manifest_answer};
-ghost use Rattle.pv_cli_commands.specs.Asking.{ReadsRunFiles, ReadsTreeFile, AsksRun, AsksTree, AsksBeside, AsksBundle, AsksBundleFile, AsksFile, AsksFiles, AsksSource, AsksTwo, AsksImageFile, AsksImageTree, AsksManifest, AsksManifestFile, image_answer_by, manifest_answer_by};
+ghost use Rattle.pv_cli_commands.specs.Asking.{KeepsRunErrors, KeepsTreeErrors, ReadsRunFiles, ReadsTreeFile, AsksRun, AsksTree, AsksBeside, AsksBundle, AsksBundleFile, AsksFile, AsksFiles, AsksSource, AsksTwo, AsksImageFile, AsksImageTree, AsksManifest, AsksManifestFile, image_answer_by, manifest_answer_by};
 ghost use Rattle.pv_cli_commands.specs.Status.{Flushes};
 ghost use Rattle.pv_cli_commands.specs.Streams.{disk_of, inputs_of};
 
-use crate::command::{RunInput, ScheduleInput, TreeInput};
+use crate::command::{RunInput, ScheduleInput, TextInput, TreeInput};
 use crate::fault::Fault;
 use crate::system::Files;
+use crate::translating::{ask_manifest_source, ask_source};
 use pv_model::RunFault;
 use pv_questions::{
     AskStop, Progress, RunQuestion, TreeQuestion, ask, ask_bundle, ask_by, ask_manifest,
@@ -118,7 +119,7 @@ fn ask_files_under<F: Files, W: Sink>(
 }
 
 // Answers a question about the run of a schedule in a file on the tree of the manifest in a source.
-fn ask_beside<F: Files, I: Source, W: Sink>(
+pub(crate) fn ask_beside<F: Files, I: Source, W: Sink>(
     alloc: Global,
     files: &F,
     question: RunQuestion<'_>,
@@ -135,7 +136,7 @@ fn ask_beside<F: Files, I: Source, W: Sink>(
 }
 
 // Answers a question about the run of turns on the tree of the manifest in a source.
-fn ask_under_by<S: Source, W: Sink>(
+pub(crate) fn ask_under_by<S: Source, W: Sink>(
     alloc: Global,
     question: RunQuestion<'_>,
     manifest: &mut S,
@@ -166,7 +167,7 @@ fn ask_file_under_by<F: Files, W: Sink>(
 }
 
 // Answers a question about the run of the bundle in a source.
-fn ask_from<S: Source, W: Sink>(
+pub(crate) fn ask_from<S: Source, W: Sink>(
     alloc: Global,
     question: RunQuestion<'_>,
     bundle: &mut S,
@@ -226,7 +227,7 @@ fn ask_tree_file<F: Files, W: Sink, P: Progress>(
 }
 
 // Answers a question about the tree of the manifest or bundle in a source.
-fn ask_manifest_from<S: Source, W: Sink, P: Progress>(
+pub(crate) fn ask_manifest_from<S: Source, W: Sink, P: Progress>(
     alloc: Global,
     question: TreeQuestion<'_>,
     manifest: &mut S,
@@ -258,17 +259,19 @@ fn ask_manifest_file<F: Files, W: Sink, P: Progress>(
 
 // Answers a question about a run. The bundle or manifest `-` is read from the standard input.
 #[tactic(auto, using(crate::proofs::Outcomes::flushed_unwritten))]
-pub(crate) fn ask_run<F: Files, I: Source, W: Sink>(
+pub(crate) fn ask_run<F: Files, I: Source, W: Sink, E: Sink>(
     alloc: Global,
     files: &F,
     input: &mut I,
     question: RunQuestion<'_>,
     run: RunInput<'_>,
     out: &mut W,
+    errors: &mut E,
 ) -> Result<(), Fault>
-    ensures does { AsksRun (disk_of F.Files F.Reader.Source F.Writer.Sink) I.Source W.Sink files.now question.entry run.entry input.old input.new out.old out.new result }
+    ensures does { AsksRun (disk_of F.Files F.Reader.Source F.Writer.Sink) I.Source W.Sink E.Sink files.now question.entry run.entry input.old input.new out.old out.new errors.old errors.new result }
     ensures flushed { Flushes W.Sink out.old out.new result }
     ensures unread { ReadsRunFiles run.entry → input.new ≡ input.old }
+    ensures unreported { KeepsRunErrors run.entry → errors.new ≡ errors.old }
 {
     match run {
         RunInput::Image {
@@ -279,30 +282,46 @@ pub(crate) fn ask_run<F: Files, I: Source, W: Sink>(
             image,
             schedule: ScheduleInput::Turns(turns),
         } => ask_file_by(alloc, files, question, image, turns, out),
-        RunInput::Bundle("-") => ask_from(alloc, question, input, out),
-        RunInput::Bundle(name) => ask_file(alloc, files, question, name, out),
+        RunInput::Bundle(TextInput::Plain("-")) => ask_from(alloc, question, input, out),
+        RunInput::Bundle(TextInput::Plain(name)) => ask_file(alloc, files, question, name, out),
+        RunInput::Bundle(TextInput::Source(name)) => {
+            ask_source(alloc, files, input, question, name, None, out, errors)
+        }
         RunInput::Manifest {
-            manifest: "-",
+            manifest: TextInput::Plain("-"),
             schedule: ScheduleInput::File(schedule),
         } => ask_beside(alloc, files, question, input, schedule, out),
         RunInput::Manifest {
-            manifest,
+            manifest: TextInput::Plain(manifest),
             schedule: ScheduleInput::File(schedule),
         } => ask_files_under(alloc, files, question, manifest, schedule, out),
         RunInput::Manifest {
-            manifest: "-",
+            manifest: TextInput::Plain("-"),
             schedule: ScheduleInput::Turns(turns),
         } => ask_under_by(alloc, question, input, turns, out),
         RunInput::Manifest {
-            manifest,
+            manifest: TextInput::Plain(manifest),
             schedule: ScheduleInput::Turns(turns),
         } => ask_file_under_by(alloc, files, question, manifest, turns, out),
+        RunInput::Manifest {
+            manifest: TextInput::Source(name),
+            schedule,
+        } => ask_source(
+            alloc,
+            files,
+            input,
+            question,
+            name,
+            Some(schedule),
+            out,
+            errors,
+        ),
     }
 }
 
 // Answers a question about a tree. The manifest `-` is read from the standard input.
 #[tactic(auto, using(crate::proofs::Outcomes::flushed_unwritten))]
-pub(crate) fn ask_tree_of<F: Files, I: Source, W: Sink, P: Progress>(
+pub(crate) fn ask_tree_of<F: Files, I: Source, W: Sink, E: Sink, P: Progress>(
     alloc: Global,
     files: &F,
     input: &mut I,
@@ -310,16 +329,23 @@ pub(crate) fn ask_tree_of<F: Files, I: Source, W: Sink, P: Progress>(
     tree: TreeInput<'_>,
     progress: &mut P,
     out: &mut W,
+    errors: &mut E,
 ) -> Result<(), Fault>
-    ensures does { AsksTree (disk_of F.Files F.Reader.Source F.Writer.Sink) I.Source W.Sink files.now question.entry tree.entry input.old input.new out.old out.new result }
+    ensures does { AsksTree (disk_of F.Files F.Reader.Source F.Writer.Sink) I.Source W.Sink E.Sink files.now question.entry tree.entry input.old input.new out.old out.new errors.old errors.new result }
     ensures flushed { Flushes W.Sink out.old out.new result }
     ensures unread { ReadsTreeFile tree.entry → input.new ≡ input.old }
+    ensures unreported { KeepsTreeErrors tree.entry → errors.new ≡ errors.old }
 {
     match tree {
         TreeInput::Image(name) => ask_tree_file(alloc, files, question, name, progress, out),
-        TreeInput::Manifest("-") => ask_manifest_from(alloc, question, input, progress, out),
-        TreeInput::Manifest(name) => {
+        TreeInput::Manifest(TextInput::Plain("-")) => {
+            ask_manifest_from(alloc, question, input, progress, out)
+        }
+        TreeInput::Manifest(TextInput::Plain(name)) => {
             ask_manifest_file(alloc, files, question, name, progress, out)
+        }
+        TreeInput::Manifest(TextInput::Source(name)) => {
+            ask_manifest_source(alloc, files, input, question, name, progress, out, errors)
         }
     }
 }

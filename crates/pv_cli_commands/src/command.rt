@@ -2,6 +2,7 @@
 
 use pv_model::Version;
 use pv_questions::{RunQuestion, TreeQuestion};
+use pv_source::Output;
 
 /// The schedule of a run.
 #[derive(Clone, Copy, Debug, PartialEq, Eq)]
@@ -10,6 +11,15 @@ pub enum ScheduleInput<'a> {
     File(&'a str),
     /// Turns with `, ` between, as `explore` writes a witness.
     Turns(&'a str),
+}
+
+/// A manifest or bundle. The file `-` is the standard input.
+#[derive(Clone, Copy, Debug, PartialEq, Eq)]
+pub enum TextInput<'a> {
+    /// The manifest or bundle in a file.
+    Plain(&'a str),
+    /// The manifest or bundle that the source in a file translates to.
+    Source(&'a str),
 }
 
 /// The input of a run: an image with a schedule, a bundle, or a manifest with a schedule.
@@ -22,13 +32,12 @@ pub enum RunInput<'a> {
         /// The schedule.
         schedule: ScheduleInput<'a>,
     },
-    /// The bundle in a file. `-` is the standard input.
-    Bundle(&'a str),
-    /// The tree of the manifest in a file, which may be a bundle, under a schedule in place of the bundle's own. `-` is
-    /// the standard input.
+    /// A bundle.
+    Bundle(TextInput<'a>),
+    /// The tree of a manifest, which may be a bundle, under a schedule in place of the bundle's own.
     Manifest {
-        /// The file of the manifest.
-        manifest: &'a str,
+        /// The manifest.
+        manifest: TextInput<'a>,
         /// The schedule.
         schedule: ScheduleInput<'a>,
     },
@@ -39,8 +48,8 @@ pub enum RunInput<'a> {
 pub enum TreeInput<'a> {
     /// The image in a file.
     Image(&'a str),
-    /// The manifest in a file, which may be a bundle. `-` is the standard input.
-    Manifest(&'a str),
+    /// A manifest, which may be a bundle.
+    Manifest(TextInput<'a>),
 }
 
 /// A command.
@@ -104,8 +113,13 @@ pub enum Command<'a> {
         /// The path of a file in the image. Without a path, all files are audited.
         path: Option<&'a [u8]>,
     },
-    /// Writes the manifest or bundle of the source in a file, or reports the lines in error. `-` is the standard input.
-    WriteSource(&'a str),
+    /// Writes the output for a source, or reports the lines in error.
+    WriteSource {
+        /// The file of the source. `-` is the standard input.
+        source: &'a str,
+        /// The output.
+        kind: Output,
+    },
     /// Answers a question about a run.
     Ask {
         /// The question.

@@ -171,7 +171,7 @@ fn audit_status(stop: AuditStop) -> u8
     }
 }
 
-// Returns the status of an answer that failed.
+// Returns the status of an answer that failed, or is not complete.
 fn ask_status(stop: AskStop) -> u8
     ensures { result ≡ ask_status_of stop }
 {
@@ -179,6 +179,7 @@ fn ask_status(stop: AskStop) -> u8
         AskStop::Machine(fault) => run_status(fault),
         AskStop::NoProcess | AskStop::Audited(_) | AskStop::File(_) => 1,
         AskStop::Write => 4,
+        AskStop::Incomplete => 5,
     }
 }
 
@@ -217,7 +218,8 @@ fn export_status(fault: ExportFault) -> u8
 }
 
 impl Fault {
-    /// Returns the exit status: 1 for invalid input, 3 for out of memory, and 4 for a failed read or write.
+    /// Returns the exit status: 1 for invalid input, 3 for out of memory, 4 for a failed read or write, and 5 for a
+    /// search that left a state out.
     pub fn status(&self) -> u8
         ensures { result ≡ status_of self.now }
     {
@@ -233,15 +235,16 @@ impl Fault {
         }
     }
 
-    /// Returns whether the error is already reported on the standard error. This is so for a source with lines in
-    /// error, for a directory with an entry that an image can't have, and for an image with an entry that could not be
-    /// exported.
+    /// Returns whether the error is already reported. This is so for a source with lines in error, for a directory with
+    /// an entry that an image can't have, for an image with an entry that could not be exported, and for a search that
+    /// left a state out, whose text reports it.
     pub fn is_reported(&self) -> bool
         ensures { result ≡ is_reported self.now }
     {
         matches!(
             self,
-            Fault::Source(SourceStop::Refused)
+            Fault::Asking(AskStop::Incomplete)
+                | Fault::Source(SourceStop::Refused)
                 | Fault::Importing(ImportStop::Refused)
                 | Fault::Exporting(ExportFault::Make)
         )

@@ -2,11 +2,11 @@
 //!
 //! `command` has the type of commands, and `performing` carries them out. The other modules carry out one kind of
 //! command each: `running` (bundles), `images` (schedules on images), `making`, `listing`, `migrating`, `importing`,
-//! `exporting`, `auditing`, `sources`, and `asking` (questions). `system` has the traits of files and streams,
-//! `directories` those of directories, and `fault` the messages and the exit status. Contracts cite the bytes that a
-//! source gives, the bytes that a sink received and has buffered, the number of failures of each, the bytes of named
-//! files, and the entries of named directories. Progress reports are not specified. `pv_cli_line` parses the command
-//! line.
+//! `exporting`, `auditing`, `sources`, and `asking` (questions), for which `translating` reads sources. `system` has
+//! the traits of files and streams, `directories` those of directories, and `fault` the messages and the exit status.
+//! Contracts cite the bytes that a source gives, the bytes that a sink received and has buffered, the number of
+//! failures of each, the bytes of named files, and the entries of named directories. Progress reports are not
+//! specified. `pv_cli_line` parses the command line.
 #![tactic(auto)]
 
 pub mod asking;
@@ -24,10 +24,12 @@ pub mod performing;
 pub mod running;
 pub mod sources;
 pub mod system;
+mod translating;
 
-pub use command::{Command, RunInput, ScheduleInput, TreeInput};
+pub use command::{Command, RunInput, ScheduleInput, TextInput, TreeInput};
 pub use directories::Directories;
 pub use fault::Fault;
 pub use performing::perform;
 pub use pv_questions::{Progress, Unshown};
+pub use pv_source::Output;
 pub use system::{Files, HostSystem};

@@ -40,23 +40,25 @@ use std::alloc::Global;
 ///   before it in the listing are then made.
 /// - `AuditImage` runs the schedule in a file on the image in another, and writes the verdict on the file at a path, or
 ///   on all files, to the standard output.
-/// - `WriteSource` writes the manifest or bundle of the source in a file, or on the standard input for `-`, to the
-///   standard output, and reports at most twenty lines with an unknown promise on the standard error. If lines are in
-///   error, it writes nothing to the standard output and reports at most twenty of them on the standard error. Each
-///   report is a line with the name of the file as given.
+/// - `WriteSource` writes the manifest or bundle of the source in a file, or on the standard input for `-`, or the
+///   lines of its programs, to the standard output, and reports at most twenty lines with an unknown promise on the
+///   standard error. If lines are in error, it writes nothing to the standard output and reports at most twenty of them
+///   on the standard error. Each report is a line with the name of the file as given.
 /// - `Ask` runs the schedule in a file on the image in another, or the bundle in a file or on the standard input for
-///   `-`, and writes the answer to a question about that run to the standard output.
+///   `-`, and writes the answer to a question about that run to the standard output. A bundle or manifest may be given
+///   by a source, whose translation is then the bundle. The lines of the source are reported as for `WriteSource`.
 /// - `AskTree` writes the answer to a question about a tree to the standard output: the tree of the image in a file, of
-///   the manifest in a file, or of the manifest on the standard input for `-`.
+///   the manifest in a file, or of the manifest on the standard input for `-`. A source may give the manifest, too.
 ///
 /// Everything that was written to the standard output is flushed, unless a write to it failed. A search of states reports to `progress`.
 ///
 /// # Errors
 ///
-/// A file cannot be opened or read, the input is invalid, there is no memory, or the output cannot be written. If the
-/// input is invalid, nothing was written. The variant is `Listing` for `ListImage`, `Migrating` for `MigrateImage`,
+/// A file cannot be opened or read, the input is invalid, there is no memory, the output cannot be written, or a search
+/// left a state out. If the input is invalid, nothing was written; if a state was left out, the whole answer was written.
+/// The variant is `Listing` for `ListImage`, `Migrating` for `MigrateImage`,
 /// `Importing` for `ImportDirectory`, `Exporting` for `ExportImage`, `Auditing` for `AuditImage`, `Source` for
-/// `WriteSource`, `Asking` for `Ask` and `AskTree`, and `Run` for the others.
+/// `WriteSource` and for a source that is not translated, `Asking` for `Ask` and `AskTree`, and `Run` for the others.
 #[tactic(auto, using(crate::proofs::Outcomes::failed_with_status, crate::proofs::Outcomes::flushed_unwritten))]
 pub fn perform<
     F: Files + Directories + Drop,
@@ -116,11 +118,19 @@ pub fn perform<
             schedule,
             path,
         } => audit_files(alloc, files, image, schedule, path, output),
-        Command::WriteSource("-") => write_from(alloc, "-", input, output, errors),
-        Command::WriteSource(name) => write_file(alloc, files, name, output, errors),
-        Command::Ask { question, run } => ask_run(alloc, files, input, question, run, output),
+        Command::WriteSource { source: "-", kind } => {
+            write_from(alloc, kind, "-", input, output, errors)
+        }
+        Command::WriteSource { source, kind } => {
+            write_file(alloc, files, kind, source, output, errors)
+        }
+        Command::Ask { question, run } => {
+            ask_run(alloc, files, input, question, run, output, errors)
+        }
         Command::AskTree { question, tree } => {
-            ask_tree_of(alloc, files, input, question, tree, progress, output)
+            ask_tree_of(
+                alloc, files, input, question, tree, progress, output, errors,
+            )
         }
     }
 }

@@ -19,17 +19,19 @@ use Rattle.pv_cli_commands.specs.declared.command.Command.TheVariants.{RunTree, 
 use Rattle.pv_cli_commands.specs.declared.command.RunInput.{RunInput}
 use Rattle.pv_cli_commands.specs.declared.command.RunInput.TheVariants.{Image as OfImage, Bundle}
 use Rattle.pv_cli_commands.specs.declared.command.ScheduleInput.TheVariants.{File as InFile}
+use Rattle.pv_cli_commands.specs.declared.command.TextInput.{TextInput}
+use Rattle.pv_cli_commands.specs.declared.command.TextInput.TheVariants.{Plain, Source as OfSource}
 use Rattle.pv_cli_commands.specs.declared.command.TreeInput.{TreeInput}
 use Rattle.pv_cli_commands.specs.declared.command.TreeInput.TheVariants.{Image, Manifest}
 use Rattle.pv_questions.specs.Schedules.{are_turns}
 use Rattle.pv_questions.specs.declared.question.Question.{Question}
 use Rattle.pv_questions.specs.declared.question.Question.TheVariants.{Trace, Audit}
-use Rattle.pv_questions.specs.declared.question.TreeQuestion.TheVariants.{Listing, File, Turns, Explore, Graph}
+use Rattle.pv_questions.specs.declared.question.TreeQuestion.TheVariants.{Listing, File, Turns, Explore, Access, Graph}
 use Rattle.pv_cli_line.specs.declared.command.CommandLine.{CommandLine}
 use Rattle.pv_cli_line.specs.declared.command.LineFault.{LineFault}
 use Rattle.pv_cli_line.specs.declared.command.LineFault.TheVariants as line
 use Rattle.pv_cli_line.specs.declared.matches.Migration.{Migration}
-use Rattle.pv_cli_line.specs.Line.{AreFaultyTurns, HasTexts, IsCommandIn, IsMigrationOf, IsPlain, IsQuestionIn, IsRefused, IsTreeIn, IsValidIn, IsValidTreeIn, IsWithoutNumbers, RefusesLine, RefusesTurns, RefusesTurnsOf, RefusesWords, entered_text, is_given, is_verbose_in, is_verbose_line, of_kind, of_parser, turns_of}
+use Rattle.pv_cli_line.specs.Line.{AreFaultyTurns, HasTexts, IsCommandIn, IsMigrationOf, IsPlain, IsQuestionIn, IsRefused, IsTextIn, IsTextless, IsTreeIn, IsValidIn, IsValidTreeIn, IsWithoutNumbers, RefusesLine, RefusesTurns, RefusesTurnsOf, RefusesWords, entered_text, is_given, is_verbose_in, is_verbose_line, of_kind, of_parser, turns_of}
 use Rattle.pv_cli_line.specs.Parser.{pvsim_app}
 
 module _ {Z : Type 0} where
@@ -82,7 +84,7 @@ module _ (entered : Option (Text × List Row)) where
       → entered_text entered (codes "run") (codes "OUT") ≡ Some out → ⊥)
       → ((image directory : Text) → entered_text entered (codes "export") (codes "IMAGE") ≡ Some image → entered_text entered (codes "export") (codes "DIR") ≡ Some directory → ⊥)
       → (command : Command) → IsPlain command → IsCommandIn entered command → ⊥
-  no_plain_command source made ran exports (WriteSource file) plain is = let both : None ≡ Some file.now = sym source ∙ is in cc both
+  no_plain_command source made ran exports (WriteSource file kind) plain is = let both : None ≡ Some file.now = sym source ∙ is.0 in cc both
   no_plain_command source made ran exports (MakeImage manifest image) plain is = made manifest.now image.now is.0 is.1
   no_plain_command source made ran exports (RunImage image schedule out) plain is = ran image.now schedule.now out.now is.0 is.1 is.2
   no_plain_command source made ran exports (ExportImage image directory) plain is = exports image.now directory.now is.0 is.1
@@ -99,7 +101,7 @@ module _ (entered : Option (Text × List Row)) where
       → ((path : Text) (tree : TreeInput) → IsTreeIn entered (codes "cat") (codes "PATH") tree (Some path) → ⊥)
       → (command : Command) → IsWithoutNumbers command → IsCommandIn entered command → ⊥
   no_command plain list cat (RunTree file) without is = absurd without
-  no_command plain list cat (WriteSource file) without is = plain (WriteSource file) tt is
+  no_command plain list cat (WriteSource file kind) without is = plain (WriteSource file kind) tt is
   no_command plain list cat (MakeImage manifest image) without is = plain (MakeImage manifest image) tt is
   no_command plain list cat (RunImage image schedule out) without is = plain (RunImage image schedule out) tt is
   no_command plain list cat (ExportImage image directory) without is = plain (ExportImage image directory) tt is
@@ -113,6 +115,7 @@ module _ (entered : Option (Text × List Row)) where
   no_command plain list cat (AskTree (File path) tree) without is = cat path.now tree is
   no_command plain list cat (AskTree (Turns slice steps) tree) without is = absurd without
   no_command plain list cat (AskTree (Explore states) tree) without is = absurd without
+  no_command plain list cat (AskTree (Access states) tree) without is = absurd without
   no_command plain list cat (AskTree (Graph states lists_tree) tree) without is = absurd without
 
   pub no_command_at_all :
@@ -121,33 +124,46 @@ module _ (entered : Option (Text × List Row)) where
       → ((directory image : Text) → entered_text entered (codes "import") (codes "DIR") ≡ Some directory → entered_text entered (codes "import") (codes "IMAGE") ≡ Some image → ⊥)
       → ((tree : TreeInput) → IsValidTreeIn entered (codes "turns") tree → ⊥)
       → ((tree : TreeInput) → IsValidTreeIn entered (codes "explore") tree → ⊥)
+      → ((tree : TreeInput) → IsValidTreeIn entered (codes "access") tree → ⊥)
       → ((tree : TreeInput) → IsValidTreeIn entered (codes "graph") tree → ⊥)
       → ((question : Question) (run : RunInput) → IsQuestionIn entered question run → ⊥)
       → (command : Command) → IsCommandIn entered command → ⊥
-  no_command_at_all other migrates imports turns explores graphs asks (RunTree file) is = asks Trace (Bundle file) is.0
-  no_command_at_all other migrates imports turns explores graphs asks (WriteSource file) is = other (WriteSource file) tt is
-  no_command_at_all other migrates imports turns explores graphs asks (ListImage image) is = other (ListImage image) tt is
-  no_command_at_all other migrates imports turns explores graphs asks (MakeImage manifest image) is = other (MakeImage manifest image) tt is
-  no_command_at_all other migrates imports turns explores graphs asks (RunImage image schedule out) is = other (RunImage image schedule out) tt is
-  no_command_at_all other migrates imports turns explores graphs asks (ExportImage image directory) is = other (ExportImage image directory) tt is
-  no_command_at_all other migrates imports turns explores graphs asks (AuditImage image schedule path) is = asks (Audit path) (OfImage image (InFile schedule)) is.0
-  no_command_at_all other migrates imports turns explores graphs asks (MigrateImage image out blocks inodes) is =
+  no_command_at_all other migrates imports turns explores accesses graphs asks (RunTree file) is = asks Trace (Bundle (Plain file)) is.0
+  no_command_at_all other migrates imports turns explores accesses graphs asks (WriteSource file kind) is = other (WriteSource file kind) tt is
+  no_command_at_all other migrates imports turns explores accesses graphs asks (ListImage image) is = other (ListImage image) tt is
+  no_command_at_all other migrates imports turns explores accesses graphs asks (MakeImage manifest image) is = other (MakeImage manifest image) tt is
+  no_command_at_all other migrates imports turns explores accesses graphs asks (RunImage image schedule out) is = other (RunImage image schedule out) tt is
+  no_command_at_all other migrates imports turns explores accesses graphs asks (ExportImage image directory) is = other (ExportImage image directory) tt is
+  no_command_at_all other migrates imports turns explores accesses graphs asks (AuditImage image schedule path) is = asks (Audit path) (OfImage image (InFile schedule)) is.0
+  no_command_at_all other migrates imports turns explores accesses graphs asks (MigrateImage image out blocks inodes) is =
       migrates image.now out.now is.2.word is.3.word (record { has_image = is.0; has_out = is.1; has_blocks = is.2.is_entered; has_inodes = is.3.is_entered })
-  no_command_at_all other migrates imports turns explores graphs asks (ImportDirectory directory image version skips) is = imports directory.now image.now is.0 is.1
-  no_command_at_all other migrates imports turns explores graphs asks (Ask question run) is = asks question.question run is.0
-  no_command_at_all other migrates imports turns explores graphs asks (AskTree Listing tree) is = other (AskTree Listing tree) tt is
-  no_command_at_all other migrates imports turns explores graphs asks (AskTree (File path) tree) is = other (AskTree (File path) tree) tt is
-  no_command_at_all other migrates imports turns explores graphs asks (AskTree (Turns slice steps) tree) is = turns tree is.0
-  no_command_at_all other migrates imports turns explores graphs asks (AskTree (Explore states) tree) is = explores tree is.0
-  no_command_at_all other migrates imports turns explores graphs asks (AskTree (Graph states lists_tree) tree) is = graphs tree is.0
+  no_command_at_all other migrates imports turns explores accesses graphs asks (ImportDirectory directory image version skips) is = imports directory.now image.now is.0 is.1
+  no_command_at_all other migrates imports turns explores accesses graphs asks (Ask question run) is = asks question.question run is.0
+  no_command_at_all other migrates imports turns explores accesses graphs asks (AskTree Listing tree) is = other (AskTree Listing tree) tt is
+  no_command_at_all other migrates imports turns explores accesses graphs asks (AskTree (File path) tree) is = other (AskTree (File path) tree) tt is
+  no_command_at_all other migrates imports turns explores accesses graphs asks (AskTree (Turns slice steps) tree) is = turns tree is.0
+  no_command_at_all other migrates imports turns explores accesses graphs asks (AskTree (Explore states) tree) is = explores tree is.0
+  no_command_at_all other migrates imports turns explores accesses graphs asks (AskTree (Access states) tree) is = accesses tree is.0
+  no_command_at_all other migrates imports turns explores accesses graphs asks (AskTree (Graph states lists_tree) tree) is = graphs tree is.0
+
+  module _ (command : Text) where
+    -- a text is one of a bundle and a source
+    pub text_none : (text : TextInput) → IsTextless entered command → IsTextIn entered command text → ⊥
+    text_none (Plain file) none is = let both : None ≡ Some file.now = sym none.0 ∙ is.0 in cc both
+    text_none (OfSource file) none is = let both : None ≡ Some file.now = sym none.1 ∙ is.1 in cc both
+
+    pub text_both : (bundle source : Text) → entered_text entered command (codes "bundle") ≡ Some bundle → entered_text entered command (codes "source") ≡ Some source
+        → (text : TextInput) → IsTextIn entered command text → ⊥
+    text_both bundle source has also (Plain file) is = let both : None ≡ Some source = sym is.1 ∙ also in cc both
+    text_both bundle source has also (OfSource file) is = let both : None ≡ Some bundle = sym is.0 ∙ has in cc both
 
   -- the text after an input is determined by the matches
   module _ (command last : Text) where
     pub tree_further : (tree other : TreeInput) (further another : Option Text) → IsTreeIn entered command last tree further → IsTreeIn entered command last other another
         → further ≡ another
     tree_further (Image image) (Image image') further another is at = sym is.2 ∙ at.2
-    tree_further (Image image) (Manifest manifest) further another is at = let both : None ≡ Some manifest.now = sym is.0 ∙ at.0 in cc both
-    tree_further (Manifest manifest) (Image image) further another is at = let both : None ≡ Some manifest.now = sym at.0 ∙ is.0 in cc both
+    tree_further (Image image) (Manifest manifest) further another is at = absurd (text_none command manifest is.0 at.0)
+    tree_further (Manifest manifest) (Image image) further another is at = absurd (text_none command manifest at.0 is.0)
     tree_further (Manifest manifest) (Manifest manifest') further another is at = sym is.1 ∙ at.1
 
 -- the command with a migration's texts is the one in the matches
@@ -160,7 +176,7 @@ migration-appears entered texts (MigrateImage image out blocks inodes) h is = (
   record { word = texts.inodes.now; is_entered = h.has_inodes; is_size = is.3 },
 )
 migration-appears entered texts (RunTree file) h is = absurd is
-migration-appears entered texts (WriteSource file) h is = absurd is
+migration-appears entered texts (WriteSource file kind) h is = absurd is
 migration-appears entered texts (ListImage image) h is = absurd is
 migration-appears entered texts (MakeImage manifest image) h is = absurd is
 migration-appears entered texts (RunImage image schedule out) h is = absurd is

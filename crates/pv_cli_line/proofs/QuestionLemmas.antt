@@ -29,14 +29,14 @@ module _ (entered : Option (Text × List Row)) where
   found_command question run (MigrateImage image out blocks inodes) is enters steps = absurd is
   found_command question run (ImportDirectory directory image version skips) is enters steps = absurd is
   found_command question run (ExportImage image directory) is enters steps = absurd is
-  found_command question run (WriteSource file) is enters steps = absurd is
+  found_command question run (WriteSource file kind) is enters steps = absurd is
   found_command question run (AskTree asked tree) is enters steps = absurd is
 
   -- the number of steps of a question is not a number
   pub no_number : (question : Question) (run : RunInput) (word : Text) → IsQuestionIn entered question run → steps_word entered question ≡ Some word → size_in word ≡ None
       → LacksNumber entered
   no_number question run word enters is none =
-      inr (inr (inr (inr (inr (inr (record { question = question; run = run; are_entered = enters; word = word; is_word = is; is_none = none }))))))
+      inr (inr (inr (inr (inr (inr (inr (record { question = question; run = run; are_entered = enters; word = word; is_word = is; is_none = none })))))))
 
   -- if no command of a question has its texts, there is no question
   pub no_question :
@@ -47,7 +47,7 @@ module _ (entered : Option (Text × List Row)) where
       → (question : Question) (run : RunInput) → IsQuestionIn entered question run → ⊥
   no_question traced state explain needs audit reaches Trace run is = traced run is
   no_question traced state explain needs audit reaches State run is = state run is
-  no_question traced state explain needs audit reaches Explain run is = explain run is
+  no_question traced state explain needs audit reaches (Explain errors) run is = explain run is.0
   no_question traced state explain needs audit reaches (Needs granted lines) run is = needs run is.0
   no_question traced state explain needs audit reaches (Audit path) run is = audit run (option_map (λ bytes. bytes.now) path) is
   no_question traced state explain needs audit reaches (Reach pid) run is = reaches pid run is

@@ -15,6 +15,8 @@ use Rattle.pv_cli_commands.specs.declared.command.RunInput.{RunInput}
 use Rattle.pv_cli_commands.specs.declared.command.RunInput.TheVariants.{Image as OfImage, Bundle, Manifest as OfManifest}
 use Rattle.pv_cli_commands.specs.declared.command.ScheduleInput.{ScheduleInput}
 use Rattle.pv_cli_commands.specs.declared.command.ScheduleInput.TheVariants.{File as InFile, Turns as AsTurns}
+use Rattle.pv_cli_commands.specs.declared.command.TextInput.{TextInput}
+use Rattle.pv_cli_commands.specs.declared.command.TextInput.TheVariants.{Plain, Source as OfSource}
 use Rattle.pv_cli_commands.specs.declared.command.TreeInput.{TreeInput}
 use Rattle.pv_cli_commands.specs.declared.command.TreeInput.TheVariants.{Image, Manifest}
 use Rattle.pv_questions.specs.declared.question.Question.{Question}
@@ -22,12 +24,16 @@ use Rattle.pv_questions.specs.declared.question.Question.TheVariants.{Trace, Sta
 use Rattle.pv_questions.specs.Schedules.{are_turns}
 use Rattle.pv_questions.specs.declared.question.RunQuestion.{RunQuestion}
 use Rattle.pv_questions.specs.declared.question.TreeQuestion.{TreeQuestion}
-use Rattle.pv_questions.specs.declared.question.TreeQuestion.TheVariants.{Listing, File, Turns, Explore, Graph}
+use Rattle.pv_questions.specs.declared.question.TreeQuestion.TheVariants.{Listing, File, Turns, Explore, Access, Graph}
 use Rattle.pv_cli_line.specs.declared.matches.Parsed.{Parsed}
 use Rattle.pv_cli_line.specs.declared.matches.Parsed.TheVariants as found
 use Rattle.pv_cli_line.specs.declared.command.LineFault.{LineFault}
 use Rattle.pv_cli_line.specs.declared.command.LineFault.TheVariants as line
 use Rattle.pv_cli_line.specs.declared.matches.Migration.{Migration}
+use Rattle.pv_cli_line.specs.declared.texts.Given.{Given}
+use Rattle.pv_cli_line.specs.declared.texts.Given.TheVariants.{Nothing, One, Both}
+use Rattle.pv_source.specs.declared.source.Output.{Output}
+use Rattle.pv_source.specs.declared.source.Output.TheVariants.{Translation, ProgramLines}
 use Rattle.pv_cli_line.specs.Parser.{pvsim_app}
 
 -- the text of an argument, if the command was entered
@@ -85,49 +91,67 @@ abbrev pub IsScheduleOf : (file turns : Option Text) → ScheduleInput → Type 
 IsScheduleOf file turns (InFile schedule) = (file ≡ Some schedule.now) × (turns ≡ None)
 IsScheduleOf file turns (AsTurns given) = (file ≡ None) × (turns ≡ Some given.now)
 
+-- a manifest or bundle was entered: one of `--bundle FILE` and `--source FILE`
+abbrev pub IsTextIn : Option (Text × List Row) → Text → TextInput → Type 0
+IsTextIn entered command (Plain file) =
+    (entered_text entered command (codes "bundle") ≡ Some file.now) × (entered_text entered command (codes "source") ≡ None)
+IsTextIn entered command (OfSource file) =
+    (entered_text entered command (codes "bundle") ≡ None) × (entered_text entered command (codes "source") ≡ Some file.now)
+
+-- neither was entered
+abbrev pub IsTextless : Option (Text × List Row) → Text → Type 0
+IsTextless entered command =
+    (entered_text entered command (codes "bundle") ≡ None) × (entered_text entered command (codes "source") ≡ None)
+
+-- neither, one or both were entered
+abbrev pub IsGivenIn : Option (Text × List Row) → Text → Given → Type 0
+IsGivenIn entered command Nothing = IsTextless entered command × ((text : TextInput) → IsTextIn entered command text → ⊥)
+IsGivenIn entered command (One text) = IsTextIn entered command text × (IsTextless entered command → ⊥)
+IsGivenIn entered command Both = (IsTextless entered command → ⊥) × ((text : TextInput) → IsTextIn entered command text → ⊥)
+
 -- the input of a run was entered, and the argument after it: an image and a schedule, followed by the argument `last`,
 -- or a bundle in their place; turns may be in the place of the schedule, and a manifest and a schedule, with an argument
 -- after them, in that of the bundle
 abbrev pub IsRunIn : Option (Text × List Row) → (command last : Text) → RunInput → Option Text → Type 0
 IsRunIn entered command last (OfImage image (InFile schedule)) further =
-    (entered_text entered command (codes "bundle") ≡ None) × (entered_text entered command (codes "by") ≡ None)
+    IsTextless entered command × (entered_text entered command (codes "by") ≡ None)
     × (entered_text entered command (codes "IMAGE") ≡ Some image.now) × (entered_text entered command (codes "SCHEDULE") ≡ Some schedule.now)
     × (entered_text entered command last ≡ further)
 IsRunIn entered command last (OfImage image (AsTurns turns)) further =
-    (entered_text entered command (codes "bundle") ≡ None) × (entered_text entered command (codes "by") ≡ Some turns.now)
+    IsTextless entered command × (entered_text entered command (codes "by") ≡ Some turns.now)
     × (entered_text entered command (codes "IMAGE") ≡ Some image.now) × (entered_text entered command (codes "SCHEDULE") ≡ further)
     × (entered_text entered command last ≡ None)
 IsRunIn entered command last (Bundle bundle) further =
-    (entered_text entered command (codes "bundle") ≡ Some bundle.now) × (entered_text entered command (codes "by") ≡ None)
+    IsTextIn entered command bundle × (entered_text entered command (codes "by") ≡ None)
     × (entered_text entered command (codes "IMAGE") ≡ further) × (entered_text entered command (codes "SCHEDULE") ≡ None)
 IsRunIn entered command last (OfManifest manifest (InFile schedule)) further =
-    (entered_text entered command (codes "bundle") ≡ Some manifest.now) × (entered_text entered command (codes "by") ≡ None)
+    IsTextIn entered command manifest × (entered_text entered command (codes "by") ≡ None)
     × (entered_text entered command (codes "IMAGE") ≡ Some schedule.now) × (entered_text entered command (codes "SCHEDULE") ≡ further)
     × (entered_text entered command last ≡ None) × (further ≢ None)
 IsRunIn entered command last (OfManifest manifest (AsTurns turns)) further =
-    (entered_text entered command (codes "bundle") ≡ Some manifest.now) × (entered_text entered command (codes "by") ≡ Some turns.now)
+    IsTextIn entered command manifest × (entered_text entered command (codes "by") ≡ Some turns.now)
     × (entered_text entered command (codes "IMAGE") ≡ further) × (entered_text entered command (codes "SCHEDULE") ≡ None)
 
 -- the same for a command without a further argument
 abbrev pub IsValidRunIn : Option (Text × List Row) → Text → RunInput → Type 0
 IsValidRunIn entered command (OfImage image schedule) =
-    (entered_text entered command (codes "bundle") ≡ None) × (entered_text entered command (codes "IMAGE") ≡ Some image.now)
+    IsTextless entered command × (entered_text entered command (codes "IMAGE") ≡ Some image.now)
     × IsScheduleOf (entered_text entered command (codes "SCHEDULE")) (entered_text entered command (codes "by")) schedule
 IsValidRunIn entered command (Bundle bundle) =
-    (entered_text entered command (codes "bundle") ≡ Some bundle.now) × (entered_text entered command (codes "by") ≡ None)
+    IsTextIn entered command bundle × (entered_text entered command (codes "by") ≡ None)
     × (entered_text entered command (codes "IMAGE") ≡ None) × (entered_text entered command (codes "SCHEDULE") ≡ None)
 IsValidRunIn entered command (OfManifest manifest schedule) =
-    (entered_text entered command (codes "bundle") ≡ Some manifest.now) × (entered_text entered command (codes "SCHEDULE") ≡ None)
+    IsTextIn entered command manifest × (entered_text entered command (codes "SCHEDULE") ≡ None)
     × IsScheduleOf (entered_text entered command (codes "IMAGE")) (entered_text entered command (codes "by")) schedule
 
 -- the input with a tree was entered, and the argument after it: an image, followed by the argument `last`, or a
 -- manifest in its place
 abbrev pub IsTreeIn : Option (Text × List Row) → (command last : Text) → TreeInput → Option Text → Type 0
 IsTreeIn entered command last (Image image) further =
-    (entered_text entered command (codes "bundle") ≡ None) × (entered_text entered command (codes "IMAGE") ≡ Some image.now)
+    IsTextless entered command × (entered_text entered command (codes "IMAGE") ≡ Some image.now)
     × (entered_text entered command last ≡ further)
 IsTreeIn entered command last (Manifest manifest) further =
-    (entered_text entered command (codes "bundle") ≡ Some manifest.now) × (entered_text entered command (codes "IMAGE") ≡ further)
+    IsTextIn entered command manifest × (entered_text entered command (codes "IMAGE") ≡ further)
     × (entered_text entered command last ≡ None)
 
 -- the same for a command without a further argument
@@ -149,6 +173,10 @@ states_entered entered command = states_in (entered_text entered command (codes 
 abbrev pub version_entered : Option (Text × List Row) → Option Version
 version_entered entered = version_in (entered_text entered (codes "import") (codes "version"))
 
+-- the output of `source`
+abbrev pub output_entered : Option (Text × List Row) → Output
+output_entered entered = if is_given (entered_text entered (codes "source") (codes "lines")) then ProgramLines else Translation
+
 -- a question about a tree was entered, with its input
 abbrev pub IsTreeQuestionIn : Option (Text × List Row) → TreeQuestion → TreeInput → Type 0
 IsTreeQuestionIn entered Listing (Manifest manifest) = IsValidTreeIn entered (codes "ls") (Manifest manifest)
@@ -158,6 +186,8 @@ IsTreeQuestionIn entered (Turns slice steps) tree =
     IsValidTreeIn entered (codes "turns") tree × (slice_entered entered ≡ Some slice) × (steps_entered entered ≡ Some steps)
 IsTreeQuestionIn entered (Explore states) tree =
     IsValidTreeIn entered (codes "explore") tree × (states_entered entered (codes "explore") ≡ Some states)
+IsTreeQuestionIn entered (Access states) tree =
+    IsValidTreeIn entered (codes "access") tree × (states_entered entered (codes "access") ≡ Some states)
 IsTreeQuestionIn entered (Graph states lists_tree) tree =
     IsValidTreeIn entered (codes "graph") tree × (states_entered entered (codes "graph") ≡ Some states)
     × (is_given (entered_text entered (codes "graph") (codes "tree")) ≡ lists_tree)
@@ -171,16 +201,22 @@ abbrev pub question_name : Question → Text
 question_name Trace = codes "run-tree"
 question_name State = codes "state"
 question_name (Reach pid) = codes "reach"
-question_name Explain = codes "explain"
+question_name (Explain errors) = codes "explain"
 question_name (Needs granted lines) = codes "needs"
 question_name (Audit path) = codes "audit"
 
+-- the file of `run-tree` was entered, which the flag `source` makes a source
+abbrev pub IsTracedTextIn : Option (Text × List Row) → TextInput → Type 0
+IsTracedTextIn entered (Plain file) =
+    (entered_text entered (codes "run-tree") (codes "FILE") ≡ Some file.now) × (is_given (entered_text entered (codes "run-tree") (codes "source")) ≡ false)
+IsTracedTextIn entered (OfSource file) =
+    (entered_text entered (codes "run-tree") (codes "FILE") ≡ Some file.now) × (is_given (entered_text entered (codes "run-tree") (codes "source")) ≡ true)
+
 -- the input of `run-tree` was entered: a bundle, or a manifest with turns
 abbrev pub IsTracedIn : Option (Text × List Row) → RunInput → Type 0
-IsTracedIn entered (Bundle file) =
-    (entered_text entered (codes "run-tree") (codes "FILE") ≡ Some file.now) × (entered_text entered (codes "run-tree") (codes "by") ≡ None)
-IsTracedIn entered (OfManifest file (AsTurns turns)) =
-    (entered_text entered (codes "run-tree") (codes "FILE") ≡ Some file.now) × (entered_text entered (codes "run-tree") (codes "by") ≡ Some turns.now)
+IsTracedIn entered (Bundle bundle) = IsTracedTextIn entered bundle × (entered_text entered (codes "run-tree") (codes "by") ≡ None)
+IsTracedIn entered (OfManifest manifest (AsTurns turns)) =
+    IsTracedTextIn entered manifest × (entered_text entered (codes "run-tree") (codes "by") ≡ Some turns.now)
 IsTracedIn entered run = ⊥
 
 -- a question about a run was entered, with its input
@@ -188,7 +224,8 @@ abbrev pub IsQuestionIn : Option (Text × List Row) → Question → RunInput �
 IsQuestionIn entered Trace run = IsTracedIn entered run
 IsQuestionIn entered State run = IsValidRunIn entered (codes "state") run
 IsQuestionIn entered (Reach pid) run = (word : Option Text) × IsRunIn entered (codes "reach") (codes "PID") run word × EncodesNumber word pid
-IsQuestionIn entered Explain run = IsValidRunIn entered (codes "explain") run
+IsQuestionIn entered (Explain errors) run =
+    IsValidRunIn entered (codes "explain") run × (is_given (entered_text entered (codes "explain") (codes "errors")) ≡ errors)
 IsQuestionIn entered (Needs granted lines) run =
     IsValidRunIn entered (codes "needs") run
     × (is_given (entered_text entered (codes "needs") (codes "granted")) ≡ granted) × (is_given (entered_text entered (codes "needs") (codes "lines")) ≡ lines)
@@ -198,9 +235,10 @@ IsQuestionIn entered (Audit path) run = IsRunIn entered (codes "audit") (codes "
 abbrev pub steps_word : Option (Text × List Row) → Question → Option Text
 steps_word entered question = entered_text entered (question_name question) (codes "steps")
 
--- the question about a whole run is not another command: `run-tree` of a bundle, or `audit` of an image and a schedule
+-- the question about a whole run is not another command: `run-tree` of a bundle that is no source, or `audit` of an
+-- image and a schedule
 abbrev pub IsUnderTurns : RunInput → Type 0
-IsUnderTurns (Bundle file) = ⊥
+IsUnderTurns (Bundle (Plain file)) = ⊥
 IsUnderTurns run = ⊤
 
 abbrev pub IsOtherThanFiles : RunInput → Type 0
@@ -218,7 +256,7 @@ IsOwnQuestion question None run = IsOwnWholly question run
 
 -- the command of a question
 abbrev pub IsCommandOf : RunQuestion → RunInput → Command → Type 0
-IsCommandOf question run (RunTree file) = (question.question ≡ Trace) × (question.steps ≡ None) × (run ≡ Bundle file)
+IsCommandOf question run (RunTree file) = (question.question ≡ Trace) × (question.steps ≡ None) × (run ≡ Bundle (Plain file))
 IsCommandOf question run (AuditImage image schedule path) =
     (question.question ≡ Audit path) × (question.steps ≡ None) × (run ≡ OfImage image (InFile schedule))
 IsCommandOf question run (Ask asked input) = (asked ≡ question) × (input ≡ run) × IsOwnQuestion question.question question.steps run
@@ -226,7 +264,7 @@ IsCommandOf question run command = ⊥
 
 -- the matches of a subcommand are those of this command and its arguments
 abbrev pub IsCommandIn : Option (Text × List Row) → Command → Type 0
-IsCommandIn entered (RunTree file) = IsQuestionIn entered Trace (Bundle file) × (steps_word entered Trace ≡ None)
+IsCommandIn entered (RunTree file) = IsQuestionIn entered Trace (Bundle (Plain file)) × (steps_word entered Trace ≡ None)
 IsCommandIn entered (MakeImage manifest image) =
     (entered_text entered (codes "mkimg") (codes "MANIFEST") ≡ Some manifest.now) × (entered_text entered (codes "mkimg") (codes "IMAGE") ≡ Some image.now)
 IsCommandIn entered (ListImage image) = IsValidTreeIn entered (codes "ls") (Image image)
@@ -243,7 +281,8 @@ IsCommandIn entered (ExportImage image directory) =
     (entered_text entered (codes "export") (codes "IMAGE") ≡ Some image.now) × (entered_text entered (codes "export") (codes "DIR") ≡ Some directory.now)
 IsCommandIn entered (AuditImage image schedule path) =
     IsQuestionIn entered (Audit path) (OfImage image (InFile schedule)) × (steps_word entered (Audit path) ≡ None)
-IsCommandIn entered (WriteSource file) = entered_text entered (codes "source") (codes "FILE") ≡ Some file.now
+IsCommandIn entered (WriteSource file kind) =
+    (entered_text entered (codes "source") (codes "FILE") ≡ Some file.now) × (output_entered entered ≡ kind)
 IsCommandIn entered (Ask question run) =
     IsQuestionIn entered question.question run × EncodesNumber (steps_word entered question.question) question.steps
     × IsOwnQuestion question.question question.steps run
@@ -264,7 +303,7 @@ IsMigrationOf texts command = ⊥
 
 -- a command that requires each of its texts, and has no number
 abbrev pub IsPlain : Command → Type 0
-IsPlain (WriteSource file) = ⊤
+IsPlain (WriteSource file kind) = ⊤
 IsPlain (MakeImage manifest image) = ⊤
 IsPlain (RunImage image schedule out) = ⊤
 IsPlain (ExportImage image directory) = ⊤
@@ -279,6 +318,7 @@ IsWithoutNumbers (AuditImage image schedule path) = ⊥
 IsWithoutNumbers (Ask question run) = ⊥
 IsWithoutNumbers (AskTree (Turns slice steps) tree) = ⊥
 IsWithoutNumbers (AskTree (Explore states) tree) = ⊥
+IsWithoutNumbers (AskTree (Access states) tree) = ⊥
 IsWithoutNumbers (AskTree (Graph states lists_tree) tree) = ⊥
 IsWithoutNumbers command = ⊤
 
@@ -397,7 +437,7 @@ pub record LacksVersion (entered : Option (Text × List Row)) : Type 0 where
 -- a numeric argument is not a number
 abbrev pub LacksNumber : Option (Text × List Row) → Type 0
 LacksNumber entered =
-    LacksSize entered ⊎ (LacksProcess entered ⊎ (LacksCount entered ⊎ (LacksStates entered (codes "explore") ⊎ (LacksStates entered (codes "graph") ⊎ (LacksVersion entered ⊎ LacksSteps entered)))))
+    LacksSize entered ⊎ (LacksProcess entered ⊎ (LacksCount entered ⊎ (LacksStates entered (codes "explore") ⊎ (LacksStates entered (codes "access") ⊎ (LacksStates entered (codes "graph") ⊎ (LacksVersion entered ⊎ LacksSteps entered))))))
 
 -- the result of reading the matches of a subcommand
 abbrev pub IsFoundIn : Option (Text × List Row) → Parsed → Type 0

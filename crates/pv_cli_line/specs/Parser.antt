@@ -24,6 +24,10 @@ long_rule name = record (optional_rule name) { long = Some name; value_names = 1
 abbrev pub bundle_rule : Rule
 bundle_rule = record (long_rule (codes "bundle")) { short = Some 98 }
 
+-- a source, in place of an image and a schedule
+abbrev pub source_rule : Rule
+source_rule = record (long_rule (codes "source")) { short = Some 115 }
+
 -- a flag
 abbrev pub flag_rule : Text → Rule
 flag_rule name = record (new_rule name) { action = Some SetTrue; long = Some name }
@@ -32,23 +36,27 @@ flag_rule name = record (new_rule name) { action = Some SetTrue; long = Some nam
 abbrev pub verbose_rule : Rule
 verbose_rule = record (flag_rule (codes "verbose")) { short = Some 118 }
 
+-- the flag that says that a bundle is given by a source
+abbrev pub source_flag_rule : Rule
+source_flag_rule = record (flag_rule (codes "source")) { short = Some 115 }
+
 -- a command: it takes this flag, and then its own arguments
 abbrev pub command_app : Text → List Rule → App
 command_app name rules = fold with_rule (with_rule (new_app name) verbose_rule) rules
 
--- `IMAGE`, or `--bundle FILE`
+-- `IMAGE`, or `--bundle FILE` or `--source FILE`
 abbrev pub tree_rules : List Rule
-tree_rules = bundle_rule ∷ optional_rule (codes "IMAGE") ∷ []
+tree_rules = bundle_rule ∷ source_rule ∷ optional_rule (codes "IMAGE") ∷ []
 
 -- `--by TURNS` and `--steps N`
 abbrev pub schedule_rules : List Rule
 schedule_rules = long_rule (codes "by") ∷ long_rule (codes "steps") ∷ []
 
--- `IMAGE SCHEDULE`, or `--bundle FILE`
+-- `IMAGE SCHEDULE`, or `--bundle FILE` or `--source FILE`
 abbrev pub question_rules : List Rule
-question_rules = bundle_rule ∷ schedule_rules ++ optional_rule (codes "IMAGE") ∷ optional_rule (codes "SCHEDULE") ∷ []
+question_rules = bundle_rule ∷ source_rule ∷ schedule_rules ++ optional_rule (codes "IMAGE") ∷ optional_rule (codes "SCHEDULE") ∷ []
 
--- `IMAGE`, or `--bundle FILE`, with `--states N`
+-- `IMAGE`, or `--bundle FILE` or `--source FILE`, with `--states N`
 abbrev pub search_rules : List Rule
 search_rules = tree_rules ++ long_rule (codes "states") ∷ []
 
@@ -56,19 +64,20 @@ search_rules = tree_rules ++ long_rule (codes "states") ∷ []
 -- after a run, about its steps, and about a tree and all states; to migrate an image; to import and export a directory
 abbrev pub command_apps : List App
 command_apps =
-    command_app (codes "run-tree") (text_rule (codes "FILE") ∷ schedule_rules)
-    ∷ command_app (codes "source") (text_rule (codes "FILE") ∷ [])
+    command_app (codes "run-tree") (source_flag_rule ∷ text_rule (codes "FILE") ∷ schedule_rules)
+    ∷ command_app (codes "source") (text_rule (codes "FILE") ∷ flag_rule (codes "lines") ∷ [])
     ∷ command_app (codes "mkimg") (text_rule (codes "MANIFEST") ∷ text_rule (codes "IMAGE") ∷ [])
     ∷ command_app (codes "ls") tree_rules
     ∷ command_app (codes "run") (text_rule (codes "IMAGE") ∷ text_rule (codes "SCHEDULE") ∷ text_rule (codes "OUT") ∷ [])
     ∷ command_app (codes "audit") (question_rules ++ optional_rule (codes "PATH") ∷ [])
     ∷ command_app (codes "state") question_rules
     ∷ command_app (codes "reach") (question_rules ++ optional_rule (codes "PID") ∷ [])
-    ∷ command_app (codes "explain") question_rules
+    ∷ command_app (codes "explain") (question_rules ++ flag_rule (codes "errors") ∷ [])
     ∷ command_app (codes "needs") (question_rules ++ flag_rule (codes "granted") ∷ flag_rule (codes "lines") ∷ [])
     ∷ command_app (codes "cat") (tree_rules ++ optional_rule (codes "PATH") ∷ [])
     ∷ command_app (codes "turns") (tree_rules ++ long_rule (codes "slice") ∷ long_rule (codes "steps") ∷ [])
     ∷ command_app (codes "explore") search_rules
+    ∷ command_app (codes "access") search_rules
     ∷ command_app (codes "graph") (search_rules ++ flag_rule (codes "tree") ∷ [])
     ∷ command_app (codes "migrate")
     (text_rule (codes "IMAGE") ∷ text_rule (codes "OUT") ∷ text_rule (codes "BLOCKS") ∷ text_rule (codes "INODES") ∷ [])

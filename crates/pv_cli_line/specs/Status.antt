@@ -1,5 +1,5 @@
 -- The exit status: 0 for success, 1 for invalid input, 2 for the command line, 3 for out of memory, 4 for a failed read
--- or write.
+-- or write, 5 for a search that left a state out.
 use Rattle.std.specs.Prelude.{ℕ}
 use Rattle.clap.specs.Words.{kind_of}
 use Rattle.clap.specs.declared.error.kind.ErrorKind.{ErrorKind}

@@ -156,7 +156,7 @@ fn parsed<'a, S: AsStr>(alloc: Global, words: &'a [S]) -> Result<CommandLine<'a>
         Some(Parsed::Number) => Err(LineFault::Number),
         None => Err(LineFault::Parser(parser.error(
             ErrorKind::MissingRequiredArgument,
-            "expected IMAGE and its further arguments, or --bundle FILE in place of IMAGE and SCHEDULE",
+            "expected IMAGE and its further arguments, or one of --bundle FILE and --source FILE in place of IMAGE and SCHEDULE",
         )?)),
     }
 }

@@ -4,7 +4,7 @@
 //! A contract says only that an explanation is written to the standard error. Each of its lines begins with two spaces.
 ghost use Rattle.pv_cli_line.specs.Messages.{WritesMore};
 
-use pv_cli_commands::{Command, Fault, Files, RunInput, ScheduleInput, TreeInput};
+use pv_cli_commands::{Command, Fault, Files, RunInput, ScheduleInput, TextInput, TreeInput};
 use pv_host_copy::{ExportFault, ImportStop};
 use pv_model::{ImageFault, ListFault, ManifestFault, MigrateFault, RunFault};
 use pv_questions::AskStop;
@@ -34,7 +34,7 @@ enum Cause {
     Schedule(u32),
     // An image, a path or a process.
     Image,
-    // Memory, or lines that are already reported.
+    // Memory, or an error that is already reported.
     Nothing,
 }
 
@@ -83,6 +83,7 @@ fn cause_of(fault: Fault) -> Cause {
         | Fault::Migrating(
             MigrateStop::Refused(MigrateFault::Memory | MigrateFault::Image(ImageFault::Memory)),
         )
+        | Fault::Asking(AskStop::Incomplete)
         | Fault::Source(SourceStop::Memory | SourceStop::Refused)
         | Fault::Importing(ImportStop::Memory | ImportStop::Refused | ImportStop::WriteLines)
         | Fault::Exporting(
@@ -108,6 +109,8 @@ struct Names<'a> {
     first: &'a str,
     // Whether that file is a text.
     is_text: bool,
+    // Whether that text is a source, which is translated first.
+    is_source: bool,
     // Whether `-` means the standard input.
     has_input: bool,
     // The file of the schedule.
@@ -117,12 +120,17 @@ struct Names<'a> {
 }
 
 // Returns the files of a command that reads a text, possibly from the standard input.
-fn text_named(first: &str) -> Names<'_> {
+fn text_named<'a>(text: TextInput<'a>, schedule: Option<&'a str>) -> Names<'a> {
+    let (first, is_source) = match text {
+        TextInput::Plain(name) => (name, false),
+        TextInput::Source(name) => (name, true),
+    };
     Names {
         first,
         is_text: true,
+        is_source,
         has_input: true,
-        schedule: None,
+        schedule,
         out: None,
     }
 }
@@ -132,6 +140,7 @@ fn image_named<'a>(first: &'a str, schedule: Option<&'a str>, out: Option<&'a st
     Names {
         first,
         is_text: false,
+        is_source: false,
         has_input: false,
         schedule,
         out,
@@ -142,14 +151,8 @@ fn image_named<'a>(first: &'a str, schedule: Option<&'a str>, out: Option<&'a st
 fn run_named(run: RunInput<'_>) -> Names<'_> {
     match run {
         RunInput::Image { image, schedule } => image_named(image, file_of(schedule), None),
-        RunInput::Bundle(name) => text_named(name),
-        RunInput::Manifest { manifest, schedule } => Names {
-            first: manifest,
-            is_text: true,
-            has_input: true,
-            schedule: file_of(schedule),
-            out: None,
-        },
+        RunInput::Bundle(bundle) => text_named(bundle, None),
+        RunInput::Manifest { manifest, schedule } => text_named(manifest, file_of(schedule)),
     }
 }
 
@@ -164,18 +167,18 @@ fn file_of(schedule: ScheduleInput<'_>) -> Option<&str> {
 // Returns the files of a command.
 fn names_of(command: Command<'_>) -> Names<'_> {
     match command {
-        Command::RunTree(name)
-        | Command::WriteSource(name)
-        | Command::AskTree {
-            tree: TreeInput::Manifest(name),
+        Command::RunTree(name) | Command::WriteSource { source: name, .. } => text_named(
+            TextInput::Plain(name),
+            None,
+        ),
+        Command::AskTree {
+            tree: TreeInput::Manifest(manifest),
             ..
-        } => text_named(name),
+        } => text_named(manifest, None),
         Command::MakeImage { manifest, image } => Names {
-            first: manifest,
-            is_text: true,
             has_input: false,
-            schedule: None,
             out: Some(image),
+            ..text_named(TextInput::Plain(manifest), None)
         },
         Command::ListImage(image)
         | Command::AskTree {
@@ -339,6 +342,10 @@ fn push_text<F: Files>(
     };
     if !names.is_text {
         return push_line(out, name);
+    }
+    if names.is_source && named.is_some() {
+        let wanted = "expected the line 'schedule' and a schedule below it";
+        return push_line(out, format!(in alloc; "{name}: {wanted}")?.as_str());
     }
     match bytes_of(alloc, files, name) {
         Some(bytes) => push_faults(alloc, out, name, &bytes, named),

@@ -38,7 +38,7 @@ fn parser_status(kind: ErrorKind) -> u8
 
 impl Fault {
     /// Returns the exit status: 1 for invalid input, 2 for an error in the command line, 3 for out of memory, 4 for a
-    /// failed read or write, and 0 if help or the version was requested.
+    /// failed read or write, 5 for a search that left a state out, and 0 if help or the version was requested.
     pub fn status(&self) -> u8
         ensures { result ≡ status_of self.now }
     {

@@ -1,14 +1,14 @@
 //! The command in the matches of the parser.
 ghost use Rattle.std.specs.Prelude.{◌≡◌, ◌⊎◌, ℕ, List, codes, Option, None, Some, IfSome};
 ghost use Rattle.clap.specs.Words.{subcommand_rows_of};
-ghost use Rattle.pv_cli_line.specs.Line.{HasTexts, IsCommandIn, IsCommandOf, IsFoundIn, IsMigrationOf, IsPlain, IsQuestionIn, IsRunIn, IsTracedIn, IsTreeIn, IsValidRunIn, IsValidTreeIn, IsWithoutNumbers, entered_text, question_name, size_in};
+ghost use Rattle.pv_cli_line.specs.Line.{HasTexts, IsCommandIn, IsCommandOf, IsFoundIn, IsMigrationOf, IsPlain, IsQuestionIn, IsRunIn, IsTracedIn, IsTracedTextIn, IsTreeIn, IsValidRunIn, IsValidTreeIn, IsWithoutNumbers, entered_text, output_entered, question_name, size_in};
 
 use crate::texts::{
     RunTexts, TreeTexts, count_of, is_flag_given, run_in, run_texts_in, size_of, states_of,
     text_of, tree_in, tree_texts_in, version_of,
 };
 use clap::ArgMatches;
-use pv_cli_commands::{Command, RunInput, ScheduleInput, TreeInput};
+use pv_cli_commands::{Command, Output, RunInput, ScheduleInput, TextInput, TreeInput};
 use pv_questions::{Question, RunQuestion, TreeQuestion};
 
 // Returns the `mkimg` command, if the matches are of it.
@@ -113,21 +113,23 @@ fn name_of(question: Question<'_>) -> &'static str
         Question::Trace => "run-tree",
         Question::State => "state",
         Question::Reach(_) => "reach",
-        Question::Explain => "explain",
+        Question::Explain { .. } => "explain",
         Question::Needs { .. } => "needs",
         Question::Audit(_) => "audit",
     }
 }
 
-// Returns the command of the trace of a whole run. That of a bundle is a command of its own.
+// Returns the command of the trace of a whole run. That of a bundle that is no source is a command of its own.
 fn whole_trace<'a>(question: RunQuestion<'a>, run: RunInput<'a>) -> Command<'a>
     requires trace { question.question ≡ Question.Trace }
     requires whole { question.steps ≡ None }
     ensures { IsCommandOf question.entry run.entry result }
 {
     match run {
-        RunInput::Bundle(file) => Command::RunTree(file),
-        RunInput::Image { .. } | RunInput::Manifest { .. } => Command::Ask { question, run },
+        RunInput::Bundle(TextInput::Plain(file)) => Command::RunTree(file),
+        RunInput::Bundle(TextInput::Source(_))
+        | RunInput::Image { .. }
+        | RunInput::Manifest { .. } => Command::Ask { question, run },
     }
 }
 
@@ -168,8 +170,10 @@ fn command_of_question<'a>(question: RunQuestion<'a>, run: RunInput<'a>) -> Comm
         None => match question.question {
             Question::Trace => whole_trace(question, run),
             Question::Audit(path) => whole_audit(question, path, run),
-            Question::State | Question::Reach(_) | Question::Explain | Question::Needs { .. } =>
-                Command::Ask { question, run },
+            Question::State
+            | Question::Reach(_)
+            | Question::Explain { .. }
+            | Question::Needs { .. } => Command::Ask { question, run },
         },
     }
 }
@@ -216,12 +220,25 @@ fn audit_in<'a>(matches: &ArgMatches<'a>) -> Option<Parsed<'a>>
     Some(with_steps(matches, Question::Audit(path), run))
 }
 
+// Returns the file of `run-tree`, if the matches are of it.
+fn traced_text_in<'a>(matches: &ArgMatches<'a>) -> Option<TextInput<'a>>
+    ensures found { IfSome result (IsTracedTextIn (subcommand_rows_of matches.now)) }
+    ensures none { result ≡ None → (text : TextInput) → IsTracedTextIn (subcommand_rows_of matches.now) text → ⊥ }
+{
+    let file = text_of(matches, "run-tree", "FILE")?;
+    if is_flag_given(matches, "run-tree", "source") {
+        Some(TextInput::Source(file))
+    } else {
+        Some(TextInput::Plain(file))
+    }
+}
+
 // Returns the input of `run-tree`, if the matches are of it.
 fn traced_in<'a>(matches: &ArgMatches<'a>) -> Option<RunInput<'a>>
     ensures found { IfSome result (IsTracedIn (subcommand_rows_of matches.now)) }
     ensures none { result ≡ None → (run : RunInput) → IsTracedIn (subcommand_rows_of matches.now) run → ⊥ }
 {
-    let manifest = text_of(matches, "run-tree", "FILE")?;
+    let manifest = traced_text_in(matches)?;
     let Some(turns) = text_of(matches, "run-tree", "by") else {
         return Some(RunInput::Bundle(manifest));
     };
@@ -242,6 +259,16 @@ fn needs_in<'a>(matches: &ArgMatches<'a>) -> Option<Parsed<'a>>
     Some(with_steps(matches, question, run))
 }
 
+// Returns the `explain` command, if the matches are of it.
+fn explain_in<'a>(matches: &ArgMatches<'a>) -> Option<Parsed<'a>>
+    ensures found { IfSome result (IsFoundIn (subcommand_rows_of matches.now)) }
+    ensures none { result ≡ None → (run : RunInput) → IsValidRunIn (subcommand_rows_of matches.now) (codes "explain") run → ⊥ }
+{
+    let run = run_in(matches, "explain")?;
+    let errors = is_flag_given(matches, "explain", "errors");
+    Some(with_steps(matches, Question::Explain { errors }, run))
+}
+
 // Returns the command of a question about a run, if the matches are of one.
 #[tactic(auto, using(crate::proofs::QuestionLemmas::no_question))]
 fn question_in<'a>(matches: &ArgMatches<'a>) -> Option<Parsed<'a>>
@@ -254,8 +281,8 @@ fn question_in<'a>(matches: &ArgMatches<'a>) -> Option<Parsed<'a>>
     if let Some(run) = run_in(matches, "state") {
         return Some(with_steps(matches, Question::State, run));
     }
-    if let Some(run) = run_in(matches, "explain") {
-        return Some(with_steps(matches, Question::Explain, run));
+    if let Some(found) = explain_in(matches) {
+        return Some(found);
     }
     if let Some(found) = needs_in(matches) {
         return Some(found);
@@ -326,6 +353,21 @@ fn explore_in<'a>(matches: &ArgMatches<'a>) -> Option<Parsed<'a>>
     }))
 }
 
+// Returns the `access` command, if the matches are of it.
+fn access_in<'a>(matches: &ArgMatches<'a>) -> Option<Parsed<'a>>
+    ensures found { IfSome result (IsFoundIn (subcommand_rows_of matches.now)) }
+    ensures none { result ≡ None → (tree : TreeInput) → IsValidTreeIn (subcommand_rows_of matches.now) (codes "access") tree → ⊥ }
+{
+    let tree = tree_in(matches, "access")?;
+    let Some(states) = states_of(text_of(matches, "access", "states")) else {
+        return Some(Parsed::Number);
+    };
+    Some(Parsed::Command(Command::AskTree {
+        question: TreeQuestion::Access { states },
+        tree,
+    }))
+}
+
 // Returns the `graph` command, if the matches are of it.
 fn graph_in<'a>(matches: &ArgMatches<'a>) -> Option<Parsed<'a>>
     ensures found { IfSome result (IsFoundIn (subcommand_rows_of matches.now)) }
@@ -342,6 +384,17 @@ fn graph_in<'a>(matches: &ArgMatches<'a>) -> Option<Parsed<'a>>
     }))
 }
 
+// Returns the output of `source`.
+fn output_in(matches: &ArgMatches<'_>) -> Output
+    ensures { result ≡ output_entered (subcommand_rows_of matches.now) }
+{
+    if is_flag_given(matches, "source", "lines") {
+        Output::ProgramLines
+    } else {
+        Output::Translation
+    }
+}
+
 // Returns the plain command in the matches, if there is one.
 #[tactic(auto, using(crate::proofs::LineLemmas::no_plain_command))]
 fn plain_command_in<'a>(matches: &ArgMatches<'a>) -> Option<Command<'a>>
@@ -349,7 +402,10 @@ fn plain_command_in<'a>(matches: &ArgMatches<'a>) -> Option<Command<'a>>
     ensures none { result ≡ None → (command : Command) → IsPlain command → IsCommandIn (subcommand_rows_of matches.now) command → ⊥ }
 {
     if let Some(file) = text_of(matches, "source", "FILE") {
-        return Some(Command::WriteSource(file));
+        return Some(Command::WriteSource {
+            source: file,
+            kind: output_in(matches),
+        });
     }
     if let Some(command) = make_image_in(matches) {
         return Some(command);
@@ -427,6 +483,9 @@ pub(crate) fn found_in<'a>(matches: &ArgMatches<'a>) -> Option<Parsed<'a>>
         return Some(found);
     }
     if let Some(found) = explore_in(matches) {
+        return Some(found);
+    }
+    if let Some(found) = access_in(matches) {
         return Some(found);
     }
     if let Some(found) = graph_in(matches) {

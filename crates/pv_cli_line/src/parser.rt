@@ -52,10 +52,18 @@ const BUNDLE: Argument = Named {
     help: "a bundle in place of IMAGE and SCHEDULE; '-' is standard input",
 };
 
-// An image, which is omitted if a bundle is given.
+// The option that names a source, in place of an image and a schedule.
+const SOURCE: Argument = Named {
+    name: "source",
+    short: Some('s'),
+    value: "FILE",
+    help: "a source in place of IMAGE and SCHEDULE: 'pvsim source' translates it to a bundle; '-' is standard input",
+};
+
+// An image, which is omitted if a bundle or a source is given.
 const IMAGE: Argument = Optional("IMAGE", "the image");
 
-// A schedule. It is omitted if turns are given, and may be omitted if a bundle is given.
+// A schedule. It is omitted if turns are given, and may be omitted if a bundle or a source is given.
 const SCHEDULE: Argument = Optional("SCHEDULE", "the schedule: the turns of the processes");
 
 // The turns of a run, in place of a schedule.
@@ -79,7 +87,7 @@ const STATES: Argument = Named {
     name: "states",
     short: None,
     value: "N",
-    help: "the maximum number of states: 1 to 4294967295 (default 1000000)",
+    help: "the maximum number of states: 1 to 4294967295 (default 1000000); the exit status is 5 if a state is left out",
 };
 
 // The commands, in the order in which the help lists them.
@@ -88,6 +96,11 @@ const COMMANDS: &[CommandRow] = &[
         name: "run-tree",
         about: "Run a bundle and write its trace",
         arguments: &[
+            Flag {
+                name: "source",
+                short: Some('s'),
+                help: "FILE is a source, which 'pvsim source' translates to a bundle",
+            },
             Required(
                 "FILE",
                 "a bundle: a manifest, the line 'schedule' and a schedule; '-' is standard input",
@@ -99,10 +112,17 @@ const COMMANDS: &[CommandRow] = &[
     CommandRow {
         name: "source",
         about: "Convert a source to a manifest or bundle, or report its errors",
-        arguments: &[Required(
-            "FILE",
-            "a source: a manifest or bundle with comments, labels and extra blanks; '-' is standard input",
-        )],
+        arguments: &[
+            Required(
+                "FILE",
+                "a source: a manifest or bundle with comments, labels and extra blanks; '-' is standard input",
+            ),
+            Flag {
+                name: "lines",
+                short: None,
+                help: "write a line for each instruction instead: its line in the source, its program and its line there",
+            },
+        ],
     },
     CommandRow {
         name: "mkimg",
@@ -118,7 +138,7 @@ const COMMANDS: &[CommandRow] = &[
     CommandRow {
         name: "ls",
         about: "List the tree of an image",
-        arguments: &[BUNDLE, IMAGE],
+        arguments: &[BUNDLE, SOURCE, IMAGE],
     },
     CommandRow {
         name: "run",
@@ -134,6 +154,7 @@ const COMMANDS: &[CommandRow] = &[
         about: "Run an image under a schedule, and report which files are sealed",
         arguments: &[
             BUNDLE,
+            SOURCE,
             BY,
             FIRST,
             IMAGE,
@@ -144,13 +165,14 @@ const COMMANDS: &[CommandRow] = &[
     CommandRow {
         name: "state",
         about: "Run an image under a schedule, and print the state of each process",
-        arguments: &[BUNDLE, BY, FIRST, IMAGE, SCHEDULE],
+        arguments: &[BUNDLE, SOURCE, BY, FIRST, IMAGE, SCHEDULE],
     },
     CommandRow {
         name: "reach",
         about: "Run an image under a schedule, and print the operations that each process may perform at each place",
         arguments: &[
             BUNDLE,
+            SOURCE,
             BY,
             FIRST,
             IMAGE,
@@ -161,13 +183,26 @@ const COMMANDS: &[CommandRow] = &[
     CommandRow {
         name: "explain",
         about: "Run an image under a schedule, and write the trace with the reason for each result",
-        arguments: &[BUNDLE, BY, FIRST, IMAGE, SCHEDULE],
+        arguments: &[
+            BUNDLE,
+            SOURCE,
+            BY,
+            FIRST,
+            IMAGE,
+            SCHEDULE,
+            Flag {
+                name: "errors",
+                short: None,
+                help: "also say why each call failed that neither a promise nor an unveil table refused",
+            },
+        ],
     },
     CommandRow {
         name: "needs",
         about: "Run an image under a schedule, and print the promises and paths that each program used",
         arguments: &[
             BUNDLE,
+            SOURCE,
             BY,
             FIRST,
             IMAGE,
@@ -189,6 +224,7 @@ const COMMANDS: &[CommandRow] = &[
         about: "Write the contents of a file in an image",
         arguments: &[
             BUNDLE,
+            SOURCE,
             IMAGE,
             Optional("PATH", "the path of the file in the image"),
         ],
@@ -198,6 +234,7 @@ const COMMANDS: &[CommandRow] = &[
         about: "Write a schedule that runs the processes of an image in turn",
         arguments: &[
             BUNDLE,
+            SOURCE,
             IMAGE,
             Named {
                 name: "slice",
@@ -216,13 +253,19 @@ const COMMANDS: &[CommandRow] = &[
     CommandRow {
         name: "explore",
         about: "Print everything that can happen under any schedule of an image, each with a shortest schedule",
-        arguments: &[BUNDLE, IMAGE, STATES],
+        arguments: &[BUNDLE, SOURCE, IMAGE, STATES],
+    },
+    CommandRow {
+        name: "access",
+        about: "Print which process can access which file under any schedule, each with a shortest schedule",
+        arguments: &[BUNDLE, SOURCE, IMAGE, STATES],
     },
     CommandRow {
         name: "graph",
         about: "Write the states that an image can reach under any schedule, and the steps between them",
         arguments: &[
             BUNDLE,
+            SOURCE,
             IMAGE,
             STATES,
             Flag {

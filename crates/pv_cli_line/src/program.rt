@@ -87,7 +87,7 @@ fn report_words<S: AsStr, F: Drop, I: Drop, O: Sink + Drop, E: Sink + Drop>(
 /// a person, and returns the exit status.
 ///
 /// The status is 0 on success and after help or the version, 1 if the input is invalid, 2 for an error in the command
-/// line, 3 if there is no memory, and 4 if a read or a write fails. If the words have the flag `verbose`, an error is
+/// line, 3 if there is no memory, 4 if a read or a write fails, and 5 if a search left a state out. If the words have the flag `verbose`, an error is
 /// explained in lines that begin with two spaces. If the standard output had nothing buffered and the status is not 4,
 /// it has nothing buffered afterwards. A search of states reports to `progress`.
 pub fn run<

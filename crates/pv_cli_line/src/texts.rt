@@ -1,10 +1,10 @@
 //! The texts and numbers of a command in the parser's matches.
 ghost use Rattle.std.specs.Prelude.{◌≡◌, ℕ, List, codes, Option, None, Some, IfSome, option_map};
 ghost use Rattle.clap.specs.Words.{subcommand_rows_of};
-ghost use Rattle.pv_cli_line.specs.Line.{IsRunIn, IsScheduleOf, IsTreeIn, IsValidRunIn, IsValidTreeIn, count_in, entered_text, is_given, is_verbose_in, size_in, states_in, version_in};
+ghost use Rattle.pv_cli_line.specs.Line.{IsGivenIn, IsRunIn, IsScheduleOf, IsTextIn, IsTextless, IsTreeIn, IsValidRunIn, IsValidTreeIn, count_in, entered_text, is_given, is_verbose_in, size_in, states_in, version_in};
 
 use clap::ArgMatches;
-use pv_cli_commands::{RunInput, ScheduleInput, TreeInput};
+use pv_cli_commands::{RunInput, ScheduleInput, TextInput, TreeInput};
 use pv_model::Version;
 use pv_text::words::decimal;
 
@@ -102,6 +102,33 @@ pub(crate) fn is_flag_given(matches: &ArgMatches<'_>, command: &str, flag: &str)
     }
 }
 
+// The manifests and bundles that are given in place of an image.
+#[derive(Clone, Copy)]
+pub(crate) enum Given<'a> {
+    // None.
+    Nothing,
+    // One.
+    One(TextInput<'a>),
+    // A bundle and a source.
+    Both,
+}
+
+// Returns the manifests and bundles that are given, if the matches are of the given command.
+#[tactic(auto, using(crate::proofs::LineLemmas::text_none, crate::proofs::LineLemmas::text_both))]
+fn given_in<'a>(matches: &ArgMatches<'a>, command: &str) -> Given<'a>
+    ensures { IsGivenIn (subcommand_rows_of matches.now) command.now result }
+{
+    match (
+        text_of(matches, command, "bundle"),
+        text_of(matches, command, "source"),
+    ) {
+        (None, None) => Given::Nothing,
+        (Some(file), None) => Given::One(TextInput::Plain(file)),
+        (None, Some(file)) => Given::One(TextInput::Source(file)),
+        (Some(_), Some(_)) => Given::Both,
+    }
+}
+
 // The input of a run, and the argument after it.
 #[derive(Clone, Copy)]
 pub(crate) struct RunTexts<'a> {
@@ -111,7 +138,8 @@ pub(crate) struct RunTexts<'a> {
 
 // Returns the image with its schedule and the argument after them, if the matches are of the given command.
 fn image_texts_in<'a>(matches: &ArgMatches<'a>, command: &str, last: &str) -> Option<RunTexts<'a>>
-    requires { entered_text (subcommand_rows_of matches.now) command.now (codes "bundle") ≡ None }
+    requires none { IsTextless (subcommand_rows_of matches.now) command.now }
+    requires text { (text : TextInput) → IsTextIn (subcommand_rows_of matches.now) command.now text → ⊥ }
     ensures found { IfSome result (λ texts. IsRunIn (subcommand_rows_of matches.now) command.now last.now texts.run (option_map (λ text. text.now) texts.further)) }
     ensures none { result ≡ None → (run : RunInput) (further : Option (List ℕ)) → IsRunIn (subcommand_rows_of matches.now) command.now last.now run further → ⊥ }
 {
@@ -141,9 +169,10 @@ fn bundle_texts_in<'a>(
     matches: &ArgMatches<'a>,
     command: &str,
     last: &str,
-    manifest: &'a str,
+    manifest: TextInput<'a>,
 ) -> Option<RunTexts<'a>>
-    requires { entered_text (subcommand_rows_of matches.now) command.now (codes "bundle") ≡ Some manifest.now }
+    requires text { IsTextIn (subcommand_rows_of matches.now) command.now manifest }
+    requires some { IsTextless (subcommand_rows_of matches.now) command.now → ⊥ }
     ensures found { IfSome result (λ texts. IsRunIn (subcommand_rows_of matches.now) command.now last.now texts.run (option_map (λ text. text.now) texts.further)) }
     ensures none { result ≡ None → (run : RunInput) (further : Option (List ℕ)) → IsRunIn (subcommand_rows_of matches.now) command.now last.now run further → ⊥ }
 {
@@ -185,9 +214,10 @@ pub(crate) fn run_texts_in<'a>(
     ensures found { IfSome result (λ texts. IsRunIn (subcommand_rows_of matches.now) command.now last.now texts.run (option_map (λ text. text.now) texts.further)) }
     ensures none { result ≡ None → (run : RunInput) (further : Option (List ℕ)) → IsRunIn (subcommand_rows_of matches.now) command.now last.now run further → ⊥ }
 {
-    match text_of(matches, command, "bundle") {
-        Some(manifest) => bundle_texts_in(matches, command, last, manifest),
-        None => image_texts_in(matches, command, last),
+    match given_in(matches, command) {
+        Given::Nothing => image_texts_in(matches, command, last),
+        Given::One(manifest) => bundle_texts_in(matches, command, last, manifest),
+        Given::Both => None,
     }
 }
 
@@ -196,17 +226,43 @@ pub(crate) fn run_in<'a>(matches: &ArgMatches<'a>, command: &str) -> Option<RunI
     ensures found { IfSome result (λ run. IsValidRunIn (subcommand_rows_of matches.now) command.now run) }
     ensures none { result ≡ None → (run : RunInput) → IsValidRunIn (subcommand_rows_of matches.now) command.now run → ⊥ }
 {
+    match given_in(matches, command) {
+        Given::Nothing => image_run_in(matches, command),
+        Given::One(manifest) => bundle_run_in(matches, command, manifest),
+        Given::Both => None,
+    }
+}
+
+// Returns the image with its schedule of a command without a further argument, if the matches are of that command.
+fn image_run_in<'a>(matches: &ArgMatches<'a>, command: &str) -> Option<RunInput<'a>>
+    requires none { IsTextless (subcommand_rows_of matches.now) command.now }
+    requires text { (text : TextInput) → IsTextIn (subcommand_rows_of matches.now) command.now text → ⊥ }
+    ensures found { IfSome result (λ run. IsValidRunIn (subcommand_rows_of matches.now) command.now run) }
+    ensures none { result ≡ None → (run : RunInput) → IsValidRunIn (subcommand_rows_of matches.now) command.now run → ⊥ }
+{
+    let image = text_of(matches, command, "IMAGE")?;
+    let schedule = one_schedule(
+        text_of(matches, command, "SCHEDULE"),
+        text_of(matches, command, "by"),
+    )?;
+    Some(RunInput::Image { image, schedule })
+}
+
+// Returns the bundle, or the manifest with its schedule, of a command without a further argument, if the matches are of
+// that command.
+fn bundle_run_in<'a>(
+    matches: &ArgMatches<'a>,
+    command: &str,
+    manifest: TextInput<'a>,
+) -> Option<RunInput<'a>>
+    requires text { IsTextIn (subcommand_rows_of matches.now) command.now manifest }
+    requires some { IsTextless (subcommand_rows_of matches.now) command.now → ⊥ }
+    ensures found { IfSome result (λ run. IsValidRunIn (subcommand_rows_of matches.now) command.now run) }
+    ensures none { result ≡ None → (run : RunInput) → IsValidRunIn (subcommand_rows_of matches.now) command.now run → ⊥ }
+{
     let turns = text_of(matches, command, "by");
     let first = text_of(matches, command, "IMAGE");
-    let second = text_of(matches, command, "SCHEDULE");
-    let Some(manifest) = text_of(matches, command, "bundle") else {
-        let schedule = one_schedule(second, turns)?;
-        return Some(RunInput::Image {
-            image: first?,
-            schedule,
-        });
-    };
-    if second.is_some() {
+    if text_of(matches, command, "SCHEDULE").is_some() {
         return None;
     }
     if first.is_none() && turns.is_none() {
@@ -245,21 +301,20 @@ pub(crate) fn tree_texts_in<'a>(
     ensures found { IfSome result (λ texts. IsTreeIn (subcommand_rows_of matches.now) command.now last.now texts.tree (option_map (λ text. text.now) texts.further)) }
     ensures none { result ≡ None → (tree : TreeInput) (further : Option (List ℕ)) → IsTreeIn (subcommand_rows_of matches.now) command.now last.now tree further → ⊥ }
 {
+    let first = text_of(matches, command, "IMAGE");
     let further = text_of(matches, command, last);
-    if let Some(bundle) = text_of(matches, command, "bundle") {
-        if further.is_some() {
-            return None;
-        }
-        return Some(TreeTexts {
-            tree: TreeInput::Manifest(bundle),
-            further: text_of(matches, command, "IMAGE"),
-        });
+    match given_in(matches, command) {
+        Given::Nothing => Some(TreeTexts {
+            tree: TreeInput::Image(first?),
+            further,
+        }),
+        Given::One(_) if further.is_some() => None,
+        Given::One(manifest) => Some(TreeTexts {
+            tree: TreeInput::Manifest(manifest),
+            further: first,
+        }),
+        Given::Both => None,
     }
-    let image = text_of(matches, command, "IMAGE")?;
-    Some(TreeTexts {
-        tree: TreeInput::Image(image),
-        further,
-    })
 }
 
 // Returns the input that has a tree, if the matches are of the given command, which has no further argument.

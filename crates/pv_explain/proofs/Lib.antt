@@ -3,11 +3,13 @@
 --   a step), Following (the records after a call)
 -- - Unveiled (the target of an unveil), Sizes (the number of bytes of a call), Fit (the data of a step can be written),
 --   MadeLines (its lines are those of the definitions)
+-- - UnknownWords (of pledge), ErrorLines (the reason of an error in both states), TrueReasons, WorkedErrors
 -- - Asked (pledge), Sources (origins in words), Remarks, MovedLines and StatusBytes (parts of lines), CallLines (the
 --   bytes of a call's lines), Climbing (the lines of levels, one at a time), Made (one step), Steps (several steps)
 pub mod Asked
 pub mod CallLines
 pub mod Climbing
+pub mod ErrorLines
 pub mod Fit
 pub mod Following
 pub mod ProcessOrigins
@@ -20,4 +22,7 @@ pub mod Remarks
 pub mod Sources
 pub mod StatusBytes
 pub mod Steps
+pub mod TrueReasons
+pub mod UnknownWords
+pub mod WorkedErrors
 pub mod Unveiled

@@ -1,5 +1,5 @@
 -- A step, as in the definitions: its number and line, and the records after it.
-use Rattle.std.proofs.Common.{◌≡◌, ◌∙◌, ℕ, List, ◌++◌, Some, ap, sym, subst}
+use Rattle.std.proofs.Common.{◌≡◌, ◌∙◌, ℕ, Bool, List, ◌++◌, Some, ap, ap₂, sym, subst}
 use Rattle.std.specs.Prelude.{codes}
 use Rattle.std.specs.Fmt.{decimal}
 use Rattle.pv_model.specs.Answer.{Answered}
@@ -19,9 +19,10 @@ use Rattle.pv_explain.specs.declared.making.MadeCall.{MadeCall}
 use Rattle.pv_explain.specs.declared.making.MadeStep.{MadeStep}
 use Rattle.pv_explain.specs.declared.making.MadeStep.TheVariants.{Gone, Register, Call as CallMade}
 use Rattle.pv_explain.specs.Keeping.{entry_at, reported_settings}
-use Rattle.pv_explain.specs.Made.{IsMadeCall, IsMade, line_of, made_lines, settings_made}
+use Rattle.pv_explain.specs.Made.{IsMadeCall, IsMade, error_of_step, line_of, made_lines, settings_made}
 use Rattle.pv_explain.specs.Parts.{location_text, step_text}
 use Rattle.pv_explain.specs.Steps.{step_lines}
+use Rattle.pv_explain.proofs.ErrorLines.{error-is}
 use Rattle.pv_explain.proofs.Following.{reported-is, next-gone, next-inside, next-called}
 use Rattle.pv_explain.proofs.MadeLines.{made-is}
 
@@ -35,12 +36,15 @@ module _ (s : State) (pid : ℕ) (made : MadeStep) (after : State) (is : IsMade 
   line-is k = ap (λ (bs : Bytes). answer_line pid (codes "STEP") (decimal k ++ bs)) (appeared s pid made after is)
 
   -- the STEP line, and then the lines of the step
-  pub step-text : (k : ℕ) (all : Settings) (mine : List Setting) → mine ≡ settings_of all pid
-      → answer_line_bytes (answer_line pid (codes "STEP") (step_text k (line_of made))) ++ answer_bytes (made_lines pid mine made after) ≡ answer_bytes (step_lines k all s pid)
-  step-text k all mine same =
-      ap (λ (l : AnswerLine). answer_line_bytes l ++ answer_bytes (made_lines pid mine made after)) (line-is k)
-      ∙ ap (λ (own : List Setting). answer_line_bytes (step_line program_of k s pid) ++ answer_bytes (made_lines pid own made after)) same
-      ∙ ap (λ (ls : List AnswerLine). answer_line_bytes (step_line program_of k s pid) ++ answer_bytes ls) (made-is s pid (settings_of all pid) made after is)
+  pub step-text : (errors : Bool) (k : ℕ) (all : Settings) (mine : List Setting) → mine ≡ settings_of all pid
+      → answer_line_bytes (answer_line pid (codes "STEP") (step_text k (line_of made))) ++ answer_bytes (made_lines pid mine made after ++ error_of_step errors pid made after)
+      ≡ answer_bytes (step_lines errors k all s pid)
+  step-text errors k all mine same =
+      let error : List AnswerLine = error_of_step errors pid made after in
+      ap (λ (l : AnswerLine). answer_line_bytes l ++ answer_bytes (made_lines pid mine made after ++ error)) (line-is k)
+      ∙ ap (λ (own : List Setting). answer_line_bytes (step_line program_of k s pid) ++ answer_bytes (made_lines pid own made after ++ error)) same
+      ∙ ap₂ (λ (ls others : List AnswerLine). answer_line_bytes (step_line program_of k s pid) ++ answer_bytes (ls ++ others)) (made-is s pid (settings_of all pid) made after is)
+      (error-is errors s pid made after is)
 
 pub left-by : (s : State) (pid : ℕ) (made : MadeStep) (after : State) → IsMade s pid made after → after ≡ (step program_of s pid).after
 left-by s pid Gone after is = is.1 ∙ sym (ap (λ (w : Stepped). w.after) (step-gone program_of s pid is.0))

@@ -1,5 +1,5 @@
 -- The lines of several steps, with one more step or one more turn.
-use Rattle.std.proofs.Common.{◌≡◌, ◌<◌, ◌≤◌, ◌+◌, ◌-◌, ◌∙◌, ℕ, zero, suc, List, [], ◌∷◌, ◌++◌, length, take, drop, get_or, Option, None, Some, refl, ap, ap₂, sym, subst, append_assoc, arith}
+use Rattle.std.proofs.Common.{◌≡◌, ◌<◌, ◌≤◌, ◌+◌, ◌-◌, ◌∙◌, ℕ, zero, suc, Bool, true, false, List, [], ◌∷◌, ◌++◌, length, take, drop, get_or, Option, None, Some, refl, ap, ap₂, sym, subst, append_assoc, arith}
 use Rattle.std.specs.Prelude.{replicate}
 use Rattle.std.proofs.lemmas.Grind.{flat_map-append}
 use Rattle.std.proofs.lemmas.List.{take-append-drop, append-nil, length-replicate, replicate-append-replicate}
@@ -22,235 +22,254 @@ use Rattle.pv_session.specs.Stopping.{NextLoads}
 use Rattle.pv_session.proofs.Turns.{replicate_more, steps_more}
 use Rattle.pv_streams.specs.Sinks.{and_all, WritesPrefix}
 use Rattle.pv_streams.proofs.Reporting.{written_both, written_none, begins_first, begins_then}
+use Rattle.pv_explain.specs.Errors.{added_by, explain_adding, explained_lines, explain_with_errors_lines, no_lines}
 use Rattle.pv_explain.specs.Keeping.{Agree}
 use Rattle.pv_explain.specs.Steps.{step_lines, steps_lines, settings_through, StopsExplained}
 use Rattle.pv_explain.proofs.Following.{next-same}
 
--- ---- equal records of live processes give equal lines
+-- without lines of errors, the lines are those of the model
+explained-adding-none : (pids : List ℕ) (k : ℕ) (a : Settings) (s : State) → explain_adding no_lines k a pids s ≡ explain_from program_of k a pids s
+explained-adding-none [] k a s = refl
+explained-adding-none (x ∷ xs) k a s =
+    ap₂ (λ (ls others : List AnswerLine). (step_line program_of k s x ∷ ls) ++ others)
+    (append-nil (explained_step program_of (set_text program_of (settings_of a x)) s x))
+    (explained-adding-none xs (k + 1) (settings_next program_of s x a) (step program_of s x).after)
 
-module _ (s : State) (pid : ℕ) (a b : Settings) (same : Agree s a b) where
-  step-same : (k : ℕ) → step_lines k a s pid ≡ step_lines k b s pid
-  unfolding explained_step
-  step-same k = by (process_at s pid) refl
-    where
-      by : (o : Option Process) → process_at s pid ≡ o → step_lines k a s pid ≡ step_lines k b s pid
-      by None none =
-          ap (λ (ls : List AnswerLine). step_line program_of k s pid ∷ ls)
-          (ap (explained_of program_of (set_text program_of (settings_of a pid)) s pid) none ∙ sym (ap (explained_of program_of (set_text program_of (settings_of b pid)) s pid) none))
-      by (Some p) at = ap (λ mine. step_line program_of k s pid ∷ explained_step program_of (set_text program_of mine) s pid) (same pid (p, at))
-
-whole-after : (s : State) (pid : ℕ) → IsValid s → IsValid (step program_of s pid).after
-whole-after s pid whole = step-keeps_whole program_of program_of-encodes s pid whole
-
-steps-same : (pids : List ℕ) (k : ℕ) (s : State) (a b : Settings) → IsValid s → Agree s a b → steps_lines k a pids s ≡ steps_lines k b pids s
-steps-same [] k s a b whole same = refl
-steps-same (pid ∷ pids) k s a b whole same =
-    ap₂ (λ (xs ys : List AnswerLine). xs ++ ys) (step-same s pid a b same k)
-    (steps-same pids (k + 1) (step program_of s pid).after (settings_next program_of s pid a) (settings_next program_of s pid b) (whole-after s pid whole) (next-same s pid a b (whole-in_order s whole) same))
-
-through-same : (pids : List ℕ) (s : State) (a b : Settings) → IsValid s → Agree s a b → Agree (run program_of pids s).final (settings_through a pids s) (settings_through b pids s)
-through-same [] s a b whole same = same
-through-same (pid ∷ pids) s a b whole same =
-    through-same pids (step program_of s pid).after (settings_next program_of s pid a) (settings_next program_of s pid b) (whole-after s pid whole) (next-same s pid a b (whole-in_order s whole) same)
-
--- ---- some steps, followed by others
-
-steps-append : (xs ys : List ℕ) (k : ℕ) (a : Settings) (s : State)
-    → steps_lines k a (xs ++ ys) s ≡ steps_lines k a xs s ++ steps_lines (k + length xs) (settings_through a xs s) ys (run program_of xs s).final
-steps-append [] ys k a s = let same : k ≡ k + 0 = omega arith in ap (λ n. steps_lines n a ys s) same
-steps-append (x ∷ xs) ys k a s =
-    let after : State = (step program_of s x).after in
-    let next : Settings = settings_next program_of s x a in
-    let same : k + 1 + length xs ≡ k + suc (length xs) = omega arith in
-    ap (λ (ls : List AnswerLine). step_lines k a s x ++ ls) (steps-append xs ys (k + 1) next after)
-    ∙ sym (append_assoc (step_lines k a s x) (steps_lines (k + 1) next xs after) _)
-    ∙ ap (λ n. (step_lines k a s x ++ steps_lines (k + 1) next xs after) ++ steps_lines n (settings_through next xs after) ys (run program_of xs after).final) same
-
-through-append : (xs ys : List ℕ) (a : Settings) (s : State) → settings_through a (xs ++ ys) s ≡ settings_through (settings_through a xs s) ys (run program_of xs s).final
-through-append [] ys a s = refl
-through-append (x ∷ xs) ys a s = through-append xs ys (settings_next program_of s x a) (step program_of s x).after
-
--- the lines of steps, followed by the locations of processes
-explain-is : (pids : List ℕ) (k : ℕ) (a : Settings) (s : State) → explain_from program_of k a pids s ≡ steps_lines k a pids s ++ locations (run program_of pids s).final
-explain-is [] k a s = refl
-explain-is (x ∷ xs) k a s =
-    ap (λ (ls : List AnswerLine). step_lines k a s x ++ ls) (explain-is xs (k + 1) (settings_next program_of s x a) (step program_of s x).after)
-    ∙ sym (append_assoc (step_lines k a s x) (steps_lines (k + 1) (settings_next program_of s x a) xs (step program_of s x).after) _)
-
-lines-is : (pids : List ℕ) (s : State) → explain_lines program_of pids s ≡ steps_lines 1 [] pids s ++ locations (run program_of pids s).final
+pub adds-nothing-else : (pids : List ℕ) (s : State) → explain_adding no_lines 1 [] pids s ≡ explain_lines program_of pids s
 unfolding explain_lines
-lines-is pids s = explain-is pids 1 [] s
+adds-nothing-else pids s = explained-adding-none pids 1 [] s
 
-answers-append : (xs ys : List AnswerLine) → answer_bytes (xs ++ ys) ≡ answer_bytes xs ++ answer_bytes ys
-answers-append xs ys = flat_map-append answer_line_bytes xs ys
+-- adding the lines of a choice gives its lines
+explained-adding : (errors : Bool) (pids : List ℕ) (s : State) → explain_adding (added_by errors) 1 [] pids s ≡ explained_lines errors pids s
+unfolding explain_with_errors_lines
+explained-adding true pids s = refl
+explained-adding false pids s = adds-nothing-else pids s
 
--- the text of an explained run
-pub lines-text : (pids : List ℕ) (s : State) → answer_bytes (steps_lines 1 [] pids s) ++ answer_bytes (locations (run program_of pids s).final) ≡ answer_bytes (explain_lines program_of pids s)
-lines-text pids s = sym (ap answer_bytes (lines-is pids s) ∙ answers-append (steps_lines 1 [] pids s) (locations (run program_of pids s).final))
+module _ (errors : Bool) where
+  -- ---- equal records of live processes give equal lines
 
--- ---- steps that were made, and steps after them
+  module _ (s : State) (pid : ℕ) (a b : Settings) (same : Agree s a b) where
+    step-same : (k : ℕ) → step_lines errors k a s pid ≡ step_lines errors k b s pid
+    unfolding explained_step
+    step-same k = by (process_at s pid) refl
+      where
+        by : (o : Option Process) → process_at s pid ≡ o → step_lines errors k a s pid ≡ step_lines errors k b s pid
+        by None none =
+            ap (λ (ls : List AnswerLine). step_line program_of k s pid ∷ ls ++ added_by errors s pid)
+            (ap (explained_of program_of (set_text program_of (settings_of a pid)) s pid) none ∙ sym (ap (explained_of program_of (set_text program_of (settings_of b pid)) s pid) none))
+        by (Some p) at = ap (λ mine. step_line program_of k s pid ∷ explained_step program_of (set_text program_of mine) s pid ++ added_by errors s pid) (same pid (p, at))
 
--- steps of these processes were made, their lines are written, and the records of live processes are those of the
--- definitions
-pub record IsMadeUpTo (k : ℕ) (a : Settings) (made : List ℕ) (s now : State) (preserved : Settings) (before after : Option Bytes) : Type 0 where
-  pub left : now ≡ (run program_of made s).final
-  pub as_written : after ≡ and_all before (answer_bytes (steps_lines k a made s))
-  pub keeps : Agree now preserved (settings_through a made s)
+  whole-after : (s : State) (pid : ℕ) → IsValid s → IsValid (step program_of s pid).after
+  whole-after s pid whole = step-keeps_whole program_of program_of-encodes s pid whole
 
-module _ (k : ℕ) (a : Settings) (made : List ℕ) (s now : State) (preserved : Settings) (before mid : Option Bytes) (first : IsMadeUpTo k a made s now preserved before mid) (whole : IsValid now) where
-  -- the lines of the following steps, from the records
-  following : (pids : List ℕ) → steps_lines (k + length made) preserved pids now ≡ steps_lines (k + length made) (settings_through a made s) pids (run program_of made s).final
-  following pids =
-      steps-same pids (k + length made) now preserved (settings_through a made s) whole first.keeps
-      ∙ ap (λ t. steps_lines (k + length made) (settings_through a made s) pids t) first.left
+  steps-same : (pids : List ℕ) (k : ℕ) (s : State) (a b : Settings) → IsValid s → Agree s a b → steps_lines errors k a pids s ≡ steps_lines errors k b pids s
+  steps-same [] k s a b whole same = refl
+  steps-same (pid ∷ pids) k s a b whole same =
+      ap₂ (λ (xs ys : List AnswerLine). xs ++ ys) (step-same s pid a b same k)
+      (steps-same pids (k + 1) (step program_of s pid).after (settings_next program_of s pid a) (settings_next program_of s pid b) (whole-after s pid whole) (next-same s pid a b (whole-in_order s whole) same))
 
-  both : (pids : List ℕ) → steps_lines k a made s ++ steps_lines (k + length made) preserved pids now ≡ steps_lines k a (made ++ pids) s
-  both pids = ap (λ (ls : List AnswerLine). steps_lines k a made s ++ ls) (following pids) ∙ sym (steps-append made pids k a s)
+  through-same : (pids : List ℕ) (s : State) (a b : Settings) → IsValid s → Agree s a b → Agree (run program_of pids s).final (settings_through a pids s) (settings_through b pids s)
+  through-same [] s a b whole same = same
+  through-same (pid ∷ pids) s a b whole same =
+      through-same pids (step program_of s pid).after (settings_next program_of s pid a) (settings_next program_of s pid b) (whole-after s pid whole) (next-same s pid a b (whole-in_order s whole) same)
 
-  text-both : (pids : List ℕ) → answer_bytes (steps_lines k a made s) ++ answer_bytes (steps_lines (k + length made) preserved pids now) ≡ answer_bytes (steps_lines k a (made ++ pids) s)
-  text-both pids = sym (answers-append (steps_lines k a made s) _) ∙ ap answer_bytes (both pids)
+  -- ---- some steps, followed by others
 
-  pub more-written : (pids : List ℕ) (after : Option Bytes) → after ≡ and_all mid (answer_bytes (steps_lines (k + length made) preserved pids now)) → after ≡ and_all before (answer_bytes (steps_lines k a (made ++ pids) s))
-  more-written pids after written = written_both (answer_bytes (steps_lines k a made s)) _ before mid after first.as_written written ∙ ap (and_all before) (text-both pids)
+  steps-append : (xs ys : List ℕ) (k : ℕ) (a : Settings) (s : State)
+      → steps_lines errors k a (xs ++ ys) s ≡ steps_lines errors k a xs s ++ steps_lines errors (k + length xs) (settings_through a xs s) ys (run program_of xs s).final
+  steps-append [] ys k a s = let same : k ≡ k + 0 = omega arith in ap (λ n. steps_lines errors n a ys s) same
+  steps-append (x ∷ xs) ys k a s =
+      let after : State = (step program_of s x).after in
+      let next : Settings = settings_next program_of s x a in
+      let same : k + 1 + length xs ≡ k + suc (length xs) = omega arith in
+      ap (λ (ls : List AnswerLine). step_lines errors k a s x ++ ls) (steps-append xs ys (k + 1) next after)
+      ∙ sym (append_assoc (step_lines errors k a s x) (steps_lines errors (k + 1) next xs after) _)
+      ∙ ap (λ n. (step_lines errors k a s x ++ steps_lines errors (k + 1) next xs after) ++ steps_lines errors n (settings_through next xs after) ys (run program_of xs after).final) same
 
-  -- a prefix of the following lines is a prefix of all lines
-  pub more-begun : (pids others : List ℕ) (after : Option Bytes) → WritesPrefix (answer_bytes (steps_lines (k + length made) preserved pids now)) mid after
-      → WritesPrefix (answer_bytes (steps_lines k a ((made ++ pids) ++ others) s)) before after
-  more-begun pids others after begun =
-      let through : WritesPrefix (answer_bytes (steps_lines k a (made ++ pids) s)) before after =
-      subst (λ (bs : Bytes). WritesPrefix bs before after) (text-both pids) (begins_then (answer_bytes (steps_lines k a made s)) _ before mid after first.as_written begun) in
-      subst (λ (bs : Bytes). WritesPrefix bs before after)
-      (sym (ap answer_bytes (steps-append (made ++ pids) others k a s) ∙ answers-append (steps_lines k a (made ++ pids) s) _))
-      (begins_first (answer_bytes (steps_lines k a (made ++ pids) s)) _ before after through)
+  through-append : (xs ys : List ℕ) (a : Settings) (s : State) → settings_through a (xs ++ ys) s ≡ settings_through (settings_through a xs s) ys (run program_of xs s).final
+  through-append [] ys a s = refl
+  through-append (x ∷ xs) ys a s = through-append xs ys (settings_next program_of s x a) (step program_of s x).after
 
-  -- all following steps were made
-  pub more-made : (pids : List ℕ) (new : State) (then_preserved : Settings) (after : Option Bytes) → new ≡ (run program_of pids now).final
-      → after ≡ and_all mid (answer_bytes (steps_lines (k + length made) preserved pids now)) → Agree new then_preserved (settings_through preserved pids now)
-      → IsMadeUpTo k a (made ++ pids) s new then_preserved before after
-  more-made pids new then_preserved after left written keeps = record {
-    left =
-        left ∙ ap (λ t. (run program_of pids t).final) first.left ∙ sym (ap (λ r. r.final) (run-append program_of made pids s));
-    as_written = more-written pids after written;
-    keeps = λ q lives.
-        keeps q lives
-        ∙ through-same pids now preserved (settings_through a made s) whole first.keeps q (subst (λ (t : State). Rattle.pv_explain.specs.Keeping.IsLive t q) left lives)
-        ∙ ap (λ (t : State). settings_of (settings_through (settings_through a made s) pids t) q) first.left
-        ∙ ap (λ all. settings_of all q) (sym (through-append made pids a s));
+  -- the lines of steps, followed by the locations of processes
+  explain-is : (pids : List ℕ) (k : ℕ) (a : Settings) (s : State) → explain_adding (added_by errors) k a pids s ≡ steps_lines errors k a pids s ++ locations (run program_of pids s).final
+  explain-is [] k a s = refl
+  explain-is (x ∷ xs) k a s =
+      ap (λ (ls : List AnswerLine). step_lines errors k a s x ++ ls) (explain-is xs (k + 1) (settings_next program_of s x a) (step program_of s x).after)
+      ∙ sym (append_assoc (step_lines errors k a s x) (steps_lines errors (k + 1) (settings_next program_of s x a) xs (step program_of s x).after) _)
+
+  lines-is : (pids : List ℕ) (s : State) → explained_lines errors pids s ≡ steps_lines errors 1 [] pids s ++ locations (run program_of pids s).final
+  lines-is pids s = sym (explained-adding errors pids s) ∙ explain-is pids 1 [] s
+
+  answers-append : (xs ys : List AnswerLine) → answer_bytes (xs ++ ys) ≡ answer_bytes xs ++ answer_bytes ys
+  answers-append xs ys = flat_map-append answer_line_bytes xs ys
+
+  -- the text of an explained run
+  pub lines-text : (pids : List ℕ) (s : State) → answer_bytes (steps_lines errors 1 [] pids s) ++ answer_bytes (locations (run program_of pids s).final) ≡ answer_bytes (explained_lines errors pids s)
+  lines-text pids s = sym (ap answer_bytes (lines-is pids s) ∙ answers-append (steps_lines errors 1 [] pids s) (locations (run program_of pids s).final))
+
+  -- ---- steps that were made, and steps after them
+
+  -- steps of these processes were made, their lines are written, and the records of live processes are those of the
+  -- definitions
+  pub record IsMadeUpTo (k : ℕ) (a : Settings) (made : List ℕ) (s now : State) (preserved : Settings) (before after : Option Bytes) : Type 0 where
+    pub left : now ≡ (run program_of made s).final
+    pub as_written : after ≡ and_all before (answer_bytes (steps_lines errors k a made s))
+    pub keeps : Agree now preserved (settings_through a made s)
+
+  module _ (k : ℕ) (a : Settings) (made : List ℕ) (s now : State) (preserved : Settings) (before mid : Option Bytes) (first : IsMadeUpTo k a made s now preserved before mid) (whole : IsValid now) where
+    -- the lines of the following steps, from the records
+    following : (pids : List ℕ) → steps_lines errors (k + length made) preserved pids now ≡ steps_lines errors (k + length made) (settings_through a made s) pids (run program_of made s).final
+    following pids =
+        steps-same pids (k + length made) now preserved (settings_through a made s) whole first.keeps
+        ∙ ap (λ t. steps_lines errors (k + length made) (settings_through a made s) pids t) first.left
+
+    both : (pids : List ℕ) → steps_lines errors k a made s ++ steps_lines errors (k + length made) preserved pids now ≡ steps_lines errors k a (made ++ pids) s
+    both pids = ap (λ (ls : List AnswerLine). steps_lines errors k a made s ++ ls) (following pids) ∙ sym (steps-append made pids k a s)
+
+    text-both : (pids : List ℕ) → answer_bytes (steps_lines errors k a made s) ++ answer_bytes (steps_lines errors (k + length made) preserved pids now) ≡ answer_bytes (steps_lines errors k a (made ++ pids) s)
+    text-both pids = sym (answers-append (steps_lines errors k a made s) _) ∙ ap answer_bytes (both pids)
+
+    pub more-written : (pids : List ℕ) (after : Option Bytes) → after ≡ and_all mid (answer_bytes (steps_lines errors (k + length made) preserved pids now)) → after ≡ and_all before (answer_bytes (steps_lines errors k a (made ++ pids) s))
+    more-written pids after written = written_both (answer_bytes (steps_lines errors k a made s)) _ before mid after first.as_written written ∙ ap (and_all before) (text-both pids)
+
+    -- a prefix of the following lines is a prefix of all lines
+    pub more-begun : (pids others : List ℕ) (after : Option Bytes) → WritesPrefix (answer_bytes (steps_lines errors (k + length made) preserved pids now)) mid after
+        → WritesPrefix (answer_bytes (steps_lines errors k a ((made ++ pids) ++ others) s)) before after
+    more-begun pids others after begun =
+        let through : WritesPrefix (answer_bytes (steps_lines errors k a (made ++ pids) s)) before after =
+        subst (λ (bs : Bytes). WritesPrefix bs before after) (text-both pids) (begins_then (answer_bytes (steps_lines errors k a made s)) _ before mid after first.as_written begun) in
+        subst (λ (bs : Bytes). WritesPrefix bs before after)
+        (sym (ap answer_bytes (steps-append (made ++ pids) others k a s) ∙ answers-append (steps_lines errors k a (made ++ pids) s) _))
+        (begins_first (answer_bytes (steps_lines errors k a (made ++ pids) s)) _ before after through)
+
+    -- all following steps were made
+    pub more-made : (pids : List ℕ) (new : State) (then_preserved : Settings) (after : Option Bytes) → new ≡ (run program_of pids now).final
+        → after ≡ and_all mid (answer_bytes (steps_lines errors (k + length made) preserved pids now)) → Agree new then_preserved (settings_through preserved pids now)
+        → IsMadeUpTo k a (made ++ pids) s new then_preserved before after
+    more-made pids new then_preserved after left written keeps = record {
+      left =
+          left ∙ ap (λ t. (run program_of pids t).final) first.left ∙ sym (ap (λ r. r.final) (run-append program_of made pids s));
+      as_written = more-written pids after written;
+      keeps = λ q lives.
+          keeps q lives
+          ∙ through-same pids now preserved (settings_through a made s) whole first.keeps q (subst (λ (t : State). Rattle.pv_explain.specs.Keeping.IsLive t q) left lives)
+          ∙ ap (λ (t : State). settings_of (settings_through (settings_through a made s) pids t) q) first.left
+          ∙ ap (λ all. settings_of all q) (sym (through-append made pids a s));
+    }
+
+    -- out of memory in a following step
+    pub more-stopped : (pids others : List ℕ) (new : State) (after : Option Bytes) (stop : Stop) → StopsExplained errors stop (k + length made) preserved pids now new mid after
+        → StopsExplained errors stop k a ((made ++ pids) ++ others) s new before after
+    more-stopped pids others new after Memory at = record {
+      made = made ++ at.made;
+      pid = at.pid;
+      rest = at.rest ++ others;
+      parts =
+          ap (λ ps. (made ++ ps) ++ others) at.parts ∙ ap (λ ps. ps ++ others) (sym (append_assoc made at.made (at.pid ∷ at.rest)))
+          ∙ append_assoc (made ++ at.made) (at.pid ∷ at.rest) others;
+      left = at.left ∙ ap (λ t. (run program_of at.made t).final) first.left ∙ sym (ap (λ r. r.final) (run-append program_of made at.made s));
+      as_written = more-written at.made after at.as_written;
+      loads = at.loads;
+    }
+    more-stopped pids others new after Write at = tt
+
+  pub none-made : (k : ℕ) (a : Settings) (s now : State) (preserved : Settings) (written : Option Bytes) → now ≡ s → preserved ≡ a → IsMadeUpTo k a [] s now preserved written written
+  none-made k a s now preserved written same all = record {
+    left = same;
+    as_written = written_none written;
+    keeps = λ q lives. ap (λ (x : Settings). settings_of x q) all;
   }
 
-  -- out of memory in a following step
-  pub more-stopped : (pids others : List ℕ) (new : State) (after : Option Bytes) (stop : Stop) → StopsExplained stop (k + length made) preserved pids now new mid after
-      → StopsExplained stop k a ((made ++ pids) ++ others) s new before after
-  more-stopped pids others new after Memory at = record {
-    made = made ++ at.made;
-    pid = at.pid;
-    rest = at.rest ++ others;
-    parts =
-        ap (λ ps. (made ++ ps) ++ others) at.parts ∙ ap (λ ps. ps ++ others) (sym (append_assoc made at.made (at.pid ∷ at.rest)))
-        ∙ append_assoc (made ++ at.made) (at.pid ∷ at.rest) others;
-    left = at.left ∙ ap (λ t. (run program_of at.made t).final) first.left ∙ sym (ap (λ r. r.final) (run-append program_of made at.made s));
-    as_written = more-written at.made after at.as_written;
-    loads = at.loads;
-  }
-  more-stopped pids others new after Write at = tt
+  -- out of memory at the next step
+  pub stops-here : (k : ℕ) (a : Settings) (s now : State) (pid : ℕ) (written : Option Bytes) → now ≡ s → NextLoads s pid → (e : Stop) → e ≡ Memory
+      → StopsExplained errors e k a (pid ∷ []) s now written written
+  stops-here k a s now pid written same loads e memory = rw memory (record {
+    made = [];
+    pid = pid;
+    rest = [];
+    parts = refl;
+    left = same;
+    as_written = written_none written;
+    loads = subst (λ (t : State). NextLoads t pid) (sym same) loads;
+  })
 
-pub none-made : (k : ℕ) (a : Settings) (s now : State) (preserved : Settings) (written : Option Bytes) → now ≡ s → preserved ≡ a → IsMadeUpTo k a [] s now preserved written written
-none-made k a s now preserved written same all = record {
-  left = same;
-  as_written = written_none written;
-  keeps = λ q lives. ap (λ (x : Settings). settings_of x q) all;
-}
+  -- ---- one more step of a turn
 
--- out of memory at the next step
-pub stops-here : (k : ℕ) (a : Settings) (s now : State) (pid : ℕ) (written : Option Bytes) → now ≡ s → NextLoads s pid → (e : Stop) → e ≡ Memory
-    → StopsExplained e k a (pid ∷ []) s now written written
-stops-here k a s now pid written same loads e memory = rw memory (record {
-  made = [];
-  pid = pid;
-  rest = [];
-  parts = refl;
-  left = same;
-  as_written = written_none written;
-  loads = subst (λ (t : State). NextLoads t pid) (sym same) loads;
-})
+  module _ (k : ℕ) (a : Settings) (pid i : ℕ) (s now : State) (preserved : Settings) (before mid : Option Bytes) (first : IsMadeUpTo k a (replicate i pid) s now preserved before mid) (whole : IsValid now) where
+    abbrev numbered : ℕ
+    numbered = k + length (replicate i pid)
 
--- ---- one more step of a turn
+    number : k + i ≡ numbered
+    number = ap (λ n. k + n) (sym (length-replicate i pid))
 
-module _ (k : ℕ) (a : Settings) (pid i : ℕ) (s now : State) (preserved : Settings) (before mid : Option Bytes) (first : IsMadeUpTo k a (replicate i pid) s now preserved before mid) (whole : IsValid now) where
-  abbrev numbered : ℕ
-  numbered = k + length (replicate i pid)
+    one-line : step_lines errors (k + i) preserved now pid ≡ steps_lines errors numbered preserved (pid ∷ []) now
+    one-line = ap (λ n. step_lines errors n preserved now pid) number ∙ sym (append-nil (step_lines errors numbered preserved now pid))
 
-  number : k + i ≡ numbered
-  number = ap (λ n. k + n) (sym (length-replicate i pid))
+    one-more : replicate i pid ++ pid ∷ [] ≡ replicate (i + 1) pid
+    one-more = let same : suc i ≡ i + 1 = omega arith in sym (replicate_more i pid) ∙ ap (λ n. replicate n pid) same
 
-  one-line : step_lines (k + i) preserved now pid ≡ steps_lines numbered preserved (pid ∷ []) now
-  one-line = ap (λ n. step_lines n preserved now pid) number ∙ sym (append-nil (step_lines numbered preserved now pid))
+    pub turn-on : (new : State) (then_preserved : Settings) (after : Option Bytes) → new ≡ (step program_of now pid).after
+        → after ≡ and_all mid (answer_bytes (step_lines errors (k + i) preserved now pid)) → Agree new then_preserved (settings_next program_of now pid preserved)
+        → IsMadeUpTo k a (replicate (i + 1) pid) s new then_preserved before after
+    turn-on new then_preserved after left written keeps =
+        subst (λ (made : List ℕ). IsMadeUpTo k a made s new then_preserved before after) one-more
+        (more-made k a (replicate i pid) s now preserved before mid first whole (pid ∷ []) new then_preserved after left (written ∙ ap (λ ls. and_all mid (answer_bytes ls)) one-line) keeps)
 
-  one-more : replicate i pid ++ pid ∷ [] ≡ replicate (i + 1) pid
-  one-more = let same : suc i ≡ i + 1 = omega arith in sym (replicate_more i pid) ∙ ap (λ n. replicate n pid) same
+    module _ (count : ℕ) (within : i < count) where
+      parts : (replicate i pid ++ pid ∷ []) ++ replicate (count - (i + 1)) pid ≡ replicate count pid
+      parts =
+          let all : i + suc (count - (i + 1)) ≡ count = omega (arith, within) in
+          append_assoc (replicate i pid) (pid ∷ []) (replicate (count - (i + 1)) pid)
+          ∙ replicate-append-replicate i (suc (count - (i + 1))) pid ∙ ap (λ n. replicate n pid) all
 
-  pub turn-on : (new : State) (then_preserved : Settings) (after : Option Bytes) → new ≡ (step program_of now pid).after
-      → after ≡ and_all mid (answer_bytes (step_lines (k + i) preserved now pid)) → Agree new then_preserved (settings_next program_of now pid preserved)
-      → IsMadeUpTo k a (replicate (i + 1) pid) s new then_preserved before after
-  turn-on new then_preserved after left written keeps =
-      subst (λ (made : List ℕ). IsMadeUpTo k a made s new then_preserved before after) one-more
-      (more-made k a (replicate i pid) s now preserved before mid first whole (pid ∷ []) new then_preserved after left (written ∙ ap (λ ls. and_all mid (answer_bytes ls)) one-line) keeps)
+      pub turn-begun : (after : Option Bytes) → WritesPrefix (answer_bytes (step_lines errors (k + i) preserved now pid)) mid after → WritesPrefix (answer_bytes (steps_lines errors k a (replicate count pid) s)) before after
+      turn-begun after begun =
+          subst (λ (pids : List ℕ). WritesPrefix (answer_bytes (steps_lines errors k a pids s)) before after) parts
+          (more-begun k a (replicate i pid) s now preserved before mid first whole (pid ∷ []) (replicate (count - (i + 1)) pid) after
+          (subst (λ (ls : List AnswerLine). WritesPrefix (answer_bytes ls) mid after) one-line begun))
 
-  module _ (count : ℕ) (within : i < count) where
-    parts : (replicate i pid ++ pid ∷ []) ++ replicate (count - (i + 1)) pid ≡ replicate count pid
-    parts =
-        let all : i + suc (count - (i + 1)) ≡ count = omega (arith, within) in
-        append_assoc (replicate i pid) (pid ∷ []) (replicate (count - (i + 1)) pid)
-        ∙ replicate-append-replicate i (suc (count - (i + 1))) pid ∙ ap (λ n. replicate n pid) all
+      pub turn-stopped : (new : State) (after : Option Bytes) (stop : Stop) → StopsExplained errors stop (k + i) preserved (pid ∷ []) now new mid after → StopsExplained errors stop k a (replicate count pid) s new before after
+      turn-stopped new after stop at =
+          subst (λ (pids : List ℕ). StopsExplained errors stop k a pids s new before after) parts
+          (more-stopped k a (replicate i pid) s now preserved before mid first whole (pid ∷ []) (replicate (count - (i + 1)) pid) new after stop
+          (subst (λ (n : ℕ). StopsExplained errors stop n preserved (pid ∷ []) now new mid after) number at))
 
-    pub turn-begun : (after : Option Bytes) → WritesPrefix (answer_bytes (step_lines (k + i) preserved now pid)) mid after → WritesPrefix (answer_bytes (steps_lines k a (replicate count pid) s)) before after
-    turn-begun after begun =
-        subst (λ (pids : List ℕ). WritesPrefix (answer_bytes (steps_lines k a pids s)) before after) parts
-        (more-begun k a (replicate i pid) s now preserved before mid first whole (pid ∷ []) (replicate (count - (i + 1)) pid) after
-        (subst (λ (ls : List AnswerLine). WritesPrefix (answer_bytes ls) mid after) one-line begun))
+  -- ---- one more turn of a schedule
 
-    pub turn-stopped : (new : State) (after : Option Bytes) (stop : Stop) → StopsExplained stop (k + i) preserved (pid ∷ []) now new mid after → StopsExplained stop k a (replicate count pid) s new before after
-    turn-stopped new after stop at =
-        subst (λ (pids : List ℕ). StopsExplained stop k a pids s new before after) parts
-        (more-stopped k a (replicate i pid) s now preserved before mid first whole (pid ∷ []) (replicate (count - (i + 1)) pid) new after stop
-        (subst (λ (n : ℕ). StopsExplained stop n preserved (pid ∷ []) now new mid after) number at))
+  module _ (a : Settings) (schedule : Schedule) (i : ℕ) (within : i < length schedule) (s now : State) (preserved : Settings) (before mid : Option Bytes)
+      (first : IsMadeUpTo 1 a (steps_of (take i schedule)) s now preserved before mid) (whole : IsValid now) where
+    abbrev entry : ℕ × ℕ
+    entry = get_or schedule i (0, 0)
 
--- ---- one more turn of a schedule
+    abbrev turned : List ℕ
+    turned = replicate entry.1 entry.0
 
-module _ (a : Settings) (schedule : Schedule) (i : ℕ) (within : i < length schedule) (s now : State) (preserved : Settings) (before mid : Option Bytes)
-    (first : IsMadeUpTo 1 a (steps_of (take i schedule)) s now preserved before mid) (whole : IsValid now) where
-  abbrev entry : ℕ × ℕ
-  entry = get_or schedule i (0, 0)
+    abbrev done : List ℕ
+    done = steps_of (take i schedule)
 
-  abbrev turned : List ℕ
-  turned = replicate entry.1 entry.0
+    pub schedule-on : (new : State) (then_preserved : Settings) (after : Option Bytes) → new ≡ (run program_of turned now).final
+        → after ≡ and_all mid (answer_bytes (steps_lines errors (1 + length done) preserved turned now)) → Agree new then_preserved (settings_through preserved turned now)
+        → IsMadeUpTo 1 a (steps_of (take (i + 1) schedule)) s new then_preserved before after
+    schedule-on new then_preserved after left written keeps =
+        subst (λ (made : List ℕ). IsMadeUpTo 1 a made s new then_preserved before after) (sym (steps_more schedule i within))
+        (more-made 1 a done s now preserved before mid first whole turned new then_preserved after left written keeps)
 
-  abbrev done : List ℕ
-  done = steps_of (take i schedule)
+    rest : (done ++ turned) ++ steps_of (drop (i + 1) schedule) ≡ steps_of schedule
+    rest =
+        ap (λ ps. ps ++ steps_of (drop (i + 1) schedule)) (sym (steps_more schedule i within))
+        ∙ sym (flat_map-append (λ e. replicate e.1 e.0) (take (i + 1) schedule) (drop (i + 1) schedule)) ∙ ap steps_of (take-append-drop (i + 1) schedule)
 
-  pub schedule-on : (new : State) (then_preserved : Settings) (after : Option Bytes) → new ≡ (run program_of turned now).final
-      → after ≡ and_all mid (answer_bytes (steps_lines (1 + length done) preserved turned now)) → Agree new then_preserved (settings_through preserved turned now)
-      → IsMadeUpTo 1 a (steps_of (take (i + 1) schedule)) s new then_preserved before after
-  schedule-on new then_preserved after left written keeps =
-      subst (λ (made : List ℕ). IsMadeUpTo 1 a made s new then_preserved before after) (sym (steps_more schedule i within))
-      (more-made 1 a done s now preserved before mid first whole turned new then_preserved after left written keeps)
+    pub schedule-begun : (after : Option Bytes) → WritesPrefix (answer_bytes (steps_lines errors (1 + length done) preserved turned now)) mid after
+        → WritesPrefix (answer_bytes (steps_lines errors 1 a (steps_of schedule) s)) before after
+    schedule-begun after begun =
+        subst (λ (pids : List ℕ). WritesPrefix (answer_bytes (steps_lines errors 1 a pids s)) before after) rest
+        (more-begun 1 a done s now preserved before mid first whole turned (steps_of (drop (i + 1) schedule)) after begun)
 
-  rest : (done ++ turned) ++ steps_of (drop (i + 1) schedule) ≡ steps_of schedule
-  rest =
-      ap (λ ps. ps ++ steps_of (drop (i + 1) schedule)) (sym (steps_more schedule i within))
-      ∙ sym (flat_map-append (λ e. replicate e.1 e.0) (take (i + 1) schedule) (drop (i + 1) schedule)) ∙ ap steps_of (take-append-drop (i + 1) schedule)
+    pub schedule-stopped : (new : State) (after : Option Bytes) (stop : Stop) → StopsExplained errors stop (1 + length done) preserved turned now new mid after → StopsExplained errors stop 1 a (steps_of schedule) s new before after
+    schedule-stopped new after stop at =
+        subst (λ (pids : List ℕ). StopsExplained errors stop 1 a pids s new before after) rest
+        (more-stopped 1 a done s now preserved before mid first whole turned (steps_of (drop (i + 1) schedule)) new after stop at)
 
-  pub schedule-begun : (after : Option Bytes) → WritesPrefix (answer_bytes (steps_lines (1 + length done) preserved turned now)) mid after
-      → WritesPrefix (answer_bytes (steps_lines 1 a (steps_of schedule) s)) before after
-  schedule-begun after begun =
-      subst (λ (pids : List ℕ). WritesPrefix (answer_bytes (steps_lines 1 a pids s)) before after) rest
-      (more-begun 1 a done s now preserved before mid first whole turned (steps_of (drop (i + 1) schedule)) after begun)
-
-  pub schedule-stopped : (new : State) (after : Option Bytes) (stop : Stop) → StopsExplained stop (1 + length done) preserved turned now new mid after → StopsExplained stop 1 a (steps_of schedule) s new before after
-  schedule-stopped new after stop at =
-      subst (λ (pids : List ℕ). StopsExplained stop 1 a pids s new before after) rest
-      (more-stopped 1 a done s now preserved before mid first whole turned (steps_of (drop (i + 1) schedule)) new after stop at)
-
-  pub schedule-number : 1 + length done + entry.1 ≡ 1 + length (steps_of (take (i + 1) schedule))
-  schedule-number =
-      omega (arith, ap length (steps_more schedule i within), Rattle.std.proofs.Common.length-append done turned, length-replicate entry.1 entry.0)
+    pub schedule-number : 1 + length done + entry.1 ≡ 1 + length (steps_of (take (i + 1) schedule))
+    schedule-number =
+        omega (arith, ap length (steps_more schedule i within), Rattle.std.proofs.Common.length-append done turned, length-replicate entry.1 entry.0)

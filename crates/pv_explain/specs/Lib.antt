@@ -1,5 +1,7 @@
 pub mod Basis
 pub mod Before
+pub mod ErrorParts
+pub mod Errors
 pub mod Keeping
 pub mod Made
 pub mod Moved

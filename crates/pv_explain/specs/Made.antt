@@ -1,6 +1,7 @@
 -- A step that was made, and its explained lines, given the parts of the states before and after it.
-use Rattle.std.specs.Prelude.{◌≡◌, ⊤, ℕ, IsTrue, List, [], ◌∷◌, ◌++◌, map, flat_map, Option, None, Some}
+use Rattle.std.specs.Prelude.{◌≡◌, ⊤, ℕ, Bool, true, false, IsTrue, List, [], ◌∷◌, ◌++◌, map, flat_map, Option, None, Some}
 use Rattle.pv_model.specs.declared.call.Call.{Call}
+use Rattle.pv_model.specs.declared.outcome.Outcome.{Outcome}
 use Rattle.pv_model.specs.declared.place.Place.{Place}
 use Rattle.pv_model.specs.Answer.{answer}
 use Rattle.pv_model.specs.Answers.Lines.{AnswerLine, of_trace}
@@ -18,6 +19,7 @@ use Rattle.pv_explain.specs.declared.making.MadeCall.{MadeCall}
 use Rattle.pv_explain.specs.declared.making.MadeStep.{MadeStep}
 use Rattle.pv_explain.specs.declared.making.MadeStep.TheVariants.{Gone, Register, Call as CallMade}
 use Rattle.pv_explain.specs.Before.{IsBefore, place_of}
+use Rattle.pv_explain.specs.Errors.{error_lines_by}
 use Rattle.pv_explain.specs.Keeping.{entry_at, reported_settings}
 use Rattle.pv_explain.specs.Moved.{IsMoved}
 use Rattle.pv_explain.specs.Parts.{promise_part, table_part, moved_part}
@@ -56,6 +58,20 @@ abbrev pub made_lines : ℕ → List Setting → MadeStep → State → List Ans
 made_lines pid mine Gone after = map of_trace (gone_lines pid)
 made_lines pid mine (Register line) after = []
 made_lines pid mine (CallMade m) after = call_made_lines pid mine m after
+
+-- the reason of the error of a call, given the state after it
+abbrev pub error_after : ℕ → State → Option Process → Call → Outcome → List AnswerLine
+error_after pid after None call outcome = []
+error_after pid after (Some q) call outcome = error_lines_by pid after q call outcome
+
+abbrev pub error_made : Bool → ℕ → MadeCall → State → List AnswerLine
+error_made false pid m after = []
+error_made true pid m after = error_after pid after (process_at after pid) (call_of m.call) m.answer.outcome
+
+-- the reason of the error of a step
+abbrev pub error_of_step : Bool → ℕ → MadeStep → State → List AnswerLine
+error_of_step errors pid (CallMade m) after = error_made errors pid m after
+error_of_step errors pid made after = []
 
 -- the line of the process before the step
 abbrev pub line_of : MadeStep → Option ℕ

@@ -1,5 +1,5 @@
 -- The lines of several steps, the records after them, and the point at which they stop.
-use Rattle.std.specs.Prelude.{◌≡◌, ⊤, ℕ, ◌+◌, List, [], ◌∷◌, ◌++◌, Option}
+use Rattle.std.specs.Prelude.{◌≡◌, ⊤, ℕ, ◌+◌, Bool, List, [], ◌∷◌, ◌++◌, Option}
 use Rattle.pv_model.specs.Answers.Explain.{explained_step, set_text, settings_next, step_line}
 use Rattle.pv_model.specs.Answers.Lines.{AnswerLine, answer_bytes}
 use Rattle.pv_model.specs.Answers.Settings.{Settings, settings_of}
@@ -11,15 +11,17 @@ use Rattle.pv_session.specs.declared.session.Stop.{Stop}
 use Rattle.pv_session.specs.declared.session.Stop.TheVariants.{Memory, Write}
 use Rattle.pv_session.specs.Stopping.{NextLoads}
 use Rattle.pv_streams.specs.Sinks.{and_all}
+use Rattle.pv_explain.specs.Errors.{added_by}
 
--- the lines of a step
-abbrev pub step_lines : ℕ → Settings → State → ℕ → List AnswerLine
-step_lines k all s pid = step_line program_of k s pid ∷ explained_step program_of (set_text program_of (settings_of all pid)) s pid
+module _ (errors : Bool) where
+  -- the lines of a step, with the reason of its error if `errors`
+  abbrev pub step_lines : ℕ → Settings → State → ℕ → List AnswerLine
+  step_lines k all s pid = step_line program_of k s pid ∷ explained_step program_of (set_text program_of (settings_of all pid)) s pid ++ added_by errors s pid
 
--- the lines of steps whose numbers start at k
-abbrev pub steps_lines : ℕ → Settings → List ℕ → State → List AnswerLine
-steps_lines k all [] s = []
-steps_lines k all (pid ∷ pids) s = step_lines k all s pid ++ steps_lines (k + 1) (settings_next program_of s pid all) pids (step program_of s pid).after
+  -- the lines of steps whose numbers start at k
+  abbrev pub steps_lines : ℕ → Settings → List ℕ → State → List AnswerLine
+  steps_lines k all [] s = []
+  steps_lines k all (pid ∷ pids) s = step_lines k all s pid ++ steps_lines (k + 1) (settings_next program_of s pid all) pids (step program_of s pid).after
 
 -- the origins of entries after steps
 abbrev pub settings_through : Settings → List ℕ → State → Settings
@@ -27,16 +29,16 @@ settings_through all [] s = all
 settings_through all (pid ∷ pids) s = settings_through (settings_next program_of s pid all) pids (step program_of s pid).after
 
 -- the steps before an execve that leads to a program were made, and their lines were written
-pub record StopsAtLoad (k : ℕ) (all : Settings) (pids : List ℕ) (s now : State) (before after : Option Bytes) : Type 0 where
+pub record StopsAtLoad (errors : Bool) (k : ℕ) (all : Settings) (pids : List ℕ) (s now : State) (before after : Option Bytes) : Type 0 where
   pub made : List ℕ
   pub pid : ℕ
   pub rest : List ℕ
   pub parts : pids ≡ made ++ pid ∷ rest
   pub left : now ≡ (run program_of made s).final
-  pub as_written : after ≡ and_all before (answer_bytes (steps_lines k all made s))
+  pub as_written : after ≡ and_all before (answer_bytes (steps_lines errors k all made s))
   pub loads : NextLoads now pid
 
 -- out of memory stops a run only there
-abbrev pub StopsExplained : Stop → ℕ → Settings → List ℕ → State → State → Option Bytes → Option Bytes → Type 0
-StopsExplained Memory k all pids s now before after = StopsAtLoad k all pids s now before after
-StopsExplained Write k all pids s now before after = ⊤
+abbrev pub StopsExplained : Bool → Stop → ℕ → Settings → List ℕ → State → State → Option Bytes → Option Bytes → Type 0
+StopsExplained errors Memory k all pids s now before after = StopsAtLoad errors k all pids s now before after
+StopsExplained errors Write k all pids s now before after = ⊤

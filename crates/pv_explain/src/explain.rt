@@ -1,11 +1,12 @@
 //! Explained runs of schedules, step by step.
 ghost use Rattle.std.specs.Prelude.{◌≡◌, ◌+◌, ◌≤◌, ◌<◌, ◌^◌, [], ◌∷◌, length, replicate, IfErr, IfOk, IfSome, IsTrue, OnErr, OnOk, option_copied};
+ghost use Rattle.pv_explain.specs.Errors.{AddsNothingElse, explained_lines};
 ghost use Rattle.pv_explain.specs.Keeping.{Agree, entry_at};
 ghost use Rattle.pv_explain.specs.Made.{settings_called};
 ghost use Rattle.pv_explain.specs.Steps.{StopsExplained, settings_through, step_lines, steps_lines};
 ghost use Rattle.pv_model.specs.declared.limits.TheConstants.{SCHEDULE_LINES, UNVEILS};
 ghost use Rattle.pv_laws_states.specs.States.{is_call};
-ghost use Rattle.pv_model.specs.Answers.Explain.{explain_lines, settings_next};
+ghost use Rattle.pv_model.specs.Answers.Explain.{settings_next};
 ghost use Rattle.pv_model.specs.Answers.Lines.{answer_bytes};
 ghost use Rattle.pv_model.specs.CallRef.{call_of};
 ghost use Rattle.pv_model.specs.Grammar.Programs.{program_of};
@@ -15,7 +16,7 @@ ghost use Rattle.pv_procs.specs.Turns.{CallsNext};
 ghost use Rattle.pv_session.specs.Running.{FailsBy, run_of, stepped, turn};
 ghost use Rattle.pv_streams.specs.Sinks.{and_all, WritesPrefix};
 
-use crate::explained::{write_call, write_step_line};
+use crate::explained::{write_call_and_error, write_step_line};
 use crate::making::{MadeCall, make_call, make_register};
 use crate::origins::Origins;
 use pv_answers::write_locations;
@@ -65,7 +66,8 @@ struct NumberedStep {
     number: u64,
 }
 
-// Makes the next call of a process, and writes the STEP line and the explained lines of the call.
+// Makes the next call of a process, and writes the STEP line and the explained lines of the call, with the reason of its
+// error if `errors`.
 fn explain_call<W: Sink>(
     alloc: Global,
     session: &mut Session,
@@ -73,22 +75,31 @@ fn explain_call<W: Sink>(
     origins: &mut Origins,
     step: NumberedStep,
     call: CallRef<'_>,
+    errors: bool,
     out: &mut W,
 ) -> Result<(), Stop>
     requires next { CallsNext call (process_at session.old step.pid) }
     requires callable { IsTrue (is_call (call_of call)) }
     ensures after { OnOk result (session.new ≡ (stepped session.old step.pid).after) }
-    ensures whole { OnOk result (W.written out.new ≡ and_all (W.written out.old) (answer_bytes (step_lines step.number origins.old session.old step.pid))) }
-    ensures prefix { OnErr result (WritesPrefix (answer_bytes (step_lines step.number origins.old session.old step.pid)) (W.written out.old) (W.written out.new)) }
+    ensures whole { OnOk result (W.written out.new ≡ and_all (W.written out.old) (answer_bytes (step_lines errors step.number origins.old session.old step.pid))) }
+    ensures prefix { OnErr result (WritesPrefix (answer_bytes (step_lines errors step.number origins.old session.old step.pid)) (W.written out.old) (W.written out.new)) }
     ensures failed { IfErr result (λ stop. FailsBy stop (W.failures out.old) (W.failures out.new)) }
     ensures quiet { OnOk result (W.failures out.new ≡ W.failures out.old) }
-    ensures stopped { IfErr result (λ stop. StopsExplained stop step.number origins.old (step.pid ∷ []) session.old session.new (W.written out.old) (W.written out.new)) }
+    ensures stopped { IfErr result (λ stop. StopsExplained errors stop step.number origins.old (step.pid ∷ []) session.old session.new (W.written out.old) (W.written out.new)) }
     ensures keeps { OnOk result (Agree session.new origins.new (settings_next program_of session.old step.pid origins.old)) }
 {
     let NumberedStep { pid, number } = step;
     let made = make_call(alloc, session, pid, call)?;
     write_step_line(out, pid, number, Some(made.before.line))?;
-    write_call(out, line_buffer, session, pid, &made, origins.of(pid))?;
+    write_call_and_error(
+        out,
+        line_buffer,
+        session,
+        pid,
+        &made,
+        origins.of(pid),
+        errors,
+    )?;
     follow(origins, session.parts(), pid, &made);
     Ok(())
 }
@@ -128,7 +139,8 @@ impl Explainer {
         })
     }
 
-    /// Makes a step of a process, and writes its STEP line and its explained lines.
+    /// Makes a step of a process, and writes its STEP line and its explained lines. If `errors`, also writes why the call
+    /// failed, unless a promise or a table refused it.
     ///
     /// # Errors
     ///
@@ -141,14 +153,15 @@ impl Explainer {
         session: &mut Session,
         pid: u32,
         number: u64,
+        errors: bool,
         out: &mut W,
     ) -> Result<(), Stop>
         ensures after { OnOk result (session.new ≡ (stepped session.old pid).after) }
-        ensures whole { OnOk result (W.written out.new ≡ and_all (W.written out.old) (answer_bytes (step_lines number self.old session.old pid))) }
-        ensures prefix { OnErr result (WritesPrefix (answer_bytes (step_lines number self.old session.old pid)) (W.written out.old) (W.written out.new)) }
+        ensures whole { OnOk result (W.written out.new ≡ and_all (W.written out.old) (answer_bytes (step_lines errors number self.old session.old pid))) }
+        ensures prefix { OnErr result (WritesPrefix (answer_bytes (step_lines errors number self.old session.old pid)) (W.written out.old) (W.written out.new)) }
         ensures failed { IfErr result (λ stop. FailsBy stop (W.failures out.old) (W.failures out.new)) }
         ensures quiet { OnOk result (W.failures out.new ≡ W.failures out.old) }
-        ensures stopped { IfErr result (λ stop. StopsExplained stop number self.old (pid ∷ []) session.old session.new (W.written out.old) (W.written out.new)) }
+        ensures stopped { IfErr result (λ stop. StopsExplained errors stop number self.old (pid ∷ []) session.old session.new (W.written out.old) (W.written out.new)) }
 
         // The explainer knows the origins of the entries of live processes.
         ensures keeps { OnOk result (Agree session.new self.new (settings_next program_of session.old pid self.old)) }
@@ -171,6 +184,7 @@ impl Explainer {
                 &mut self.origins,
                 NumberedStep { pid, number },
                 call,
+                errors,
                 out,
             ),
         }
@@ -185,22 +199,23 @@ fn explain_turn<W: Sink>(
     pid: u32,
     count: u32,
     number: u64,
+    errors: bool,
     out: &mut W,
 ) -> Result<(), Stop>
     requires { number + count < 2 ^ 64 }
     ensures after { OnOk result (session.new ≡ (turn session.old pid count).final) }
-    ensures whole { OnOk result (W.written out.new ≡ and_all (W.written out.old) (answer_bytes (steps_lines number explainer.old (replicate count pid) session.old))) }
-    ensures prefix { OnErr result (WritesPrefix (answer_bytes (steps_lines number explainer.old (replicate count pid) session.old)) (W.written out.old) (W.written out.new)) }
+    ensures whole { OnOk result (W.written out.new ≡ and_all (W.written out.old) (answer_bytes (steps_lines errors number explainer.old (replicate count pid) session.old))) }
+    ensures prefix { OnErr result (WritesPrefix (answer_bytes (steps_lines errors number explainer.old (replicate count pid) session.old)) (W.written out.old) (W.written out.new)) }
     ensures failed { IfErr result (λ stop. FailsBy stop (W.failures out.old) (W.failures out.new)) }
     ensures quiet { OnOk result (W.failures out.new ≡ W.failures out.old) }
-    ensures stopped { IfErr result (λ stop. StopsExplained stop number explainer.old (replicate count pid) session.old session.new (W.written out.old) (W.written out.new)) }
+    ensures stopped { IfErr result (λ stop. StopsExplained errors stop number explainer.old (replicate count pid) session.old session.new (W.written out.old) (W.written out.new)) }
     ensures keeps { OnOk result (Agree session.new explainer.new (settings_through explainer.old (replicate count pid) session.old)) }
 {
     for step in 0..count {
         // The contract of `parts` states that the state satisfies the invariant.
         let _ = session.parts();
         let at = number + u64::from(step);
-        explainer.explain_step(alloc, session, pid, at, out)?;
+        explainer.explain_step(alloc, session, pid, at, errors, out)?;
     }
     Ok(())
 }
@@ -211,29 +226,30 @@ fn explain_steps<W: Sink>(
     session: &mut Session,
     explainer: &mut Explainer,
     schedule: &[(u32, u32)],
+    errors: bool,
     out: &mut W,
 ) -> Result<(), Stop>
     requires { length schedule.now ≤ SCHEDULE_LINES }
     ensures after { OnOk result (session.new ≡ (run_of session.old schedule.now).final) }
-    ensures whole { OnOk result (W.written out.new ≡ and_all (W.written out.old) (answer_bytes (steps_lines 1 explainer.old (steps_of schedule.now) session.old))) }
-    ensures prefix { OnErr result (WritesPrefix (answer_bytes (steps_lines 1 explainer.old (steps_of schedule.now) session.old)) (W.written out.old) (W.written out.new)) }
+    ensures whole { OnOk result (W.written out.new ≡ and_all (W.written out.old) (answer_bytes (steps_lines errors 1 explainer.old (steps_of schedule.now) session.old))) }
+    ensures prefix { OnErr result (WritesPrefix (answer_bytes (steps_lines errors 1 explainer.old (steps_of schedule.now) session.old)) (W.written out.old) (W.written out.new)) }
     ensures failed { IfErr result (λ stop. FailsBy stop (W.failures out.old) (W.failures out.new)) }
     ensures quiet { OnOk result (W.failures out.new ≡ W.failures out.old) }
-    ensures stopped { IfErr result (λ stop. StopsExplained stop 1 explainer.old (steps_of schedule.now) session.old session.new (W.written out.old) (W.written out.new)) }
+    ensures stopped { IfErr result (λ stop. StopsExplained errors stop 1 explainer.old (steps_of schedule.now) session.old session.new (W.written out.old) (W.written out.new)) }
 {
     let mut number = 1;
     for turn in schedule {
         let _ = session.parts();
         let (pid, count) = *turn;
-        explain_turn(alloc, session, explainer, pid, count, number, out)?;
+        explain_turn(alloc, session, explainer, pid, count, number, errors, out)?;
         number += u64::from(count);
     }
     Ok(())
 }
 
 /// Runs a schedule, and writes the explained lines of each step before it makes the next: the number of the step first,
-/// the meaning of bytes after each GIO line, and the reason after each refusal. Then writes the location of each
-/// process.
+/// the meaning of bytes after each GIO line, and the reason after each refusal. If `errors`, also writes why a call
+/// failed that neither a promise nor a table refused. Then writes the location of each process.
 ///
 /// The explainer must be new.
 ///
@@ -247,17 +263,23 @@ pub fn explain_schedule<W: Sink>(
     session: &mut Session,
     explainer: &mut Explainer,
     schedule: &[(u32, u32)],
+    errors: bool,
     out: &mut W,
 ) -> Result<(), Stop>
     requires lines { length schedule.now ≤ SCHEDULE_LINES }
     requires fresh { explainer.old ≡ [] }
     ensures after { OnOk result (session.new ≡ (run_of session.old schedule.now).final) }
-    ensures whole { OnOk result (W.written out.new ≡ and_all (W.written out.old) (answer_bytes (explain_lines program_of (steps_of schedule.now) session.old))) }
-    ensures prefix { OnErr result (WritesPrefix (answer_bytes (explain_lines program_of (steps_of schedule.now) session.old)) (W.written out.old) (W.written out.new)) }
+    ensures whole { OnOk result (W.written out.new ≡ and_all (W.written out.old) (answer_bytes (explained_lines errors (steps_of schedule.now) session.old))) }
+    ensures prefix { OnErr result (WritesPrefix (answer_bytes (explained_lines errors (steps_of schedule.now) session.old)) (W.written out.old) (W.written out.new)) }
     ensures failed { IfErr result (λ stop. FailsBy stop (W.failures out.old) (W.failures out.new)) }
     ensures quiet { OnOk result (W.failures out.new ≡ W.failures out.old) }
-    ensures stopped { IfErr result (λ stop. StopsExplained stop 1 [] (steps_of schedule.now) session.old session.new (W.written out.old) (W.written out.new)) }
+    ensures stopped { IfErr result (λ stop. StopsExplained errors stop 1 [] (steps_of schedule.now) session.old session.new (W.written out.old) (W.written out.new)) }
 {
-    explain_steps(alloc, session, explainer, schedule, out)?;
+    explain_steps(alloc, session, explainer, schedule, errors, out)?;
     Ok(write_locations(out, session.parts())?)
 }
+
+/// States that `explained_lines` with the reasons of errors adds lines to those of the model, and changes none of them.
+pub fn adds_nothing_else()
+    ensures { AddsNothingElse }
+{}

@@ -1,12 +1,13 @@
 //! The explained lines of a step.
-ghost use Rattle.std.specs.Prelude.{◌≡◌, codes, OnErr, OnOk};
+ghost use Rattle.std.specs.Prelude.{◌≡◌, ◌++◌, codes, OnErr, OnOk};
 ghost use Rattle.pv_explain.specs.Keeping.{settings_in};
-ghost use Rattle.pv_explain.specs.Made.{IsFit, IsFitCall, call_made_lines, made_lines, table_lines};
+ghost use Rattle.pv_explain.specs.Made.{IsFit, IsFitCall, call_made_lines, error_made, made_lines, table_lines};
 ghost use Rattle.pv_explain.specs.Parts.{step_text};
 ghost use Rattle.pv_model.specs.Answers.Lines.{answer_bytes, answer_line, answer_line_bytes};
 ghost use Rattle.pv_model.specs.Stream.{Rose};
 ghost use Rattle.pv_streams.specs.Sinks.{and_all, Writes, WritesPrefix};
 
+use crate::error_text::write_error;
 use crate::levels::Basis;
 use crate::making::{MadeCall, MadeStep};
 use crate::moved::write_moved_part;
@@ -85,6 +86,32 @@ pub(crate) fn write_call<W: Sink>(
     write_table_lines(out, line_buffer, parts, pid, made, origins)?;
     write_moved_part(out, line_buffer, pid, parts, before.file, call, moved)?;
     write_last_line(out, line_buffer, pid, call, outcome)
+}
+
+/// Writes the explained lines of a call that was just made, and, if `errors`, why it failed, unless a promise or a table
+/// refused it.
+///
+/// # Errors
+///
+/// `Failed`, if a write failed. The sink received a prefix of the lines.
+pub(crate) fn write_call_and_error<W: Sink>(
+    out: &mut W,
+    line_buffer: &mut LineBuffer,
+    session: &Session,
+    pid: u32,
+    made: &MadeCall<'_>,
+    origins: &[Origin],
+    errors: bool,
+) -> Result<(), Failed>
+    requires { IsFitCall pid made.now session.now }
+    ensures { Writes W.Sink (answer_bytes (call_made_lines pid (settings_in origins.now) made.now session.now ++ error_made errors pid made.now session.now)) out.old out.new result }
+{
+    write_call(out, line_buffer, session, pid, made, origins)?;
+    if errors {
+        write_error(out, session.parts(), pid, made.call, made.answer.outcome)
+    } else {
+        Ok(())
+    }
 }
 
 /// Writes the explained lines of a step that was just made. `origins` are the origins of the entries of its process

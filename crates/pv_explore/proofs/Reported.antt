@@ -104,7 +104,8 @@ padded-shown : (k : ℕ) (bs : Bytes) → is_shown bs ≡ true → is_shown (rep
 padded-shown zero bs shown = shown
 padded-shown (suc k) bs shown = refl
 
-line-shown : (pid : ℕ) (word text rest : Bytes) → is_shown (text_line pid word text ++ rest) ≡ true
+-- the first byte of a line is shown
+pub line-shown : (pid : ℕ) (word text rest : Bytes) → is_shown (text_line pid word text ++ rest) ≡ true
 unfolding text_line
 line-shown pid word text rest =
     let a : Bytes = pad_left 5 (decimal pid) in

@@ -29,9 +29,13 @@ fn completeness(complete: bool) -> &'static [u8]
     }
 }
 
-// Writes the number of visited states, and whether these are all.
+/// Writes the last line of a search, DONE: the number of visited states, and whether these are all.
+///
+/// # Errors
+///
+/// `Failed`, if a write failed. The sink received a prefix of the line.
 #[tactic(auto, unfolding(pv_model::specs::Trace::text_line))]
-pub(crate) fn write_states<W: Sink>(out: &mut W, count: usize, complete: bool) -> Result<(), Failed>
+pub fn write_states<W: Sink>(out: &mut W, count: usize, complete: bool) -> Result<(), Failed>
     ensures whole { OnOk result (W.written out.new ≡ and_all (W.written out.old) (answer_line_bytes (states_line count complete))) }
     ensures prefix { OnErr result (WritesPrefix (answer_line_bytes (states_line count complete)) (W.written out.old) (W.written out.new)) }
     ensures failed { OnErr result (Rose (W.failures out.old) (W.failures out.new)) }

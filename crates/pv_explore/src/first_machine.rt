@@ -11,7 +11,7 @@ use pv_image_mount::mount;
 use pv_laws_trees::image_bytes::images_mount;
 use pv_model::{BootFault, ImageFault, StepFault};
 use pv_session::Session;
-use pv_tree::Store;
+use pv_tree::{Store, Tree};
 use std::alloc::Global;
 use std::marker::Model;
 
@@ -89,6 +89,13 @@ impl FirstMachine {
         };
         let machine = Position::first(Session::new(alloc, store)?);
         Ok(FirstMachine { image, machine })
+    }
+
+    /// Returns the tree of the machine.
+    pub fn tree(&self) -> &Tree
+        ensures { result.now.tree ≡ self.now.tree }
+    {
+        self.machine.parts().tree()
     }
 
     /// Returns the machine.

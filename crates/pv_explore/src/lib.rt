@@ -28,7 +28,7 @@ mod unheard;
 mod witness;
 mod witnesses;
 
-pub use explore::write_explore;
+pub use explore::{write_explore, write_states};
 pub use first_machine::FirstMachine;
 pub use graph::write_graph;
 pub use observer::{Observer, TraceLines};

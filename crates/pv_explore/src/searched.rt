@@ -27,8 +27,8 @@ pub struct Searched {
     pub complete: bool,
     /// The number of different trees in which no process is live.
     pub endings: usize,
-    /// The texts observed.
-    pub(crate) texts: Keys,
+    /// The texts observed, each once.
+    pub texts: Keys,
 }
 
 impl Searched {

@@ -20,7 +20,7 @@ module _ (before mid after : ℕ) where
   failed_by (Err Write) fails quiet why counted = subst (λ (n : ℕ). Rose before n) (sym (counted refl)) fails
 
   -- the case of any output before the flush
-  pub failed : {T : Type 0} (end : Result T Stop) (result : Result (Unit {0}) AskStop) → IfErr end (λ stop. FailsBy stop before mid) → OnOk end (mid ≡ before)
+  pub failed : {T R : Type 0} (end : Result T Stop) (result : Result R AskStop) → IfErr end (λ stop. FailsBy stop before mid) → OnOk end (mid ≡ before)
       → (result ≡ Err Unwritten → (end ≡ Err Write) ⊎ Rose mid after) → (end ≡ Err Write → after ≡ mid) → result ≡ Err Unwritten → Rose before after
   failed end result fails quiet why counted is = failed_by end fails quiet (why is) counted
 
@@ -30,7 +30,7 @@ module _ (text : Bytes) (before mid after : Option Bytes) where
   began_by (Err stop) whole prefix = prefix
 
   -- if the end is not reached or the flush fails, a prefix was written
-  pub began : {T : Type 0} (end : Result T Stop) (result : Result (Unit {0}) AskStop) → OnOk end (mid ≡ and_all before text) → OnErr end (WritesPrefix text before mid) → after ≡ mid
+  pub began : {T R : Type 0} (end : Result T Stop) (result : Result R AskStop) → OnOk end (mid ≡ and_all before text) → OnErr end (WritesPrefix text before mid) → after ≡ mid
       → OnErr result (WritesPrefix text before after)
   began end (Ok done) whole prefix preserved = tt
   began end (Err stop) whole prefix preserved = subst (λ (w : Option Bytes). WritesPrefix text before w) (sym preserved) (began_by end whole prefix)

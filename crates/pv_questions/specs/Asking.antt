@@ -1,13 +1,15 @@
 -- The output of an answer, complete or not.
-use Rattle.std.specs.Prelude.{◌≡◌, ◌⊎◌, ⊤, ℕ, Option, Result, Ok, Err}
+use Rattle.std.specs.Prelude.{◌≡◌, ◌⊎◌, ⊤, ℕ, Bool, true, false, Option, Result, Ok, Err}
 use Rattle.pv_model.specs.declared.run_fault.RunFault.{RunFault}
 use Rattle.pv_model.specs.declared.run_fault.RunFault.TheVariants.{Read, Init, Memory}
 use Rattle.pv_model.specs.Bytes.{Bytes}
 use Rattle.pv_run.specs.Machines.{IsBundleMachineFault, IsMachineFault}
 use Rattle.pv_streams.specs.Sinks.{and_all, WritesPrefix}
 use Rattle.pv_questions.specs.Answering.{Answer}
+use Rattle.pv_questions.specs.Trees.{IsSearch}
+use Rattle.pv_questions.specs.declared.question.TreeQuestion.{TreeQuestion}
 use Rattle.pv_questions.specs.declared.stop.AskStop.{AskStop}
-use Rattle.pv_questions.specs.declared.stop.AskStop.TheVariants.{Machine, File, Write}
+use Rattle.pv_questions.specs.declared.stop.AskStop.TheVariants.{Machine, File, Write, Incomplete}
 
 -- exactly the text of an answer was written
 abbrev pub WritesAnswer : Answer → Option Bytes → Option Bytes → Type 0
@@ -18,36 +20,50 @@ abbrev pub BeginsAnswer : Answer → Option Bytes → Option Bytes → Type 0
 BeginsAnswer answer before after = (text : Bytes) × (answer ≡ Ok text) × WritesPrefix text before after
 
 -- the reason why an answer is not complete: there was no memory or a write failed, and a prefix of the text was
--- written; or the input is refused, and nothing was written
+-- written; or a search left a state out, and the text was written; or the input is refused, and nothing was written
 abbrev pub AppearsInAnswer : Answer → Option Bytes → Option Bytes → AskStop → Type 0
 AppearsInAnswer answer before after (Machine Read) = after ≡ before
 AppearsInAnswer answer before after (Machine Memory) = (after ≡ before) ⊎ BeginsAnswer answer before after
 AppearsInAnswer answer before after Write = BeginsAnswer answer before after
+AppearsInAnswer answer before after Incomplete = WritesAnswer answer before after
 AppearsInAnswer answer before after stop = (answer ≡ Err stop) × (after ≡ before)
 
--- the reasons why an answer about an image may fail; out of memory is not nested in another error
+-- the reasons why an answer about a run on an image may fail; out of memory is not nested in another error
 abbrev pub IsImageStop : AskStop → Type 0
 IsImageStop (Machine fault) = IsMachineFault fault
+IsImageStop Incomplete = ⊥
 IsImageStop stop = ⊤
 
 -- the reasons why an answer about a bundle may fail
 abbrev pub IsBundleStop : AskStop → Type 0
 IsBundleStop (Machine fault) = IsBundleMachineFault fault
+IsBundleStop Incomplete = ⊥
 IsBundleStop stop = ⊤
+
+-- the reasons why an answer about the tree of an image or of a manifest may fail: only a search leaves a state out
+abbrev pub IsImageTreeStop : TreeQuestion → AskStop → Type 0
+IsImageTreeStop question Incomplete = IsSearch question
+IsImageTreeStop question stop = IsImageStop stop
+
+abbrev pub IsManifestTreeStop : TreeQuestion → AskStop → Type 0
+IsManifestTreeStop question Incomplete = IsSearch question
+IsManifestTreeStop question stop = IsBundleStop stop
 
 -- the reasons after the checks
 abbrev pub IsAnswerStop : AskStop → Type 0
 IsAnswerStop (Machine Memory) = ⊤
 IsAnswerStop (Machine fault) = ⊥
+IsAnswerStop Incomplete = ⊥
 IsAnswerStop stop = ⊤
 
 -- the reasons after the checks of a tree
-abbrev pub IsTreeStop : AskStop → Type 0
-IsTreeStop (Machine (Init n)) = ⊤
-IsTreeStop (Machine Memory) = ⊤
-IsTreeStop (File fault) = ⊤
-IsTreeStop Write = ⊤
-IsTreeStop stop = ⊥
+abbrev pub IsTreeStop : TreeQuestion → AskStop → Type 0
+IsTreeStop question (Machine (Init n)) = ⊤
+IsTreeStop question (Machine Memory) = ⊤
+IsTreeStop question (File fault) = ⊤
+IsTreeStop question Write = ⊤
+IsTreeStop question Incomplete = IsSearch question
+IsTreeStop question stop = ⊥
 
 -- the reasons while an answer is written
 abbrev pub IsWritingStop : AskStop → Type 0
@@ -55,10 +71,17 @@ IsWritingStop (Machine Memory) = ⊤
 IsWritingStop Write = ⊤
 IsWritingStop stop = ⊥
 
--- nothing was written, unless there was no memory or a write failed
+-- success reports that an answer is complete, and `Incomplete` that it is not
+abbrev pub ReportsComplete : Result (Unit {0}) AskStop → Bool → Type 0
+ReportsComplete (Ok done) complete = complete ≡ true
+ReportsComplete (Err Incomplete) complete = complete ≡ false
+ReportsComplete (Err stop) complete = ⊤
+
+-- nothing was written, unless there was no memory, a write failed, or a search left a state out
 abbrev pub WritesNothingUnlessStopped : Option Bytes → Option Bytes → AskStop → Type 0
 WritesNothingUnlessStopped before after (Machine Memory) = ⊤
 WritesNothingUnlessStopped before after Write = ⊤
+WritesNothingUnlessStopped before after Incomplete = ⊤
 WritesNothingUnlessStopped before after stop = after ≡ before
 
 -- everything that was written is flushed, unless a write failed

@@ -1,5 +1,5 @@
 -- The answer to a question of a tree.
-use Rattle.std.specs.Prelude.{◌≡◌, max, List, Result, Ok, Err}
+use Rattle.std.specs.Prelude.{◌≡◌, ⊤, ℕ, max, Bool, true, List, Result, Ok, Err}
 use Rattle.pv_image_manifest.specs.Reading.{RefusesManifest, manifest_before}
 use Rattle.pv_image_manifest.specs.declared.manifest.Manifest.{Manifest as ParsedManifest}
 use Rattle.pv_model.specs.declared.fault.ManifestFault.{ManifestFault}
@@ -7,7 +7,8 @@ use Rattle.pv_model.specs.declared.fault.ManifestFault.TheVariants.{Form}
 use Rattle.pv_model.specs.declared.run_fault.RunFault.{RunFault}
 use Rattle.pv_model.specs.declared.verdict.AuditFault.{AuditFault}
 use Rattle.pv_model.specs.declared.kernel_fault.BootFault.{BootFault}
-use Rattle.pv_model.specs.Answers.Explore.{explore_lines}
+use Rattle.pv_model.specs.Answers.Access.{access_lines}
+use Rattle.pv_model.specs.Answers.Explore.{explore_lines, is_complete}
 use Rattle.pv_model.specs.Answers.Graph.{graph_lines}
 use Rattle.pv_model.specs.Answers.Turns.{schedule_text, turns}
 use Rattle.pv_model.specs.Bytes.{Bytes}
@@ -18,12 +19,13 @@ use Rattle.pv_model.specs.Listing.{listing}
 use Rattle.pv_model.specs.Mount.{mounted}
 use Rattle.pv_model.specs.RunFault.{of_boot, of_image, of_manifest}
 use Rattle.pv_model.specs.Start.{Started, and_then, booted, started_on}
+use Rattle.pv_model.specs.State.{State}
 use Rattle.pv_model.specs.Tree.{Tree}
 use Rattle.pv_questions.specs.Answering.{Answer, answer_of, of_lines}
 use Rattle.pv_questions.specs.Files.{cat_of}
 use Rattle.pv_questions.specs.declared.question.RunQuestion.{RunQuestion}
 use Rattle.pv_questions.specs.declared.question.TreeQuestion.{TreeQuestion}
-use Rattle.pv_questions.specs.declared.question.TreeQuestion.TheVariants.{Listing, File, Turns, Explore, Graph}
+use Rattle.pv_questions.specs.declared.question.TreeQuestion.TheVariants.{Listing, File, Turns, Explore, Access, Graph}
 use Rattle.pv_questions.specs.declared.stop.AskStop.{AskStop}
 use Rattle.pv_questions.specs.declared.stop.AskStop.TheVariants.{Machine, File as NoFile}
 
@@ -61,16 +63,47 @@ abbrev pub tree_answer : TreeQuestion → Tree → Answer
 tree_answer Listing t = Ok (listing t)
 tree_answer (File path) t = of_file (cat_of t path.now)
 tree_answer (Explore states) t = and_then of_boot_fault (booted t) (λ s. of_lines (explore_lines program_of (max 1 states) s))
+tree_answer (Access states) t = and_then of_boot_fault (booted t) (λ s. of_lines (access_lines program_of (max 1 states) s))
 tree_answer (Graph states tree) t = and_then of_boot_fault (booted t) (λ s. of_lines (graph_lines program_of (max 1 states) tree s))
 tree_answer (Turns slice steps) t = and_then of_boot_fault (booted t) (λ s. Ok (schedule_text (turns program_of (max 1 slice) steps s)))
+
+-- the question is a search of the states of a machine
+abbrev pub IsSearch : TreeQuestion → Type 0
+IsSearch (Explore states) = ⊤
+IsSearch (Access states) = ⊤
+IsSearch (Graph states tree) = ⊤
+IsSearch question = ⊥
+
+-- the search of the states of a machine, if it boots, leaves no state out
+abbrev pub search_is_complete : ℕ → Result State BootFault → Bool
+search_is_complete states (Ok s) = is_complete program_of (max 1 states) s
+search_is_complete states (Err fault) = true
+
+-- the answer about a tree leaves no state out
+abbrev pub tree_is_complete : TreeQuestion → Tree → Bool
+tree_is_complete (Explore states) t = search_is_complete states (booted t)
+tree_is_complete (Access states) t = search_is_complete states (booted t)
+tree_is_complete (Graph states tree) t = search_is_complete states (booted t)
+tree_is_complete question t = true
+
+-- the same for an input that may have no tree
+abbrev pub held_is_complete : TreeQuestion → Result Tree RunFault → Bool
+held_is_complete question (Ok t) = tree_is_complete question t
+held_is_complete question (Err fault) = true
 
 -- the answer about the tree of an image
 abbrev pub image_tree_answer : TreeQuestion → Bytes → Answer
 image_tree_answer question bytes = and_then Machine (image_tree bytes) (tree_answer question)
 
+abbrev pub image_tree_is_complete : TreeQuestion → Bytes → Bool
+image_tree_is_complete question bytes = held_is_complete question (image_tree bytes)
+
 -- the answer about the tree of a manifest
 abbrev pub manifest_tree_answer : TreeQuestion → Bytes → Answer
 manifest_tree_answer question bytes = and_then Machine (manifest_tree bytes) (tree_answer question)
+
+abbrev pub manifest_tree_is_complete : TreeQuestion → Bytes → Bool
+manifest_tree_is_complete question bytes = held_is_complete question (manifest_tree bytes)
 
 -- the start of the run of a schedule on the tree of a manifest, whose own schedule is ignored
 abbrev pub manifest_started : (manifest turns : Bytes) → Result Started RunFault

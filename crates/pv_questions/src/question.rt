@@ -19,7 +19,10 @@ pub enum Question<'a> {
     /// The permissions of the next call of each live process after the run, or of the live process with this number.
     Reach(Option<u32>),
     /// The explained trace of the run.
-    Explain,
+    Explain {
+        /// Whether the reason is also written for each failed call that neither a promise nor a table refused.
+        errors: bool,
+    },
     /// The demands of each program on its sandbox in the run.
     Needs {
         /// Whether the calls that a promise or a table refused are left out.
@@ -48,6 +51,11 @@ pub enum TreeQuestion<'a> {
     },
     /// What can happen under any schedule on the machine that boots on the tree.
     Explore {
+        /// The maximum number of visited states: 0 counts as 1.
+        states: u32,
+    },
+    /// Which process can access what under any schedule on that machine.
+    Access {
         /// The maximum number of visited states: 0 counts as 1.
         states: u32,
     },

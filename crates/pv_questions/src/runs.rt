@@ -103,23 +103,24 @@ fn answer_audit<W: Sink>(
     report_verdict(&found, out)
 }
 
-// Writes the explained trace of the run.
+// Writes the explained trace of the run, with the reasons of errors if `errors`.
 fn answer_steps<W: Sink>(
     alloc: Global,
+    errors: bool,
     session: &mut Session,
     turns: &[(u32, u32)],
     out: &mut W,
 ) -> Result<(), AskStop>
     requires { length turns.now ≤ SCHEDULE_LINES }
-    ensures answered { OnOk result (WritesAnswer (run_answer Question.Explain (started_from session.old turns.now)) (W.written out.old) (W.written out.new)) }
+    ensures answered { OnOk result (WritesAnswer (run_answer (Question.Explain errors) (started_from session.old turns.now)) (W.written out.old) (W.written out.new)) }
     ensures empty { OnOk result (W.buffered out.new ≡ 0) }
-    ensures refused { IfErr result (AppearsInAnswer (run_answer Question.Explain (started_from session.old turns.now)) (W.written out.old) (W.written out.new)) }
+    ensures refused { IfErr result (AppearsInAnswer (run_answer (Question.Explain errors) (started_from session.old turns.now)) (W.written out.old) (W.written out.new)) }
     ensures kind { IfErr result IsAnswerStop }
     ensures stopped { IfErr result (λ stop. W.buffered out.old ≡ 0 → BufferedOnlyIfUnwritten stop (W.buffered out.new)) }
     ensures failed { result ≡ Err AskStop.Write → Rose (W.failures out.old) (W.failures out.new) }
 {
     let mut explainer = Explainer::new(alloc)?;
-    report_steps(alloc, &mut explainer, session, turns, out)
+    report_steps(alloc, &mut explainer, session, turns, errors, out)
 }
 
 // Writes the demands of each program in the run, or the calls that meet them.
@@ -166,7 +167,7 @@ fn answer<W: Sink>(
         Question::Trace => report_trace(alloc, session, turns, out),
         Question::State => answer_state(alloc, session, turns, out),
         Question::Reach(pid) => answer_reach(alloc, pid, session, turns, out),
-        Question::Explain => answer_steps(alloc, session, turns, out),
+        Question::Explain { errors } => answer_steps(alloc, errors, session, turns, out),
         Question::Needs { granted, lines } => {
             answer_needs(alloc, granted, lines, session, turns, out)
         }

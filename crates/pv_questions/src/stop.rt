@@ -21,6 +21,8 @@ pub enum AskStop {
     File(AuditFault),
     /// The sink failed.
     Write,
+    /// The whole text was written, but the search left a state out.
+    Incomplete,
 }
 
 impl From<RunFault> for AskStop {
@@ -73,6 +75,7 @@ impl fmt::Display for AskStop {
             Self::File(AuditFault::Walk(errno)) => write!(f, "cat: {errno}"),
             Self::File(AuditFault::NotFile) => write!(f, "cat: not a file"),
             Self::Write => write!(f, "write"),
+            Self::Incomplete => write!(f, "not complete"),
         }
     }
 }

@@ -1,8 +1,8 @@
 //! Questions about a tree.
 ghost use Rattle.std.specs.Prelude.{◌≡◌, ◌⊎◌, ◌≤◌, length, Ok, Err, IfOk, IfErr, IfSome, OnOk};
 ghost use Rattle.pv_model.specs.Stream.{Rose};
-ghost use Rattle.pv_questions.specs.Asking.{BufferedOnlyIfUnwritten, IsBundleStop, IsImageStop, IsTreeStop, AppearsInAnswer, WritesAnswer, WritesNothingUnlessStopped};
-ghost use Rattle.pv_questions.specs.Trees.{image_tree, image_tree_answer, manifest_tree, manifest_tree_answer, read_manifest_of, tree_answer, GivesManifestOf};
+ghost use Rattle.pv_questions.specs.Asking.{BufferedOnlyIfUnwritten, IsImageTreeStop, IsManifestTreeStop, IsTreeStop, AppearsInAnswer, ReportsComplete, WritesAnswer, WritesNothingUnlessStopped};
+ghost use Rattle.pv_questions.specs.Trees.{image_tree, image_tree_answer, image_tree_is_complete, manifest_tree, manifest_tree_answer, manifest_tree_is_complete, read_manifest_of, tree_answer, tree_is_complete, GivesManifestOf};
 ghost use Rattle.pv_run.specs.Machines.{IsBundleMachineFault, IsMachineFault, RefusesMachine};
 ghost use Rattle.pv_run.specs.Run.{IsStartFault, RefusesStart};
 ghost use Rattle.pv_streams.specs.Sources.{FailsToGive};
@@ -10,7 +10,9 @@ ghost use Rattle.pv_streams.specs.Sources.{FailsToGive};
 use crate::file::file_at;
 use crate::question::TreeQuestion;
 use crate::stop::AskStop;
-use crate::writers::{report_explore, report_file, report_graph, report_listing, report_turns};
+use crate::writers::{
+    report_access, report_explore, report_file, report_graph, report_listing, report_turns,
+};
 use pv_explore::{FirstMachine, Progress};
 use pv_image_manifest::{Bundle, Manifest, build};
 use pv_image_mount::mount;
@@ -81,7 +83,7 @@ fn answer_turns<W: Sink>(
     ensures answered { OnOk result (WritesAnswer (tree_answer (TreeQuestion.Turns slice steps) store) (W.written out.old) (W.written out.new)) }
     ensures empty { OnOk result (W.buffered out.new ≡ 0) }
     ensures refused { IfErr result (AppearsInAnswer (tree_answer (TreeQuestion.Turns slice steps) store) (W.written out.old) (W.written out.new)) }
-    ensures kind { IfErr result IsTreeStop }
+    ensures kind { IfErr result (IsTreeStop (TreeQuestion.Turns slice steps)) }
     ensures stopped { IfErr result (λ stop. W.buffered out.old ≡ 0 → BufferedOnlyIfUnwritten stop (W.buffered out.new)) }
     ensures failed { result ≡ Err AskStop.Write → Rose (W.failures out.old) (W.failures out.new) }
 {
@@ -104,16 +106,49 @@ fn answer_explore<W: Sink, P: Progress>(
     ensures answered { OnOk result (WritesAnswer (tree_answer (TreeQuestion.Explore states) store) (W.written out.old) (W.written out.new)) }
     ensures empty { OnOk result (W.buffered out.new ≡ 0) }
     ensures refused { IfErr result (AppearsInAnswer (tree_answer (TreeQuestion.Explore states) store) (W.written out.old) (W.written out.new)) }
-    ensures kind { IfErr result IsTreeStop }
+    ensures kind { IfErr result (IsTreeStop (TreeQuestion.Explore states)) }
     ensures stopped { IfErr result (λ stop. W.buffered out.old ≡ 0 → BufferedOnlyIfUnwritten stop (W.buffered out.new)) }
     ensures failed { result ≡ Err AskStop.Write → Rose (W.failures out.old) (W.failures out.new) }
+    ensures complete { ReportsComplete result (tree_is_complete (TreeQuestion.Explore states) store) }
 {
     store.invariant();
     let first_machine = match FirstMachine::new(alloc, store) {
         Ok(first_machine) => first_machine,
         Err(fault) => return Err(AskStop::Machine(RunFault::from(fault))),
     };
-    report_explore(alloc, &first_machine, states.max(1), progress, out)
+    match report_explore(alloc, &first_machine, states.max(1), progress, out) {
+        Ok(true) => Ok(()),
+        Ok(false) => Err(AskStop::Incomplete),
+        Err(stop) => Err(stop),
+    }
+}
+
+// Writes which process can access what under any schedule of that machine.
+fn answer_access<W: Sink, P: Progress>(
+    alloc: Global,
+    store: Store,
+    states: u32,
+    progress: &mut P,
+    out: &mut W,
+) -> Result<(), AskStop>
+    ensures answered { OnOk result (WritesAnswer (tree_answer (TreeQuestion.Access states) store) (W.written out.old) (W.written out.new)) }
+    ensures empty { OnOk result (W.buffered out.new ≡ 0) }
+    ensures refused { IfErr result (AppearsInAnswer (tree_answer (TreeQuestion.Access states) store) (W.written out.old) (W.written out.new)) }
+    ensures kind { IfErr result (IsTreeStop (TreeQuestion.Access states)) }
+    ensures stopped { IfErr result (λ stop. W.buffered out.old ≡ 0 → BufferedOnlyIfUnwritten stop (W.buffered out.new)) }
+    ensures failed { result ≡ Err AskStop.Write → Rose (W.failures out.old) (W.failures out.new) }
+    ensures complete { ReportsComplete result (tree_is_complete (TreeQuestion.Access states) store) }
+{
+    store.invariant();
+    let first_machine = match FirstMachine::new(alloc, store) {
+        Ok(first_machine) => first_machine,
+        Err(fault) => return Err(AskStop::Machine(RunFault::from(fault))),
+    };
+    match report_access(alloc, &first_machine, states.max(1), progress, out) {
+        Ok(true) => Ok(()),
+        Ok(false) => Err(AskStop::Incomplete),
+        Err(stop) => Err(stop),
+    }
 }
 
 // Writes the state graph of that machine.
@@ -128,16 +163,21 @@ fn answer_graph<W: Sink, P: Progress>(
     ensures answered { OnOk result (WritesAnswer (tree_answer (TreeQuestion.Graph states tree) store) (W.written out.old) (W.written out.new)) }
     ensures empty { OnOk result (W.buffered out.new ≡ 0) }
     ensures refused { IfErr result (AppearsInAnswer (tree_answer (TreeQuestion.Graph states tree) store) (W.written out.old) (W.written out.new)) }
-    ensures kind { IfErr result IsTreeStop }
+    ensures kind { IfErr result (IsTreeStop (TreeQuestion.Graph states tree)) }
     ensures stopped { IfErr result (λ stop. W.buffered out.old ≡ 0 → BufferedOnlyIfUnwritten stop (W.buffered out.new)) }
     ensures failed { result ≡ Err AskStop.Write → Rose (W.failures out.old) (W.failures out.new) }
+    ensures complete { ReportsComplete result (tree_is_complete (TreeQuestion.Graph states tree) store) }
 {
     store.invariant();
     let first_machine = match FirstMachine::new(alloc, store) {
         Ok(first_machine) => first_machine,
         Err(fault) => return Err(AskStop::Machine(RunFault::from(fault))),
     };
-    report_graph(alloc, &first_machine, states.max(1), tree, progress, out)
+    match report_graph(alloc, &first_machine, states.max(1), tree, progress, out) {
+        Ok(true) => Ok(()),
+        Ok(false) => Err(AskStop::Incomplete),
+        Err(stop) => Err(stop),
+    }
 }
 
 // Writes the bytes of the file at a path.
@@ -145,7 +185,7 @@ fn answer_file<W: Sink>(tree: &Tree, path: &[u8], out: &mut W) -> Result<(), Ask
     ensures answered { OnOk result (WritesAnswer (tree_answer (TreeQuestion.File path.entry) tree.now.tree) (W.written out.old) (W.written out.new)) }
     ensures empty { OnOk result (W.buffered out.new ≡ 0) }
     ensures refused { IfErr result (AppearsInAnswer (tree_answer (TreeQuestion.File path.entry) tree.now.tree) (W.written out.old) (W.written out.new)) }
-    ensures kind { IfErr result IsTreeStop }
+    ensures kind { IfErr result (IsTreeStop (TreeQuestion.File path.entry)) }
     ensures stopped { IfErr result (λ stop. W.buffered out.old ≡ 0 → BufferedOnlyIfUnwritten stop (W.buffered out.new)) }
     ensures failed { result ≡ Err AskStop.Write → Rose (W.failures out.old) (W.failures out.new) }
 {
@@ -166,15 +206,17 @@ fn answer<W: Sink, P: Progress>(
     ensures answered { OnOk result (WritesAnswer (tree_answer question.entry store) (W.written out.old) (W.written out.new)) }
     ensures empty { OnOk result (W.buffered out.new ≡ 0) }
     ensures refused { IfErr result (AppearsInAnswer (tree_answer question.entry store) (W.written out.old) (W.written out.new)) }
-    ensures kind { IfErr result IsTreeStop }
+    ensures kind { IfErr result (IsTreeStop question.entry) }
     ensures stopped { IfErr result (λ stop. W.buffered out.old ≡ 0 → BufferedOnlyIfUnwritten stop (W.buffered out.new)) }
     ensures failed { result ≡ Err AskStop.Write → Rose (W.failures out.old) (W.failures out.new) }
+    ensures complete { ReportsComplete result (tree_is_complete question.entry store) }
 {
     match question {
         TreeQuestion::Listing => report_listing(alloc, store.tree(), out),
         TreeQuestion::File(path) => answer_file(store.tree(), path, out),
         TreeQuestion::Turns { slice, steps } => answer_turns(alloc, store, slice, steps, out),
         TreeQuestion::Explore { states } => answer_explore(alloc, store, states, progress, out),
+        TreeQuestion::Access { states } => answer_access(alloc, store, states, progress, out),
         TreeQuestion::Graph { states, tree } => {
             answer_graph(alloc, store, states, tree, progress, out)
         }
@@ -183,17 +225,19 @@ fn answer<W: Sink, P: Progress>(
 
 /// Answers a question about the tree of an image.
 ///
-/// The image is read to its end, and it is checked before anything is written. For `Turns`, `Explore` and `Graph` the
-/// program of `init` is checked next. On success, `out` received exactly the text of the answer, all of it flushed. The
-/// searches of `Explore` and `Graph` report their progress to `progress`.
+/// The image is read to its end, and it is checked before anything is written. For `Turns`, `Explore`, `Access` and
+/// `Graph` the program of `init` is checked next. On success, `out` received exactly the text of the answer, all of it
+/// flushed. The searches of `Explore`, `Access` and `Graph` report their progress to `progress`.
 ///
 /// # Errors
 ///
 /// - `Machine`: a read failed, or the source gave more than 67,108,864 bytes (`Read`); or the first error of the image
-///   or, for `Turns`, `Explore` and `Graph`, of the program of `init`. Nothing was written. If there is no memory
-///   (`Memory`), a prefix of the text may have been written.
+///   or, for `Turns`, `Explore`, `Access` and `Graph`, of the program of `init`. Nothing was written. If there is no
+///   memory (`Memory`), a prefix of the text may have been written.
 /// - `File`: the path of `File` does not name a file. Nothing was written.
 /// - `Write`: a write failed. `out` received a prefix of the text.
+/// - `Incomplete`: the search of `Explore`, `Access` or `Graph` left a state out, because `states` states were visited.
+///   `out` received exactly the text.
 ///
 /// Except after `Write`, everything that was written is flushed.
 pub fn ask_tree<S: Source, W: Sink, P: Progress>(
@@ -205,7 +249,8 @@ pub fn ask_tree<S: Source, W: Sink, P: Progress>(
 ) -> Result<(), AskStop>
     ensures answered { OnOk result (IfSome (S.remaining image.old) (λ bytes. WritesAnswer (image_tree_answer question.entry bytes) (W.written out.old) (W.written out.new))) }
     ensures refused { IfErr result (λ stop. IfSome (S.remaining image.old) (λ bytes. AppearsInAnswer (image_tree_answer question.entry bytes) (W.written out.old) (W.written out.new) stop)) }
-    ensures kind { IfErr result IsImageStop }
+    ensures kind { IfErr result (IsImageTreeStop question.entry) }
+    ensures complete { IfSome (S.remaining image.old) (λ bytes. ReportsComplete result (image_tree_is_complete question.entry bytes)) }
 
     // `out` receives nothing but the answer, flushed, and each failed read or write is counted.
     ensures unwritten { IfErr result (WritesNothingUnlessStopped (W.written out.old) (W.written out.new)) }
@@ -233,7 +278,8 @@ pub fn ask_manifest<S: Source, W: Sink, P: Progress>(
 ) -> Result<(), AskStop>
     ensures answered { OnOk result (IfSome (S.remaining manifest.old) (λ bytes. WritesAnswer (manifest_tree_answer question.entry bytes) (W.written out.old) (W.written out.new))) }
     ensures refused { IfErr result (λ stop. IfSome (S.remaining manifest.old) (λ bytes. AppearsInAnswer (manifest_tree_answer question.entry bytes) (W.written out.old) (W.written out.new) stop)) }
-    ensures kind { IfErr result IsBundleStop }
+    ensures kind { IfErr result (IsManifestTreeStop question.entry) }
+    ensures complete { IfSome (S.remaining manifest.old) (λ bytes. ReportsComplete result (manifest_tree_is_complete question.entry bytes)) }
 
     // `out` receives nothing but the answer, flushed, and each failed read or write is counted.
     ensures unwritten { IfErr result (WritesNothingUnlessStopped (W.written out.old) (W.written out.new)) }

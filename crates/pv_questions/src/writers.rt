@@ -1,8 +1,9 @@
 //! Answers, written and flushed.
-ghost use Rattle.std.specs.Prelude.{◌≡◌, ◌⊎◌, ◌≤◌, [], length, Err, IfErr, OnOk, OnErr};
+ghost use Rattle.std.specs.Prelude.{◌≡◌, ◌⊎◌, ◌≤◌, [], length, Ok, Err, IfErr, IfOk, OnOk, OnErr};
 ghost use Rattle.pv_answers.specs.Reaching.{reached_by};
-ghost use Rattle.pv_model.specs.Answers.Explain.{explain_lines};
-ghost use Rattle.pv_model.specs.Answers.Explore.{explore_lines};
+ghost use Rattle.pv_explain.specs.Errors.{explained_lines};
+ghost use Rattle.pv_model.specs.Answers.Access.{access_lines};
+ghost use Rattle.pv_model.specs.Answers.Explore.{explore_lines, is_complete};
 ghost use Rattle.pv_model.specs.Answers.Graph.{graph_lines};
 ghost use Rattle.pv_model.specs.Answers.Lines.{answer_bytes};
 ghost use Rattle.pv_model.specs.Answers.ProcessRecord.{state_lines};
@@ -25,6 +26,7 @@ ghost use Rattle.pv_streams.specs.Sinks.{and_all, WritesPrefix};
 
 use crate::file::write_file;
 use crate::stop::AskStop;
+use pv_access::write_access;
 use pv_answers::{write_reach, write_reach_of, write_state};
 use pv_calls_state::Parts;
 use pv_explain::{Explainer, explain_schedule};
@@ -38,10 +40,11 @@ use pv_streams::Sink;
 use pv_tree::Tree;
 use std::alloc::Global;
 
-// Flushes the text of an answer: all of it, or a prefix if there is no memory.
-fn flush_buffer<T: Drop, W: Sink>(end: Result<T, Stop>, out: &mut W) -> Result<(), AskStop>
+// Flushes the text of an answer: all of it, or a prefix if there is no memory. Returns the value of a complete text.
+fn flush_buffer<T: Drop, W: Sink>(end: Result<T, Stop>, out: &mut W) -> Result<T, AskStop>
     ensures preserved { W.written out.new ≡ W.written out.old }
     ensures done { OnOk result (OnErr end ⊥) }
+    ensures value { IfOk result (λ value. end ≡ Ok value) }
     ensures empty { OnOk result (W.buffered out.new ≡ 0) }
     ensures kind { IfErr result IsWritingStop }
     ensures stopped { IfErr result (λ stop. BufferedOnlyIfUnwritten stop (W.buffered out.new)) }
@@ -49,9 +52,9 @@ fn flush_buffer<T: Drop, W: Sink>(end: Result<T, Stop>, out: &mut W) -> Result<(
     ensures counted { end ≡ Err Stop.Write → W.failures out.new ≡ W.failures out.old }
 {
     match end {
-        Ok(_) => {
+        Ok(value) => {
             out.flush()?;
-            Ok(())
+            Ok(value)
         }
         Err(Stop::Memory) => {
             out.flush()?;
@@ -185,25 +188,26 @@ pub(crate) fn report_trace<W: Sink>(
     flush_buffer(end, out)
 }
 
-// Writes the explained steps of a schedule.
+// Writes the explained steps of a schedule, with the reasons of errors if `errors`.
 #[tactic(auto, using(pv_streams::proofs::Sinks::begins_whole))]
 pub(crate) fn report_steps<W: Sink>(
     alloc: Global,
     explainer: &mut Explainer,
     session: &mut Session,
     turns: &[(u32, u32)],
+    errors: bool,
     out: &mut W,
 ) -> Result<(), AskStop>
     requires lines { length turns.now ≤ SCHEDULE_LINES }
     requires fresh { explainer.old ≡ [] }
-    ensures whole { OnOk result (W.written out.new ≡ and_all (W.written out.old) (answer_bytes (explain_lines program_of (steps_of turns.now) session.old))) }
-    ensures prefix { OnErr result (WritesPrefix (answer_bytes (explain_lines program_of (steps_of turns.now) session.old)) (W.written out.old) (W.written out.new)) }
+    ensures whole { OnOk result (W.written out.new ≡ and_all (W.written out.old) (answer_bytes (explained_lines errors (steps_of turns.now) session.old))) }
+    ensures prefix { OnErr result (WritesPrefix (answer_bytes (explained_lines errors (steps_of turns.now) session.old)) (W.written out.old) (W.written out.new)) }
     ensures empty { OnOk result (W.buffered out.new ≡ 0) }
     ensures kind { IfErr result IsWritingStop }
     ensures stopped { IfErr result (λ stop. BufferedOnlyIfUnwritten stop (W.buffered out.new)) }
     ensures failed { result ≡ Err AskStop.Write → Rose (W.failures out.old) (W.failures out.new) }
 {
-    let end = explain_schedule(alloc, session, explainer, turns, out);
+    let end = explain_schedule(alloc, session, explainer, turns, errors, out);
     flush_buffer(end, out)
 }
 
@@ -306,7 +310,7 @@ pub(crate) fn report_explore<W: Sink, P: Progress>(
     states: u32,
     progress: &mut P,
     out: &mut W,
-) -> Result<(), AskStop>
+) -> Result<bool, AskStop>
     requires { 1 ≤ states }
     ensures whole { OnOk result (W.written out.new ≡ and_all (W.written out.old) (answer_bytes (explore_lines program_of states first_machine.now))) }
     ensures prefix { OnErr result (WritesPrefix (answer_bytes (explore_lines program_of states first_machine.now)) (W.written out.old) (W.written out.new)) }
@@ -314,8 +318,31 @@ pub(crate) fn report_explore<W: Sink, P: Progress>(
     ensures kind { IfErr result IsWritingStop }
     ensures stopped { IfErr result (λ stop. BufferedOnlyIfUnwritten stop (W.buffered out.new)) }
     ensures failed { result ≡ Err AskStop.Write → Rose (W.failures out.old) (W.failures out.new) }
+    ensures complete { IfOk result (λ complete. complete ≡ is_complete program_of states first_machine.now) }
 {
     let end = write_explore(alloc, first_machine, states, progress, out);
+    flush_buffer(end, out)
+}
+
+// Writes which process can access what under any schedule of a machine.
+#[tactic(auto, using(pv_streams::proofs::Sinks::begins_whole))]
+pub(crate) fn report_access<W: Sink, P: Progress>(
+    alloc: Global,
+    first_machine: &FirstMachine,
+    states: u32,
+    progress: &mut P,
+    out: &mut W,
+) -> Result<bool, AskStop>
+    requires { 1 ≤ states }
+    ensures whole { OnOk result (W.written out.new ≡ and_all (W.written out.old) (answer_bytes (access_lines program_of states first_machine.now))) }
+    ensures prefix { OnErr result (WritesPrefix (answer_bytes (access_lines program_of states first_machine.now)) (W.written out.old) (W.written out.new)) }
+    ensures empty { OnOk result (W.buffered out.new ≡ 0) }
+    ensures kind { IfErr result IsWritingStop }
+    ensures stopped { IfErr result (λ stop. BufferedOnlyIfUnwritten stop (W.buffered out.new)) }
+    ensures failed { result ≡ Err AskStop.Write → Rose (W.failures out.old) (W.failures out.new) }
+    ensures complete { IfOk result (λ complete. complete ≡ is_complete program_of states first_machine.now) }
+{
+    let end = write_access(alloc, first_machine, states, progress, out);
     flush_buffer(end, out)
 }
 
@@ -328,7 +355,7 @@ pub(crate) fn report_graph<W: Sink, P: Progress>(
     tree: bool,
     progress: &mut P,
     out: &mut W,
-) -> Result<(), AskStop>
+) -> Result<bool, AskStop>
     requires { 1 ≤ states }
     ensures whole { OnOk result (W.written out.new ≡ and_all (W.written out.old) (answer_bytes (graph_lines program_of states tree first_machine.now))) }
     ensures prefix { OnErr result (WritesPrefix (answer_bytes (graph_lines program_of states tree first_machine.now)) (W.written out.old) (W.written out.new)) }
@@ -336,6 +363,7 @@ pub(crate) fn report_graph<W: Sink, P: Progress>(
     ensures kind { IfErr result IsWritingStop }
     ensures stopped { IfErr result (λ stop. BufferedOnlyIfUnwritten stop (W.buffered out.new)) }
     ensures failed { result ≡ Err AskStop.Write → Rose (W.failures out.old) (W.failures out.new) }
+    ensures complete { IfOk result (λ complete. complete ≡ is_complete program_of states first_machine.now) }
 {
     let end = write_graph(alloc, first_machine, states, tree, progress, out);
     flush_buffer(end, out)

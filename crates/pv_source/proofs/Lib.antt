@@ -1,6 +1,8 @@
 -- Lemmas of sources: SourceWords (the words of a line), SourceLines (lines with words, and the lines of a body),
 -- SourceBlocks (blocks), SourceEntries (the entries of blocks), SourcePrograms (labels and instructions), ReportedLines
--- (the lines that are reported), SaidBytes (their messages), WrittenTexts (the translation).
+-- (the lines that are reported), SaidBytes (their messages), WrittenTexts (the translation), LocatedLines (the
+-- instructions with their lines).
+pub mod LocatedLines
 pub mod SaidBytes
 pub mod SourceBlocks
 pub mod SourceEntries

@@ -1,4 +1,5 @@
 pub mod LineCheck
+pub mod Located
 pub mod Outcome
 pub mod ReadBlocks
 pub mod ReadEntries

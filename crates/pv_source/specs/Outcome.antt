@@ -6,9 +6,12 @@ use Rattle.pv_model.specs.declared.run_fault.RunFault.{RunFault}
 use Rattle.pv_model.specs.declared.run_fault.RunFault.TheVariants.{Memory as MemoryFault}
 use Rattle.pv_model.specs.Bytes.{Bytes}
 use Rattle.pv_source.specs.declared.faults.Fault.{Fault}
+use Rattle.pv_source.specs.declared.source.Output.{Output}
+use Rattle.pv_source.specs.declared.source.Output.TheVariants.{Translation, ProgramLines}
 use Rattle.pv_source.specs.declared.source.SourceStop.{SourceStop}
 use Rattle.pv_source.specs.declared.source.SourceStop.TheVariants.{Read, Memory}
 use Rattle.pv_model.specs.Source.Judged.{read_source}
+use Rattle.pv_source.specs.Located.{located_lines}
 use Rattle.pv_source.specs.Saying.{IsPrintable}
 use Rattle.pv_streams.specs.Sinks.{and_all, WritesPrefix}
 
@@ -26,18 +29,23 @@ fault_lines name reported = flat_map (fault_line name) reported
 abbrev pub AreLines : List (ℕ × Bytes) → Type 0
 AreLines reported = AllByRecursion (λ t. IsPrintable t.1) reported
 
--- the translation of a source was written
-abbrev pub WritesText : Bytes → Option Bytes → Option Bytes → Type 0
-WritesText source before after = (text : Bytes) × (read_source source ≡ Ok text) × (after ≡ and_all before text)
+-- the output for a source that translates to a text
+abbrev pub output_of : Output → Bytes → Bytes → Bytes
+output_of Translation source text = text
+output_of ProgramLines source text = located_lines source
+
+-- the output for a source without errors was written
+abbrev pub WritesText : Output → Bytes → Option Bytes → Option Bytes → Type 0
+WritesText output source before after = (text : Bytes) × (read_source source ≡ Ok text) × (after ≡ and_all before (output_of output source text))
 
 -- the lines with errors were reported in order, each in a line with a message
 abbrev pub ReportsFaults : Bytes → Bytes → Option Bytes → Option Bytes → Type 0
 ReportsFaults name source before after =
     (reported : List (ℕ × Bytes)) × (read_source source ≡ Err (map (λ t. t.0) reported)) × (after ≡ and_all before (fault_lines name reported)) × AreLines reported
 
--- a prefix of the translation, or of the report, was written
-abbrev pub BeginsText : Bytes → Option Bytes → Option Bytes → Type 0
-BeginsText source before after = (text : Bytes) × (read_source source ≡ Ok text) × WritesPrefix text before after
+-- a prefix of the output, or of the report, was written
+abbrev pub BeginsText : Output → Bytes → Option Bytes → Option Bytes → Type 0
+BeginsText output source before after = (text : Bytes) × (read_source source ≡ Ok text) × WritesPrefix (output_of output source text) before after
 
 abbrev pub BeginsFaults : Bytes → Bytes → Option Bytes → Option Bytes → Type 0
 BeginsFaults name source before after =

@@ -1,5 +1,5 @@
 -- The warnings about a source without errors: the lines with a pledge(2) that names a promise which does not exist.
-use Rattle.std.specs.Prelude.{◌≡◌, ℕ, Bool, false, ◌||◌, if◌then◌else◌, List, [], ◌++◌, map, flat_map, take, is_none, Option, None, Some, Result, Ok}
+use Rattle.std.specs.Prelude.{◌≡◌, ℕ, Bool, false, ◌||◌, if◌then◌else◌, List, [], map, flat_map, take, is_none, Option, None, Some, Result, Ok}
 use Rattle.pv_model.specs.declared.fault.What.{What}
 use Rattle.pv_model.specs.declared.instruction.Instruction.{Instruction}
 use Rattle.pv_model.specs.declared.instruction.Instruction.TheVariants.{Pledge}
@@ -8,11 +8,11 @@ use Rattle.pv_model.specs.Answers.Lines.{spaced}
 use Rattle.pv_model.specs.Bytes.{Bytes}
 use Rattle.pv_model.specs.Grammar.Instructions.{instruction_of}
 use Rattle.pv_model.specs.Promises.{read_promises}
-use Rattle.pv_model.specs.Source.Blocks.{Block, single, program, taken, cut_off, schedule, blocks_of}
+use Rattle.pv_model.specs.Source.Blocks.{Block, program, taken, blocks_of}
 use Rattle.pv_model.specs.Source.Judged.{REPORTED, is_init, second_text}
 use Rattle.pv_model.specs.Source.Programs.{LabelledLine, labelled_lines, reported_if}
 use Rattle.pv_model.specs.Source.Words.{NumberedLine}
-use Rattle.pv_source.specs.Outcome.{AreLines, WritesText, fault_lines}
+use Rattle.pv_source.specs.Outcome.{AreLines, fault_lines}
 use Rattle.pv_streams.specs.Sinks.{WritesPrefix, and_all}
 
 -- a word of a promises argument is no keyword

@@ -1,7 +1,8 @@
--- A worked example: the lines of a source that are warned of.
+-- Worked examples: the lines of a source that are warned of, and the lines of its programs.
 use Rattle.std.specs.Prelude.{◌≡◌, [], ◌∷◌, codes, refl}
 use Rattle.pv_model.specs.Source.OnLiterals.{sources_on_literals}
 use Rattle.pv_laws_worked.specs.Bundles.{lines_text}
+use Rattle.pv_source.specs.Located.{located_lines}
 use Rattle.pv_source.specs.Warnings.{warned_lines}
 
 -- each program up to END, and `/init`, but no other file
@@ -20,9 +21,36 @@ pub unknown_promises_are_warned_of : warned_lines (lines_text (
 unfolding sources_on_literals warned_lines
 unknown_promises_are_warned_of = refl
 
+-- lines without an instruction have no number, labels are replaced, and a last label gets an `exit 0`; lines that are
+-- copied stay as they are
+pub lines_have_their_numbers : located_lines (lines_text (
+    codes "image 16 16 # the sizes" ∷
+    codes "dir \"/bin\"" ∷
+    codes "exec \"/bin/a b\" <<END" ∷
+    codes "  # a comment" ∷
+    codes "again: getpid" ∷
+    codes "" ∷
+    codes "jnz   again # a jump" ∷
+    codes "end:" ∷
+    codes "END" ∷
+    codes "bytes \"/data\" \"1\"" ∷
+    codes "exec \"/init\" 2" ∷
+    codes "fork" ∷
+    codes "exit 0" ∷
+    codes "schedule" ∷
+    codes "1" ∷ [])) ≡ lines_text (
+    codes "5 \"/bin/a b\":1 getpid" ∷
+    codes "7 \"/bin/a b\":2 jnz 1" ∷
+    codes "8 \"/bin/a b\":3 exit 0" ∷
+    codes "12 \"/init\":1 fork" ∷
+    codes "13 \"/init\":2 exit 0" ∷ [])
+unfolding sources_on_literals located_lines
+lines_have_their_numbers = refl
+
 -- the statement of a theorem
 abbrev pub Stated : {A : Type 0} → A → Type 0
 Stated {A} theorem = A
 
 pub record AllWorked : Type 0 where
   pub unknown_promises_are_warned_of : Stated unknown_promises_are_warned_of
+  pub lines_have_their_numbers : Stated lines_have_their_numbers

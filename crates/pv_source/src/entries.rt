@@ -54,8 +54,8 @@ fn has_three_words(words: &[u8]) -> bool
     has_no_word(rest)
 }
 
-// Returns the path of an `exec` line of the right form.
-fn exec_path(words: &[u8]) -> Option<Text>
+/// Returns the path of an `exec` line of the right form.
+pub fn exec_path(words: &[u8]) -> Option<Text>
     ensures { result ≡ exec_path (words_from words.now between) }
 {
     if !has_three_words(words) {

@@ -6,7 +6,8 @@
 //! checks the lines of programs and of the schedule, `so_far` the lines of the manifest with the tree that they build,
 //! and `whole` the whole source. `faults` collects the errors, and `explaining` writes their messages, each proved to
 //! be one printable line. `warnings` finds what is valid but fails in every run. `texts` produces the translated text,
-//! and `source` reads a source and writes the result. `worked` states what the definitions compute on small sources.
+//! `located` the lines of the programs with their places, and `source` reads a source and writes the result;
+//! `translation` does so in memory. `worked` states what the definitions compute on small sources.
 #![tactic(auto)]
 
 mod blocks;
@@ -15,10 +16,12 @@ mod explaining;
 mod faults;
 mod judging;
 mod lines;
+mod located;
 mod programs;
 mod so_far;
 mod source;
 mod texts;
+mod translation;
 mod warnings;
 mod whole;
 mod words;
@@ -26,8 +29,10 @@ mod worked;
 
 pub use explaining::Saying;
 pub use faults::{Fault, Faults, REPORTED};
-pub use source::{SourceStop, write_source};
+pub use located::{located_lines, numbers_are_of_the_translation};
+pub use source::{Output, SourceStop, write_source};
 pub use texts::text_of;
+pub use translation::translate;
 pub use warnings::warnings_of;
 pub use whole::faults_of;
 pub use worked::worked_sources_are_as_they_are_written;

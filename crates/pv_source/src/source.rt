@@ -1,9 +1,9 @@
-//! Reading a source to its end and writing its translation.
+//! Reading a source to its end and writing its translation, or the lines of its programs.
 ghost use Rattle.std.specs.Prelude.{◌≡◌, ◌≢◌, ◌⊎◌, ◌++◌, ◌+◌, ◌<◌, ◌≤◌, ◌^◌, [], length, map, IfOk, IfErr, IfSome, OnOk, Err};
 ghost use Rattle.pv_model.specs.Source.Blocks.{blocks_of};
 ghost use Rattle.pv_model.specs.Source.Written.{text_of_blocks};
 ghost use Rattle.pv_model.specs.Stream.{Rose};
-ghost use Rattle.pv_source.specs.Outcome.{reported_of, fault_line, fault_lines, AreLines, WritesText, ReportsFaults, BeginsText, BeginsFaults, IsBefore, stop_of};
+ghost use Rattle.pv_source.specs.Outcome.{reported_of, fault_line, fault_lines, output_of, AreLines, WritesText, ReportsFaults, BeginsText, BeginsFaults, IsBefore, stop_of};
 ghost use Rattle.pv_source.specs.Saying.{IsPrintable};
 ghost use Rattle.pv_source.specs.Warnings.{BeginsWarnings, Warns, warned_lines};
 ghost use Rattle.pv_source.specs.declared.source.SourceStop.TheVariants.{Memory as MemoryStop, Write as WriteStop};
@@ -11,6 +11,7 @@ ghost use Rattle.pv_streams.specs.Sinks.{WritesPrefix, and_all};
 ghost use Rattle.pv_streams.specs.Sources.{FailsToGive};
 
 use crate::faults::Fault;
+use crate::located::located_lines;
 use crate::texts::text_of;
 use crate::warnings::warnings_of;
 use crate::whole::faults_of;
@@ -19,7 +20,17 @@ use pv_model::{Failed, ManifestFault, RunFault};
 use pv_streams::{SOURCE_BYTES, Sink, Source, read_whole, write_through};
 use std::alloc::{AllocError, Global};
 
-/// Why the translation of a source was not written.
+/// The output for a source without errors.
+#[derive(Clone, Copy, Debug, PartialEq, Eq)]
+pub enum Output {
+    /// The manifest or bundle that the source translates to.
+    Translation,
+    /// A line for each instruction of the programs: its line in the source, the path of the program as a text, `:` with
+    /// its line in the program, and the instruction as it is written in the translation.
+    ProgramLines,
+}
+
+/// Why the output for a source was not written.
 #[derive(Clone, Copy, Debug, PartialEq, Eq)]
 pub enum SourceStop {
     /// The source cannot be read, or has more than 67,108,864 bytes.
@@ -28,7 +39,7 @@ pub enum SourceStop {
     Memory,
     /// Lines have errors, which were reported.
     Refused,
-    /// A write of the translation or of the errors failed.
+    /// A write of the output or of the errors failed.
     Write,
 }
 
@@ -83,7 +94,11 @@ fn push_fault(name: &[u8], fault: &Fault, out: &mut Vec<u8>) -> Result<(), Alloc
 }
 
 // Returns the text that reports errors, one line each.
-fn faults_text(alloc: Global, name: &[u8], reported: &[Fault]) -> Result<Vec<u8>, AllocError>
+pub(crate) fn faults_text(
+    alloc: Global,
+    name: &[u8],
+    reported: &[Fault],
+) -> Result<Vec<u8>, AllocError>
     ensures text { IfOk result (λ text. text.items ≡ fault_lines name.now (map reported_of reported.now)) }
     ensures lines { OnOk result (AreLines (map reported_of reported.now)) }
 {
@@ -94,27 +109,39 @@ fn faults_text(alloc: Global, name: &[u8], reported: &[Fault]) -> Result<Vec<u8>
     Ok(text)
 }
 
-// Writes the translation of a source without errors, and then reports its warnings.
+// Returns the output for a source without errors.
+fn output_of(alloc: Global, output: Output, source: &[u8]) -> Result<Vec<u8>, AllocError>
+    requires { length source.now + 1 < 2 ^ 31 }
+    ensures { IfOk result (λ text. text.items ≡ output_of output source.now (text_of_blocks (blocks_of source.now))) }
+{
+    match output {
+        Output::Translation => text_of(alloc, source),
+        Output::ProgramLines => located_lines(alloc, source),
+    }
+}
+
+// Writes the output for a source without errors, and then reports its warnings.
 fn write_right<W: Sink, E: Sink>(
     alloc: Global,
+    output: Output,
     name: &[u8],
     source: &[u8],
     out: &mut W,
     reported: &mut E,
 ) -> Result<(), SourceStop>
     requires { length source.now + 1 < 2 ^ 31 }
-    ensures written { OnOk result (W.written out.new ≡ and_all (W.written out.old) (text_of_blocks (blocks_of source.now))) }
+    ensures written { OnOk result (W.written out.new ≡ and_all (W.written out.old) (output_of output source.now (text_of_blocks (blocks_of source.now)))) }
     ensures warned { OnOk result (Warns name.now source.now (E.written reported.old) (E.written reported.new)) }
     ensures silent { OnOk result (warned_lines source.now ≡ [] → reported.new ≡ reported.old) }
     ensures empty { OnOk result (W.buffered out.new ≡ 0) }
     ensures kind { IfErr result (λ stop. (stop ≡ SourceStop.Memory) ⊎ (stop ≡ SourceStop.Write)) }
     ensures stopped { result ≡ Err SourceStop.Memory → (out.new ≡ out.old) × (reported.new ≡ reported.old) }
     ensures write { result ≡ Err SourceStop.Write → (Rose (W.failures out.old) (W.failures out.new) × (reported.new ≡ reported.old))
-        ⊎ (Rose (E.failures reported.old) (E.failures reported.new) × (W.written out.new ≡ and_all (W.written out.old) (text_of_blocks (blocks_of source.now)))) }
-    ensures begun { result ≡ Err SourceStop.Write → (WritesPrefix (text_of_blocks (blocks_of source.now)) (W.written out.old) (W.written out.new) × (reported.new ≡ reported.old))
-        ⊎ (BeginsWarnings name.now source.now (E.written reported.old) (E.written reported.new) × (W.written out.new ≡ and_all (W.written out.old) (text_of_blocks (blocks_of source.now)))) }
+        ⊎ (Rose (E.failures reported.old) (E.failures reported.new) × (W.written out.new ≡ and_all (W.written out.old) (output_of output source.now (text_of_blocks (blocks_of source.now))))) }
+    ensures begun { result ≡ Err SourceStop.Write → (WritesPrefix (output_of output source.now (text_of_blocks (blocks_of source.now))) (W.written out.old) (W.written out.new) × (reported.new ≡ reported.old))
+        ⊎ (BeginsWarnings name.now source.now (E.written reported.old) (E.written reported.new) × (W.written out.new ≡ and_all (W.written out.old) (output_of output source.now (text_of_blocks (blocks_of source.now))))) }
 {
-    let text = text_of(alloc, source)?;
+    let text = output_of(alloc, output, source)?;
     let warnings = warnings_of(alloc, source)?;
     let warned = faults_text(alloc, name, warnings.reported())?;
     write_through(out, &text)?;
@@ -125,16 +152,17 @@ fn write_right<W: Sink, E: Sink>(
     Ok(())
 }
 
-// Writes the translation of a source, or reports the lines with errors.
+// Writes the output for a source, or reports the lines with errors.
 fn write_bytes<W: Sink, E: Sink>(
     alloc: Global,
+    output: Output,
     name: &[u8],
     source: &[u8],
     out: &mut W,
     reported: &mut E,
 ) -> Result<(), SourceStop>
     requires { length source.now ≤ SOURCE_BYTES }
-    ensures written { OnOk result (WritesText source.now (W.written out.old) (W.written out.new)) }
+    ensures written { OnOk result (WritesText output source.now (W.written out.old) (W.written out.new)) }
     ensures refused { result ≡ Err SourceStop.Refused → ReportsFaults name.now source.now (E.written reported.old) (E.written reported.new) }
     ensures empty { OnOk result (W.buffered out.new ≡ 0) }
     ensures unwritten { result ≡ Err SourceStop.Refused → out.new ≡ out.old }
@@ -143,42 +171,43 @@ fn write_bytes<W: Sink, E: Sink>(
     ensures unread { result ≢ Err SourceStop.Read }
     ensures stopped { result ≡ Err SourceStop.Memory → (out.new ≡ out.old) × (reported.new ≡ reported.old) }
     ensures write { result ≡ Err SourceStop.Write → (Rose (W.failures out.old) (W.failures out.new) × (reported.new ≡ reported.old))
-        ⊎ (Rose (E.failures reported.old) (E.failures reported.new) × ((out.new ≡ out.old) ⊎ WritesText source.now (W.written out.old) (W.written out.new))) }
-    ensures begun { result ≡ Err SourceStop.Write → (BeginsText source.now (W.written out.old) (W.written out.new) × (reported.new ≡ reported.old))
+        ⊎ (Rose (E.failures reported.old) (E.failures reported.new) × ((out.new ≡ out.old) ⊎ WritesText output source.now (W.written out.old) (W.written out.new))) }
+    ensures begun { result ≡ Err SourceStop.Write → (BeginsText output source.now (W.written out.old) (W.written out.new) × (reported.new ≡ reported.old))
         ⊎ ((BeginsFaults name.now source.now (E.written reported.old) (E.written reported.new) × (out.new ≡ out.old))
-        ⊎ (BeginsWarnings name.now source.now (E.written reported.old) (E.written reported.new) × WritesText source.now (W.written out.old) (W.written out.new))) }
+        ⊎ (BeginsWarnings name.now source.now (E.written reported.old) (E.written reported.new) × WritesText output source.now (W.written out.old) (W.written out.new))) }
 {
     let faults = faults_of(alloc, source)?;
     if faults.is_empty() {
-        return write_right(alloc, name, source, out, reported);
+        return write_right(alloc, output, name, source, out, reported);
     }
     let text = faults_text(alloc, name, faults.reported())?;
     write_through(reported, &text)?;
     Err(SourceStop::Refused)
 }
 
-/// Reads a source to its end, and writes the manifest or bundle that it translates to, to `out`. Then the first twenty
-/// lines with a pledge(2) that names a promise which does not exist are reported in order on `reported`, each in a line
-/// `pvsim: NAME:LINE: WHAT`. If lines have errors, nothing is written to `out`, and the first twenty of them are
-/// reported instead. Each sink that was written to is flushed.
+/// Reads a source to its end, and writes its output to `out`: the manifest or bundle that it translates to, or the
+/// lines of its programs. Then the first twenty lines with a pledge(2) that names a promise which does not exist are
+/// reported in order on `reported`, each in a line `pvsim: NAME:LINE: WHAT`. If lines have errors, nothing is written
+/// to `out`, and the first twenty of them are reported instead. Each sink that was written to is flushed.
 ///
 /// # Errors
 ///
 /// - `Read`: a read failed, or the source has more than 67,108,864 bytes.
 /// - `Refused`: lines have errors, which were reported.
 /// - `Memory`: memory cannot be allocated.
-/// - `Write`: a write of the translation, of the errors or of the warnings failed. The sink has received a prefix of it,
-///   and nothing was written to the other sink, except that warnings follow the whole translation.
+/// - `Write`: a write of the output, of the errors or of the warnings failed. The sink has received a prefix of it,
+///   and nothing was written to the other sink, except that warnings follow the whole output.
 ///
 /// If the error is `Read` or `Memory`, nothing was written.
 pub fn write_source<S: Source, W: Sink, E: Sink>(
     alloc: Global,
+    output: Output,
     name: &[u8],
     source: &mut S,
     out: &mut W,
     reported: &mut E,
 ) -> Result<(), SourceStop>
-    ensures written { OnOk result (IfSome (S.remaining source.old) (λ bytes. WritesText bytes (W.written out.old) (W.written out.new))) }
+    ensures written { OnOk result (IfSome (S.remaining source.old) (λ bytes. WritesText output bytes (W.written out.old) (W.written out.new))) }
     ensures refused { result ≡ Err SourceStop.Refused → IfSome (S.remaining source.old) (λ bytes. ReportsFaults name.now bytes (E.written reported.old) (E.written reported.new)) }
     ensures empty { OnOk result (W.buffered out.new ≡ 0) }
 
@@ -189,13 +218,13 @@ pub fn write_source<S: Source, W: Sink, E: Sink>(
     ensures read { result ≡ Err SourceStop.Read → FailsToGive S.Source source.old source.new }
     ensures stopped { IfErr result (λ stop. IsBefore stop → (out.new ≡ out.old) × (reported.new ≡ reported.old)) }
 
-    // After a failed write nothing was written to the other sink, except that warnings follow the whole text.
+    // After a failed write nothing was written to the other sink, except that warnings follow the whole output.
     ensures write { result ≡ Err SourceStop.Write → IfSome (S.remaining source.old) (λ bytes. (Rose (W.failures out.old) (W.failures out.new) × (reported.new ≡ reported.old))
-        ⊎ (Rose (E.failures reported.old) (E.failures reported.new) × ((out.new ≡ out.old) ⊎ WritesText bytes (W.written out.old) (W.written out.new)))) }
-    ensures begun { result ≡ Err SourceStop.Write → IfSome (S.remaining source.old) (λ bytes. (BeginsText bytes (W.written out.old) (W.written out.new) × (reported.new ≡ reported.old))
+        ⊎ (Rose (E.failures reported.old) (E.failures reported.new) × ((out.new ≡ out.old) ⊎ WritesText output bytes (W.written out.old) (W.written out.new)))) }
+    ensures begun { result ≡ Err SourceStop.Write → IfSome (S.remaining source.old) (λ bytes. (BeginsText output bytes (W.written out.old) (W.written out.new) × (reported.new ≡ reported.old))
         ⊎ ((BeginsFaults name.now bytes (E.written reported.old) (E.written reported.new) × (out.new ≡ out.old))
-        ⊎ (BeginsWarnings name.now bytes (E.written reported.old) (E.written reported.new) × WritesText bytes (W.written out.old) (W.written out.new)))) }
+        ⊎ (BeginsWarnings name.now bytes (E.written reported.old) (E.written reported.new) × WritesText output bytes (W.written out.old) (W.written out.new)))) }
 {
     let bytes = read_whole(alloc, source)?;
-    write_bytes(alloc, name, &bytes, out, reported)
+    write_bytes(alloc, output, name, &bytes, out, reported)
 }

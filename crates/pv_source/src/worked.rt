@@ -1,4 +1,4 @@
-//! Worked examples: what the definitions of warnings compute on small sources.
+//! Worked examples: what the definitions of warnings and of the lines of programs compute on small sources.
 ghost use Rattle.pv_source.specs.Worked.{AllWorked};
 
 /// Every worked example holds: the definitions compute exactly the lines that `specs/Worked.antt` states.

@@ -1,12 +1,14 @@
 -- Numbers appended in sequence.
-use Rattle.std.proofs.Common.{◌≡◌, ◌∙◌, sym, ap, ℕ, zero, suc, ◌+◌, ◌-◌, ◌*◌, ◌^◌, ◌/◌, ◌%◌, ◌<◌, ◌≤◌, if◌then◌else◌, true, false, nat_lt, List, [], ◌∷◌, ◌++◌, length, take, get_or, append_assoc, append-nil, flat_map, refl, subst, pow-suc, arith}
+use Rattle.std.proofs.Common.{◌≡◌, ◌∙◌, sym, ap, ap₂, ℕ, zero, suc, ◌+◌, ◌-◌, ◌*◌, ◌^◌, ◌/◌, ◌%◌, ◌<◌, ◌≤◌, if◌then◌else◌, true, false, nat_lt, List, [], ◌∷◌, ◌++◌, length, take, get_or, append_assoc, append-nil, flat_map, refl, subst, pow-suc, arith}
+use Rattle.std.specs.List.{list_all}
+use Rattle.std.proofs.lemmas.Bool.{and_parts}
 use Rattle.std.proofs.lemmas.Bool.Decides.{nat_tests}
 use Rattle.std.proofs.lemmas.Grind.{flat_map-append}
 use Rattle.std.proofs.lemmas.List.{take_more}
 use Rattle.std.proofs.Math.Seq.{take-length}
 use Rattle.pv_model.specs.Answers.Numbers.{Numbers}
 use Rattle.pv_model.specs.Bytes.{Bytes}
-use Rattle.pv_state_encoding.specs.Packed.{packed_in, packed, packed_all, IsAdded}
+use Rattle.pv_state_encoding.specs.Packed.{packed_in, packed, packed_all, is_small, IsAdded}
 
 -- ---- the bytes of one number
 
@@ -65,6 +67,20 @@ added_more ns i n old middle new within is first second =
 
 pub added_all : (ns : Numbers) (old new : Bytes) → IsAdded (take (length ns) ns) old new → IsAdded ns old new
 added_all ns old new added = subst (λ (ms : Numbers). IsAdded ms old new) (take-length ns) added
+
+-- ---- bytes that are encoded as themselves
+
+small-itself : (n : ℕ) → is_small n ≡ true → packed n ≡ n ∷ []
+small-itself n small = packed-is n ∙ packed-small 9 n (grind (arith, nat_tests, small))
+
+packed-each_small : (ns : Numbers) → list_all is_small ns ≡ true → packed_all ns ≡ ns
+packed-each_small [] small = refl
+packed-each_small (n ∷ ns) small =
+    let parts = and_parts (is_small n) (list_all is_small ns) small in
+    ap₂ (λ (bs cs : Bytes). bs ++ cs) (small-itself n parts.0) (packed-each_small ns parts.1)
+
+pub added_small : (bytes old new : Bytes) → list_all is_small bytes ≡ true → new ≡ old ++ bytes → IsAdded bytes old new
+added_small bytes old new small is = record { is = is ∙ ap (λ bs. old ++ bs) (sym (packed-each_small bytes small)) }
 
 -- ---- lists
 

@@ -1,7 +1,7 @@
 -- The groups of a state: nodes group by group, and the concatenation of all groups.
-use Rattle.std.proofs.Common.{◌≡◌, ◌∙◌, sym, ap, ap₂, ℕ, zero, suc, ◌+◌, ◌-◌, ◌<◌, ◌≤◌, ◌⊎◌, inl, inr, List, [], ◌∷◌, ◌++◌, length, map, take, drop, get_or, flat_map, append_assoc, append-nil, add-one, refl, arith}
+use Rattle.std.proofs.Common.{◌≡◌, ◌∙◌, sym, ap, ap₂, ℕ, zero, suc, ◌+◌, ◌-◌, ◌<◌, ◌≤◌, ◌⊎◌, inl, inr, List, [], ◌∷◌, ◌++◌, length, map, take, drop, get_or, flat_map, Option, None, Some, IsSome, append_assoc, append-nil, add-one, refl, arith}
 use Rattle.std.proofs.lemmas.Grind.{flat_map-append}
-use Rattle.std.proofs.lemmas.List.{drop-drop, drop_all, length-drop, map-append, take-append-drop, take_all}
+use Rattle.std.proofs.lemmas.List.{drop-drop, drop_all, length-drop, take-append-drop, take_all}
 use Rattle.std.proofs.Math.Seq.{drop-cons}
 use Rattle.pv_model.specs.Answers.Numbers.{Numbers, bytes_numbers, file_numbers, instruction_numbers, list_numbers, node_numbers, number_numbers, option_numbers, record_numbers, state_numbers, tree_numbers, version_numbers}
 use Rattle.pv_model.specs.Bytes.{Bytes}
@@ -10,11 +10,10 @@ use Rattle.pv_model.specs.State.{ProcessRecord, live, ended_record, State}
 use Rattle.pv_model.specs.Tree.{Node, Tree}
 use Rattle.pv_procs.specs.Parts.{record_of}
 use Rattle.pv_state_encoding.specs.declared.trees.TheConstants.{GROUP_SIZES}
-use Rattle.pv_state_encoding.specs.Groups.{counts_part, files_part, joined, node_groups, node_part, record_parts, state_groups, tree_part}
+use Rattle.pv_state_encoding.specs.Groups.{counts_part, files_part, joined, node_bytes, node_groups, node_parts, record_parts, state_groups, tree_part}
 use Rattle.pv_state_encoding.specs.Packed.{packed_all, IsAdded}
 use Rattle.pv_state_encoding.specs.Parts.{held_numbers}
 use Rattle.pv_state_encoding.proofs.Adding.{packed-append}
-use Rattle.pv_state_encoding.proofs.Numbering.{take-at}
 use Rattle.pv_state_encoding.proofs.Owned.{process-is}
 
 -- numbers appended to nothing
@@ -23,29 +22,59 @@ added_whole ns old new none added = added.is ∙ ap (λ bs. bs ++ packed_all ns)
 
 -- ---- nodes, group by group
 
-at-drop : (xs : Numbered Node) (from i : ℕ) → at_number (drop from xs) i ≡ at_number xs (from + i)
-at-drop xs zero i = let same : 0 + i ≡ i = omega arith in ap (at_number xs) (sym same)
-at-drop [] (suc from) i = refl
-at-drop (x ∷ xs) (suc from) i = let more : suc from + i ≡ suc (from + i) = omega arith in at-drop xs from i ∙ ap (at_number (x ∷ xs)) (sym more)
-
 module _ (nodes : Numbered Node) where
   -- the nodes in a range of numbers that excludes its end
-  abbrev pub parts_between : ℕ → ℕ → List Bytes
-  parts_between from end = map node_part (take (end - from) (drop from nodes))
+  abbrev pub nodes_between : ℕ → ℕ → Numbered Node
+  nodes_between from end = take (end - from) (drop from nodes)
 
-  pub between-start : (from : ℕ) → [] ≡ parts_between from from
-  between-start from = let none : from - from ≡ 0 = omega arith in ap (λ k. map node_part (take k (drop from nodes))) (sym none)
+  between-next : (node end : ℕ) → node < end → end ≤ length nodes → nodes_between node end ≡ at_number nodes node ∷ nodes_between (node + 1) end
+  between-next node end below within =
+      let many : end - node ≡ suc (end - (node + 1)) = omega arith in
+      let inside : node < length nodes = omega arith in
+      ap (λ k. take k (drop node nodes)) many ∙ ap (take (suc (end - (node + 1)))) (drop-at nodes node inside)
+      ∙ ap (λ k. at_number nodes node ∷ take (end - (node + 1)) (drop k nodes)) (sym (add-one node))
+    where
+      drop-at : (xs : Numbered Node) (i : ℕ) → i < length xs → drop i xs ≡ at_number xs i ∷ drop (suc i) xs
+      drop-at [] i inside = absurd (omega arith)
+      drop-at (x ∷ xs) zero inside = refl
+      drop-at (x ∷ xs) (suc i) inside = drop-at xs i (omega arith)
 
-  pub between-next : (from node : ℕ) (now new : List Bytes) (part : Bytes) → from ≤ node → node < length nodes → part ≡ node_part (at_number nodes node) → new ≡ now ++ part ∷ [] → now ≡ parts_between from node
-      → new ≡ parts_between from (node + 1)
-  between-next from node now new part low within is added so_far =
-      let k : ℕ = node - from in
-      let here : from + (node - from) ≡ node = omega arith in
-      let more : node + 1 - from ≡ suc (node - from) = omega arith in
-      let inside : node - from < length (drop from nodes) = omega (arith, length-drop from nodes) in
-      added ∙ ap₂ (λ (ps : List Bytes) (p : Bytes). ps ++ p ∷ []) so_far (is ∙ ap (λ n. node_part (at_number nodes n)) (sym here) ∙ ap node_part (sym (at-drop nodes from (node - from))))
-      ∙ sym (map-append node_part (take (node - from) (drop from nodes)) (at_number (drop from nodes) (node - from) ∷ []))
-      ∙ ap (map node_part) (sym (take-at (drop from nodes) (node - from) inside) ∙ ap (λ j. take j (drop from nodes)) (sym more))
+  between-none : (node end : ℕ) → end ≤ node → nodes_between node end ≡ []
+  between-none node end past = let none : end - node ≡ 0 = omega arith in ap (λ k. take k (drop node nodes)) none
+
+  -- the parts so far and the rest are all parts
+  pub record LeavesParts (node end : ℕ) (group : List Bytes) (part : Bytes) (all : List Bytes) : Type 0 where
+    pub is : group ++ node_parts part (nodes_between node end) ≡ all
+
+  pub parts-start : (from end : ℕ) (group : List Bytes) (part : Bytes) → group ≡ [] → part ≡ [] → LeavesParts from end group part (node_parts [] (nodes_between from end))
+  parts-start from end group part none nothing = record { is = ap₂ (λ (g : List Bytes) (p : Bytes). g ++ node_parts p (nodes_between from end)) none nothing }
+
+  pub parts-used : (node end : ℕ) (group group_now all : List Bytes) (part part_now new : Bytes) → node < end → end ≤ length nodes → IsSome (at_number nodes node) → IsAdded (option_numbers node_numbers (at_number nodes node)) part part_now
+      → group_now ≡ group ++ part_now ∷ [] → new ≡ [] → LeavesParts node end group part all → LeavesParts (node + 1) end group_now new all
+  parts-used node end group group_now all part part_now new below within used added pushed nothing so_far = record {
+    is =
+        ap₂ (λ (g : List Bytes) (p : Bytes). g ++ node_parts p (nodes_between (node + 1) end)) pushed nothing
+        ∙ append_assoc group (part_now ∷ []) (node_parts [] (nodes_between (node + 1) end))
+        ∙ ap (λ (ps : List Bytes). group ++ ps) (one (at_number nodes node) used added ∙ ap (node_parts part) (sym (between-next node end below within)))
+        ∙ so_far.is;
+  }
+    where
+      one : (o : Option Node) → IsSome o → IsAdded (option_numbers node_numbers o) part part_now → part_now ∷ node_parts [] (nodes_between (node + 1) end) ≡ node_parts part (o ∷ nodes_between (node + 1) end)
+      one None used added = cc
+      one (Some x) used added = ap (λ (p : Bytes). p ∷ node_parts [] (nodes_between (node + 1) end)) added.is
+
+  pub parts-unused : (node end : ℕ) (group all : List Bytes) (part part_now : Bytes) → node < end → end ≤ length nodes → (IsSome (at_number nodes node) → ⊥) → IsAdded (0 ∷ []) part part_now → LeavesParts node end group part all
+      → LeavesParts (node + 1) end group part_now all
+  parts-unused node end group all part part_now below within unused added so_far = record {
+    is = ap (λ (ps : List Bytes). group ++ ps) (none (at_number nodes node) unused ∙ ap (node_parts part) (sym (between-next node end below within))) ∙ so_far.is;
+  }
+    where
+      none : (o : Option Node) → (IsSome o → ⊥) → node_parts part_now (nodes_between (node + 1) end) ≡ node_parts part (o ∷ nodes_between (node + 1) end)
+      none None unused = ap (λ (p : Bytes). node_parts p (nodes_between (node + 1) end)) added.is
+      none (Some x) unused = absurd (unused refl)
+
+  pub parts-end : (node end : ℕ) (group group_now all : List Bytes) (part : Bytes) → end ≤ node → group_now ≡ group ++ part ∷ [] → LeavesParts node end group part all → group_now ≡ all
+  parts-end node end group group_now all part past pushed so_far = pushed ∙ ap (λ (ns : Numbered Node). group ++ node_parts part ns) (sym (between-none node end past)) ∙ so_far.is
 
   -- the end of a group of this size
   abbrev pub EndsAfter : ℕ → ℕ → ℕ → Type 0
@@ -61,22 +90,22 @@ module _ (nodes : Numbered Node) where
         drop_all size (drop from nodes) (omega (arith, length-drop from nodes)) ∙ sym (drop_all end nodes (omega arith)),
       )
 
-  pub grouped-next : (sizes : List ℕ) (i from end : ℕ) (now new all : List (List Bytes)) (group : List Bytes) → i < length sizes → EndsAfter from (get_or sizes i 0) end → group ≡ parts_between from end → new ≡ now ++ group ∷ []
+  pub grouped-next : (sizes : List ℕ) (i from end : ℕ) (now new all : List (List Bytes)) (group : List Bytes) → i < length sizes → EndsAfter from (get_or sizes i 0) end → group ≡ node_parts [] (nodes_between from end) → new ≡ now ++ group ∷ []
       → now ++ node_groups (drop i sizes) (drop from nodes) ≡ all → new ++ node_groups (drop (i + 1) sizes) (drop end nodes) ≡ all
   grouped-next sizes i from end now new all group within ends is added so_far =
       let size : ℕ = get_or sizes i 0 in
       let first = first-group from (get_or sizes i 0) end ends in
       let rest : List (List Bytes) = node_groups (drop (i + 1) sizes) (drop end nodes) in
-      ap (λ gs. gs ++ rest) (added ∙ ap (λ (g : List Bytes). now ++ g ∷ []) (is ∙ ap (map node_part) (sym first.0)))
-      ∙ append_assoc now (map node_part (take (get_or sizes i 0) (drop from nodes)) ∷ []) rest
-      ∙ ap (λ (xs : Numbered Node). now ++ map node_part (take (get_or sizes i 0) (drop from nodes)) ∷ node_groups (drop (i + 1) sizes) xs) (sym first.1)
+      ap (λ gs. gs ++ rest) (added ∙ ap (λ (g : List Bytes). now ++ g ∷ []) (is ∙ ap (node_parts []) (sym first.0)))
+      ∙ append_assoc now (node_parts [] (take (get_or sizes i 0) (drop from nodes)) ∷ []) rest
+      ∙ ap (λ (xs : Numbered Node). now ++ node_parts [] (take (get_or sizes i 0) (drop from nodes)) ∷ node_groups (drop (i + 1) sizes) xs) (sym first.1)
       ∙ ap (λ (ks : List ℕ). now ++ node_groups ks (drop from nodes)) (sym (drop-cons sizes i 0 within ∙ ap (λ k. get_or sizes i 0 ∷ drop k sizes) (sym (add-one i))))
       ∙ so_far
 
-  pub grouped-end : (sizes : List ℕ) (i from count : ℕ) (now new all : List (List Bytes)) (group : List Bytes) → length sizes ≤ i → count ≡ length nodes → group ≡ parts_between from count → new ≡ now ++ group ∷ []
+  pub grouped-end : (sizes : List ℕ) (i from count : ℕ) (now new all : List (List Bytes)) (group : List Bytes) → length sizes ≤ i → count ≡ length nodes → group ≡ node_parts [] (nodes_between from count) → new ≡ now ++ group ∷ []
       → now ++ node_groups (drop i sizes) (drop from nodes) ≡ all → new ≡ all
   grouped-end sizes i from count now new all group past is group_is added so_far =
-      added ∙ ap (λ (g : List Bytes). now ++ g ∷ []) (group_is ∙ ap (map node_part) (take_all (count - from) (drop from nodes) (omega (arith, length-drop from nodes))))
+      added ∙ ap (λ (g : List Bytes). now ++ g ∷ []) (group_is ∙ ap (node_parts []) (take_all (count - from) (drop from nodes) (omega (arith, length-drop from nodes))))
       ∙ ap (λ (ks : List ℕ). now ++ node_groups ks (drop from nodes)) (sym (drop_all i sizes past))
       ∙ so_far
 
@@ -97,15 +126,21 @@ all-grouped s start one two three all counts files none first second third last 
 abbrev together : List Bytes → Bytes
 together g = flat_map (λ p. p) g
 
-nodes-together : (nodes : Numbered Node) → together (map node_part nodes) ≡ packed_all (flat_map (option_numbers node_numbers) nodes)
-nodes-together [] = refl
-nodes-together (n ∷ nodes) = ap (λ bs. node_part n ++ bs) (nodes-together nodes) ∙ sym (packed-append (option_numbers node_numbers n) (flat_map (option_numbers node_numbers) nodes))
+nodes-together : (part : Bytes) (nodes : Numbered Node) → together (node_parts part nodes) ≡ part ++ packed_all (flat_map (option_numbers node_numbers) nodes)
+nodes-together part [] = refl
+nodes-together part (None ∷ nodes) =
+    let rest : Numbers = flat_map (option_numbers node_numbers) nodes in
+    nodes-together (part ++ node_bytes None) nodes ∙ append_assoc part (node_bytes None) (packed_all rest) ∙ ap (λ (bs : Bytes). part ++ bs) (sym (packed-append (option_numbers node_numbers None) rest))
+nodes-together part (Some x ∷ nodes) =
+    let rest : Numbers = flat_map (option_numbers node_numbers) nodes in
+    ap (λ (bs : Bytes). (part ++ node_bytes (Some x)) ++ bs) (nodes-together [] nodes) ∙ append_assoc part (node_bytes (Some x)) (packed_all rest)
+    ∙ ap (λ (bs : Bytes). part ++ bs) (sym (packed-append (option_numbers node_numbers (Some x)) rest))
 
 nodes-joined : (sizes : List ℕ) (nodes : Numbered Node) → joined (node_groups sizes nodes) ≡ packed_all (flat_map (option_numbers node_numbers) nodes)
-nodes-joined [] nodes = append-nil (together (map node_part nodes)) ∙ nodes-together nodes
+nodes-joined [] nodes = append-nil (together (node_parts [] nodes)) ∙ nodes-together [] nodes
 nodes-joined (size ∷ sizes) nodes =
     let numbers : Numbered Node → Numbers = flat_map (option_numbers node_numbers) in
-    ap₂ (λ (a b : Bytes). a ++ b) (nodes-together (take size nodes)) (nodes-joined sizes (drop size nodes))
+    ap₂ (λ (a b : Bytes). a ++ b) (nodes-together [] (take size nodes)) (nodes-joined sizes (drop size nodes))
     ∙ sym (packed-append (numbers (take size nodes)) (numbers (drop size nodes)))
     ∙ ap packed_all (sym (flat_map-append (option_numbers node_numbers) (take size nodes) (drop size nodes)) ∙ ap numbers (take-append-drop size nodes))
 

@@ -52,13 +52,19 @@ live_parts pid (Some p) = process_parts pid p
 
 -- ---- the tree
 
-abbrev pub node_part : Option Node → Bytes
-node_part node = packed_all (option_numbers node_numbers node)
+abbrev pub node_bytes : Option Node → Bytes
+node_bytes node = packed_all (option_numbers node_numbers node)
+
+-- nodes as parts, given the start of the first part: a part ends with a node in use, and the last part with the last node
+abbrev pub node_parts : Bytes → List (Option Node) → List Bytes
+node_parts part [] = part ∷ []
+node_parts part (None ∷ nodes) = node_parts (part ++ node_bytes None) nodes
+node_parts part (Some node ∷ nodes) = (part ++ node_bytes (Some node)) ∷ node_parts [] nodes
 
 -- nodes in groups of these sizes; the last group has the rest
 abbrev pub node_groups : List ℕ → List (Option Node) → List (List Bytes)
-node_groups [] nodes = map node_part nodes ∷ []
-node_groups (size ∷ sizes) nodes = map node_part (take size nodes) ∷ node_groups sizes (drop size nodes)
+node_groups [] nodes = node_parts [] nodes ∷ []
+node_groups (size ∷ sizes) nodes = node_parts [] (take size nodes) ∷ node_groups sizes (drop size nodes)
 
 abbrev pub tree_part : Tree → Bytes
 tree_part t = packed_all (version_numbers t.version ++ number_numbers t.blocks ++ number_numbers t.inodes ++ length t.nodes ∷ [])

@@ -1,5 +1,5 @@
 -- Numbers as bytes: a small number takes one byte.
-use Rattle.std.specs.Prelude.{◌≡◌, ℕ, zero, suc, ◌+◌, ◌/◌, ◌%◌, if◌then◌else◌, nat_lt, [], ◌∷◌, ◌++◌, flat_map}
+use Rattle.std.specs.Prelude.{◌≡◌, ℕ, Bool, zero, suc, ◌+◌, ◌/◌, ◌%◌, if◌then◌else◌, nat_lt, [], ◌∷◌, ◌++◌, flat_map}
 use Rattle.pv_model.specs.Answers.Numbers.{Numbers}
 use Rattle.pv_model.specs.Bytes.{Bytes}
 
@@ -15,6 +15,10 @@ packed n = packed_in 9 n
 
 abbrev pub packed_all : Numbers → Bytes
 packed_all ns = flat_map packed ns
+
+-- a number that is encoded as one byte, itself
+abbrev pub is_small : ℕ → Bool
+is_small n = nat_lt n 128
 
 -- the encoding of numbers is appended
 pub record IsAdded (ns : Numbers) (old new : Bytes) : Type 0 where

@@ -1,7 +1,8 @@
 //! Numbers, and short lists of numbers.
 ghost use Rattle.std.specs.Prelude.{◌≡◌, ◌≤◌, ◌∷◌, ◌++◌, [], length, OnOk};
+ghost use Rattle.std.specs.List.{list_all};
 ghost use Rattle.pv_model.specs.Answers.Numbers.{bool_numbers, bytes_numbers, integer_numbers, mode_numbers, permissions_numbers};
-ghost use Rattle.pv_state_encoding.specs.Packed.{IsAdded, packed_in, packed_all};
+ghost use Rattle.pv_state_encoding.specs.Packed.{IsAdded, is_small, packed_in, packed_all};
 
 use pv_model::{Mode, Perms};
 use std::alloc::AllocError;
@@ -25,19 +26,42 @@ pub fn push_number(key: &mut Vec<u8>, number: u64) -> Result<(), AllocError>
     Ok(())
 }
 
-/// Appends each of the bytes as a number.
-///
-/// # Errors
-///
-/// As for `push_number`.
+// Returns whether each of the bytes is encoded as itself. It has no branch, so that several bytes can be tested at once.
+fn are_small(bytes: &[u8]) -> bool
+    ensures { result ≡ list_all is_small bytes.now }
+{
+    let mut small = true;
+    for byte in bytes {
+        small &= *byte < 128;
+    }
+    small
+}
+
+// Appends each of the bytes as a number, one by one.
 #[tactic(auto, using(crate::proofs::Adding::added_more, crate::proofs::Adding::added_none, crate::proofs::Adding::added_all))]
-pub fn push_items(key: &mut Vec<u8>, bytes: &[u8]) -> Result<(), AllocError>
+fn push_each_item(key: &mut Vec<u8>, bytes: &[u8]) -> Result<(), AllocError>
     ensures { OnOk result (IsAdded bytes.now key.old.items key.new.items) }
 {
     for byte in bytes {
         push_number(key, u64::from(*byte))?;
     }
     Ok(())
+}
+
+/// Appends each of the bytes as a number.
+///
+/// # Errors
+///
+/// As for `push_number`.
+#[tactic(auto, using(crate::proofs::Adding::added_small))]
+pub fn push_items(key: &mut Vec<u8>, bytes: &[u8]) -> Result<(), AllocError>
+    ensures { OnOk result (IsAdded bytes.now key.old.items key.new.items) }
+{
+    if are_small(bytes) {
+        key.extend_from_slice(bytes)?;
+        return Ok(());
+    }
+    push_each_item(key, bytes)
 }
 
 /// Appends a byte string, preceded by its length.

@@ -1,10 +1,10 @@
 //! Trees.
-ghost use Rattle.std.specs.Prelude.{◌≡◌, ◌<◌, ◌≤◌, ◌+◌, ◌-◌, ◌⊎◌, ◌∷◌, ◌++◌, [], false, take, drop, map, flat_map, length, option_map, IsSome, IsTrue, IfSome, IfOk, Some, OnOk};
+ghost use Rattle.std.specs.Prelude.{◌≡◌, ◌<◌, ◌≤◌, ◌+◌, ◌-◌, ◌⊎◌, ◌∷◌, ◌++◌, [], false, take, drop, flat_map, length, option_map, IsSome, IsTrue, IfSome, IfOk, Some, OnOk};
 ghost use Rattle.pv_dirs.specs.Trees.{bytes_at};
 ghost use Rattle.pv_model.specs.Answers.Numbers.{bytes_numbers, list_numbers, name_numbers, node_numbers, number_numbers, option_numbers, tree_numbers, version_numbers};
 ghost use Rattle.pv_model.specs.Calls.Descriptors.{next_name};
 ghost use Rattle.pv_model.specs.Tree.{node_at, entries_at, find_entry, is_directory_at};
-ghost use Rattle.pv_state_encoding.specs.Groups.{groups_of, node_groups, node_part, parts_of, tree_part};
+ghost use Rattle.pv_state_encoding.specs.Groups.{groups_of, node_groups, node_parts, parts_of, tree_part};
 ghost use Rattle.pv_state_encoding.specs.Packed.{IsAdded};
 ghost use Rattle.pv_state_encoding.specs.Parts.{if_there};
 
@@ -113,16 +113,24 @@ fn push_node(key: &mut Vec<u8>, tree: &Tree, node: u16) -> Result<(), AllocError
     }
 }
 
-// Appends the node of a number, if there is one.
+// Appends the node of a number that is in use.
 #[tactic(auto, using(crate::proofs::Numbering::added_there))]
+fn push_used(key: &mut Vec<u8>, tree: &Tree, node: u16) -> Result<(), AllocError>
+    requires { IsSome (node_at tree.now.tree node) }
+    ensures { OnOk result (IsAdded (option_numbers node_numbers (node_at tree.now.tree node)) key.old.items key.new.items) }
+{
+    push_number(key, 1)?;
+    push_node(key, tree, node)
+}
+
+// Appends the node of a number, if there is one.
 fn push_numbered(key: &mut Vec<u8>, tree: &Tree, node: u16) -> Result<(), AllocError>
     ensures { OnOk result (IsAdded (option_numbers node_numbers (node_at tree.now.tree node)) key.old.items key.new.items) }
 {
     if !tree.is_used(node) {
         return push_number(key, 0);
     }
-    push_number(key, 1)?;
-    push_node(key, tree, node)
+    push_used(key, tree, node)
 }
 
 // Appends nodes, by their numbers.
@@ -187,17 +195,7 @@ pub(crate) fn part_of_sizes(alloc: Global, tree: &Tree) -> Result<Vec<u8>, Alloc
     Ok(part)
 }
 
-// Returns the part of the node of a number, if there is one.
-#[tactic(auto, using(crate::proofs::Grouping::added_whole))]
-fn part_of_node(alloc: Global, tree: &Tree, node: u16) -> Result<Vec<u8>, AllocError>
-    ensures { IfOk result (λ part. part.items ≡ node_part (node_at tree.now.tree node)) }
-{
-    let mut part = Vec::new(alloc);
-    push_numbered(&mut part, tree, node)?;
-    Ok(part)
-}
-
-// Returns the group of the nodes in a range of numbers, which excludes its end.
+// Returns the group of the nodes in a range of numbers, which excludes its end. A part ends with a node in use.
 fn group_of_nodes(
     alloc: Global,
     tree: &Tree,
@@ -206,12 +204,20 @@ fn group_of_nodes(
 ) -> Result<Vec<Vec<u8>>, AllocError>
     requires first { from ≤ end }
     requires within { end ≤ length tree.now.tree.nodes }
-    ensures { IfOk result (λ group. parts_of group ≡ map node_part (take (end - from) (drop from tree.now.tree.nodes))) }
+    ensures { IfOk result (λ group. parts_of group ≡ node_parts [] (take (end - from) (drop from tree.now.tree.nodes))) }
 {
     let mut group = Vec::new(alloc);
+    let mut part = Vec::new(alloc);
     for node in from..end {
-        push_part(&mut group, part_of_node(alloc, tree, node)?)?;
+        if tree.is_used(node) {
+            push_used(&mut part, tree, node)?;
+            push_part(&mut group, part)?;
+            part = Vec::new(alloc);
+        } else {
+            push_number(&mut part, 0)?;
+        }
     }
+    push_part(&mut group, part)?;
     Ok(group)
 }
 

@@ -15,31 +15,31 @@ use Rattle.pv_explain.proofs.explain.explain_call.Goals as goal
 pub returns-in_err-made-clause-stopped : goal.returns-in_err-made-clause-stopped
 returns-in_err-made-clause-stopped g c =
     let p = err_from_is_err_and c.from_residual.result c.from_residual.ensures.1 in
-    rw p.1 (stops-here c.args.step.number c.args.origins.now c.args.session.now c.make_call.new.session c.args.step.pid (g.W.Sink.written c.args.out.now)
+    rw p.1 (stops-here c.args.errors c.args.step.number c.args.origins.now c.args.session.now c.make_call.new.session c.args.step.pid (g.W.Sink.written c.args.out.now)
     c.in_err-made.ensures.unchanged c.in_err-made.ensures.memory p.0 p.2)
 
 pub returns-in_err-write_step_line-clause-prefix : goal.returns-in_err-write_step_line-clause-prefix
 returns-in_err-write_step_line-clause-prefix g c =
     on_err c.from_residual-in_err-write_step_line.result
     (subst (λ (bs : Bytes). WritesPrefix bs (g.W.Sink.written c.args.out.now) (g.W.Sink.written c.write_step_line.new.out))
-    (step-text c.args.session.now c.args.step.pid (CallMade c.in_ok-made.made) c.make_call.new.session c.in_ok-made.ensures.made c.args.step.number c.args.origins.now _ refl)
+    (step-text c.args.session.now c.args.step.pid (CallMade c.in_ok-made.made) c.make_call.new.session c.in_ok-made.ensures.made c.args.errors c.args.step.number c.args.origins.now _ refl)
     (begins_first _ _ _ _ c.in_err-write_step_line.ensures.prefix))
 
-pub returns-in_err-write_call-clause-prefix : goal.returns-in_err-write_call-clause-prefix
-returns-in_err-write_call-clause-prefix g c =
-    on_err c.from_residual-in_err-write_call.result
-    (subst (λ (bs : Bytes). WritesPrefix bs (g.W.Sink.written c.args.out.now) (g.W.Sink.written c.write_call.new.out))
-    (step-text c.args.session.now c.args.step.pid (CallMade c.in_ok-made.made) c.make_call.new.session c.in_ok-made.ensures.made c.args.step.number c.args.origins.now (settings_in c.of.result.now) c.of.ensures.value)
-    (begins_then _ _ _ _ _ c.in_ok-write_step_line.ensures.whole c.in_err-write_call.ensures.prefix))
+pub returns-in_err-write_call_and_error-clause-prefix : goal.returns-in_err-write_call_and_error-clause-prefix
+returns-in_err-write_call_and_error-clause-prefix g c =
+    on_err c.from_residual-in_err-write_call_and_error.result
+    (subst (λ (bs : Bytes). WritesPrefix bs (g.W.Sink.written c.args.out.now) (g.W.Sink.written c.write_call_and_error.new.out))
+    (step-text c.args.session.now c.args.step.pid (CallMade c.in_ok-made.made) c.make_call.new.session c.in_ok-made.ensures.made c.args.errors c.args.step.number c.args.origins.now (settings_in c.of.result.now) c.of.ensures.value)
+    (begins_then _ _ _ _ _ c.in_ok-write_step_line.ensures.whole c.in_err-write_call_and_error.ensures.prefix))
 
 pub returns-clause-after : goal.returns-clause-after
 returns-clause-after g c = left-by c.args.session.now c.args.step.pid (CallMade c.in_ok-made.made) c.make_call.new.session c.in_ok-made.ensures.made
 
 pub returns-clause-whole : goal.returns-clause-whole
 returns-clause-whole g c =
-    written_both _ _ _ _ _ c.in_ok-write_step_line.ensures.whole c.in_ok-write_call.ensures.whole
+    written_both _ _ _ _ _ c.in_ok-write_step_line.ensures.whole c.in_ok-write_call_and_error.ensures.whole
     ∙ ap (and_all (g.W.Sink.written c.args.out.now))
-    (step-text c.args.session.now c.args.step.pid (CallMade c.in_ok-made.made) c.make_call.new.session c.in_ok-made.ensures.made c.args.step.number c.args.origins.now (settings_in c.of.result.now) c.of.ensures.value)
+    (step-text c.args.session.now c.args.step.pid (CallMade c.in_ok-made.made) c.make_call.new.session c.in_ok-made.ensures.made c.args.errors c.args.step.number c.args.origins.now (settings_in c.of.result.now) c.of.ensures.value)
 
 pub returns-clause-keeps : goal.returns-clause-keeps
 returns-clause-keeps g c q lives =

@@ -16,9 +16,9 @@ returns-in_err-explain_steps-clause-prefix g c =
     let s = c.args.session.now in
     let pids = steps_of c.args.schedule.now in
     on_err c.from_residual.result
-    (subst (λ (bs : Bytes). WritesPrefix bs (g.W.Sink.written c.args.out.now) (g.W.Sink.written c.explain_steps.new.out)) (lines-text pids s)
+    (subst (λ (bs : Bytes). WritesPrefix bs (g.W.Sink.written c.args.out.now) (g.W.Sink.written c.explain_steps.new.out)) (lines-text c.args.errors pids s)
     (begins_first _ _ _ _
-    (subst (λ (all : Settings). WritesPrefix (answer_bytes (steps_lines 1 all pids s)) (g.W.Sink.written c.args.out.now) (g.W.Sink.written c.explain_steps.new.out)) c.requires.fresh
+    (subst (λ (all : Settings). WritesPrefix (answer_bytes (steps_lines c.args.errors 1 all pids s)) (g.W.Sink.written c.args.out.now) (g.W.Sink.written c.explain_steps.new.out)) c.requires.fresh
     c.in_err-explain_steps.ensures.prefix)))
 
 pub returns-in_err-write_locations-clause-prefix : goal.returns-in_err-write_locations-clause-prefix
@@ -26,9 +26,9 @@ returns-in_err-write_locations-clause-prefix g c =
     let s = c.args.session.now in
     let pids = steps_of c.args.schedule.now in
     on_err c.from_residual-in_err-write_locations.result
-    (subst (λ (bs : Bytes). WritesPrefix bs (g.W.Sink.written c.args.out.now) (g.W.Sink.written c.write_locations.new.out)) (lines-text pids s)
+    (subst (λ (bs : Bytes). WritesPrefix bs (g.W.Sink.written c.args.out.now) (g.W.Sink.written c.write_locations.new.out)) (lines-text c.args.errors pids s)
     (begins_then _ _ _ _ _
-    (c.in_ok-explain_steps.ensures.whole ∙ ap (λ all. and_all (g.W.Sink.written c.args.out.now) (answer_bytes (steps_lines 1 all pids s))) c.requires.fresh)
+    (c.in_ok-explain_steps.ensures.whole ∙ ap (λ all. and_all (g.W.Sink.written c.args.out.now) (answer_bytes (steps_lines c.args.errors 1 all pids s))) c.requires.fresh)
     (subst (λ (t : State). WritesPrefix (answer_bytes (locations t)) (g.W.Sink.written c.explain_steps.new.out) (g.W.Sink.written c.write_locations.new.out))
     (c.parts.ensures.value ∙ c.in_ok-explain_steps.ensures.after) c.in_err-write_locations.ensures.prefix)))
 
@@ -37,7 +37,7 @@ returns-clause-whole g c =
     let s = c.args.session.now in
     let pids = steps_of c.args.schedule.now in
     written_both _ _ _ _ _
-    (c.in_ok-explain_steps.ensures.whole ∙ ap (λ all. and_all (g.W.Sink.written c.args.out.now) (answer_bytes (steps_lines 1 all pids s))) c.requires.fresh)
+    (c.in_ok-explain_steps.ensures.whole ∙ ap (λ all. and_all (g.W.Sink.written c.args.out.now) (answer_bytes (steps_lines c.args.errors 1 all pids s))) c.requires.fresh)
     (c.in_ok-write_locations.ensures.whole
     ∙ ap (λ t. and_all (g.W.Sink.written c.explain_steps.new.out) (answer_bytes (locations t))) (c.parts.ensures.value ∙ c.in_ok-explain_steps.ensures.after))
-    ∙ ap (and_all (g.W.Sink.written c.args.out.now)) (lines-text pids s)
+    ∙ ap (and_all (g.W.Sink.written c.args.out.now)) (lines-text c.args.errors pids s)

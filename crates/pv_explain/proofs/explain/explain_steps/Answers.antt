@@ -17,12 +17,12 @@ loop-turn-preserved g c =
     let entry = get_or c.args.schedule.now i.turn-index (0, 0) in
     let done = steps_of (take i.turn-index c.args.schedule.now) in
     record {
-      made = schedule-on c.args.explainer.now c.args.schedule.now i.turn-index c.loop-turn-test.true c.args.session.now i.session i.explainer _ _ i.invariant.made c.parts.ensures.whole
+      made = schedule-on c.args.errors c.args.explainer.now c.args.schedule.now i.turn-index c.loop-turn-test.true c.args.session.now i.session i.explainer _ _ i.invariant.made c.parts.ensures.whole
           c.explain_turn.new.session c.explain_turn.new.explainer _ ok.after
-          (ok.whole ∙ ap (λ n. and_all (g.W.Sink.written i.out) (answer_bytes (steps_lines n i.explainer (replicate entry.1 entry.0) i.session))) i.invariant.number) ok.keeps;
+          (ok.whole ∙ ap (λ n. and_all (g.W.Sink.written i.out) (answer_bytes (steps_lines c.args.errors n i.explainer (replicate entry.1 entry.0) i.session))) i.invariant.number) ok.keeps;
       number =
           ap (λ n. n + c.from-number.result) i.invariant.number ∙ ap (λ n. 1 + length done + n) c.from-number.ensures
-          ∙ schedule-number c.args.explainer.now c.args.schedule.now i.turn-index c.loop-turn-test.true c.args.session.now i.session i.explainer _ _ i.invariant.made c.parts.ensures.whole;
+          ∙ schedule-number c.args.errors c.args.explainer.now c.args.schedule.now i.turn-index c.loop-turn-test.true c.args.session.now i.session i.explainer _ _ i.invariant.made c.parts.ensures.whole;
       few = omega (arith, i.invariant.few, c.from-number.ensures);
       quiet = ok.quiet ∙ i.invariant.quiet;
     }
@@ -38,8 +38,8 @@ returns-in_err-explain_turn-clause-prefix g c =
     let i = c.loop-turn in
     let entry = get_or c.args.schedule.now i.turn-index (0, 0) in
     on_err c.from_residual.result
-    (schedule-begun c.args.explainer.now c.args.schedule.now i.turn-index c.loop-turn-test.true c.args.session.now i.session i.explainer _ _ i.invariant.made c.parts.ensures.whole _
-    (subst (λ (n : ℕ). WritesPrefix (answer_bytes (steps_lines n i.explainer (replicate entry.1 entry.0) i.session)) (g.W.Sink.written i.out) (g.W.Sink.written c.explain_turn.new.out))
+    (schedule-begun c.args.errors c.args.explainer.now c.args.schedule.now i.turn-index c.loop-turn-test.true c.args.session.now i.session i.explainer _ _ i.invariant.made c.parts.ensures.whole _
+    (subst (λ (n : ℕ). WritesPrefix (answer_bytes (steps_lines c.args.errors n i.explainer (replicate entry.1 entry.0) i.session)) (g.W.Sink.written i.out) (g.W.Sink.written c.explain_turn.new.out))
     i.invariant.number c.in_err-explain_turn.ensures.prefix))
 
 pub returns-in_err-explain_turn-clause-stopped : goal.returns-in_err-explain_turn-clause-stopped
@@ -47,9 +47,9 @@ returns-in_err-explain_turn-clause-stopped g c =
     let i = c.loop-turn in
     let entry = get_or c.args.schedule.now i.turn-index (0, 0) in
     let p = err_from_is_err_and c.from_residual.result c.from_residual.ensures.1 in
-    rw p.1 (schedule-stopped c.args.explainer.now c.args.schedule.now i.turn-index c.loop-turn-test.true c.args.session.now i.session i.explainer _ _ i.invariant.made c.parts.ensures.whole
+    rw p.1 (schedule-stopped c.args.errors c.args.explainer.now c.args.schedule.now i.turn-index c.loop-turn-test.true c.args.session.now i.session i.explainer _ _ i.invariant.made c.parts.ensures.whole
     c.explain_turn.new.session (g.W.Sink.written c.explain_turn.new.out) p.0
-    (subst (λ (n : ℕ). StopsExplained p.0 n i.explainer (replicate entry.1 entry.0) i.session c.explain_turn.new.session (g.W.Sink.written i.out) (g.W.Sink.written c.explain_turn.new.out))
+    (subst (λ (n : ℕ). StopsExplained c.args.errors p.0 n i.explainer (replicate entry.1 entry.0) i.session c.explain_turn.new.session (g.W.Sink.written i.out) (g.W.Sink.written c.explain_turn.new.out))
     i.invariant.number
-    (subst (λ (stop : Stop). StopsExplained stop i.number i.explainer (replicate entry.1 entry.0) i.session c.explain_turn.new.session (g.W.Sink.written i.out) (g.W.Sink.written c.explain_turn.new.out))
+    (subst (λ (stop : Stop). StopsExplained c.args.errors stop i.number i.explainer (replicate entry.1 entry.0) i.session c.explain_turn.new.session (g.W.Sink.written i.out) (g.W.Sink.written c.explain_turn.new.out))
     (sym p.2) c.in_err-explain_turn.ensures.stopped)))

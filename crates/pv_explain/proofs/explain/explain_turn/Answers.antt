@@ -10,7 +10,7 @@ use Rattle.pv_explain.proofs.explain.explain_turn.Goals as goal
 
 pub loop-step-init : goal.loop-step-init
 loop-step-init g c = record {
-  made = none-made c.args.number c.args.explainer.now c.args.session.now c.args.session.now c.args.explainer.now (g.W.Sink.written c.args.out.now) refl refl;
+  made = none-made c.args.errors c.args.number c.args.explainer.now c.args.session.now c.args.session.now c.args.explainer.now (g.W.Sink.written c.args.out.now) refl refl;
   quiet = refl;
 }
 
@@ -19,9 +19,9 @@ loop-step-preserved g c =
     let i = c.loop-step in
     let ok = c.in_ok-explain_step.ensures in
     record {
-      made = turn-on c.args.number c.args.explainer.now c.args.pid i.step c.args.session.now i.session i.explainer _ _ i.invariant.made c.parts.ensures.whole
+      made = turn-on c.args.errors c.args.number c.args.explainer.now c.args.pid i.step c.args.session.now i.session i.explainer _ _ i.invariant.made c.parts.ensures.whole
           c.explain_step.new.session c.explain_step.new.self _ ok.after
-          (ok.whole ∙ ap (λ n. and_all (g.W.Sink.written i.out) (answer_bytes (step_lines (c.args.number + n) i.explainer i.session c.args.pid))) c.from.ensures) ok.keeps;
+          (ok.whole ∙ ap (λ n. and_all (g.W.Sink.written i.out) (answer_bytes (step_lines c.args.errors (c.args.number + n) i.explainer i.session c.args.pid))) c.from.ensures) ok.keeps;
       quiet = ok.quiet ∙ i.invariant.quiet;
     }
 
@@ -29,18 +29,18 @@ pub returns-in_err-explain_step-clause-prefix : goal.returns-in_err-explain_step
 returns-in_err-explain_step-clause-prefix g c =
     let i = c.loop-step in
     on_err c.from_residual.result
-    (turn-begun c.args.number c.args.explainer.now c.args.pid i.step c.args.session.now i.session i.explainer _ _ i.invariant.made c.parts.ensures.whole
+    (turn-begun c.args.errors c.args.number c.args.explainer.now c.args.pid i.step c.args.session.now i.session i.explainer _ _ i.invariant.made c.parts.ensures.whole
     c.args.count c.loop-step-test.true _
-    (subst (λ (n : ℕ). WritesPrefix (answer_bytes (step_lines (c.args.number + n) i.explainer i.session c.args.pid)) (g.W.Sink.written i.out) (g.W.Sink.written c.explain_step.new.out))
+    (subst (λ (n : ℕ). WritesPrefix (answer_bytes (step_lines c.args.errors (c.args.number + n) i.explainer i.session c.args.pid)) (g.W.Sink.written i.out) (g.W.Sink.written c.explain_step.new.out))
     c.from.ensures c.in_err-explain_step.ensures.prefix))
 
 pub returns-in_err-explain_step-clause-stopped : goal.returns-in_err-explain_step-clause-stopped
 returns-in_err-explain_step-clause-stopped g c =
     let i = c.loop-step in
     let p = err_from_is_err_and c.from_residual.result c.from_residual.ensures.1 in
-    rw p.1 (turn-stopped c.args.number c.args.explainer.now c.args.pid i.step c.args.session.now i.session i.explainer _ _ i.invariant.made c.parts.ensures.whole
+    rw p.1 (turn-stopped c.args.errors c.args.number c.args.explainer.now c.args.pid i.step c.args.session.now i.session i.explainer _ _ i.invariant.made c.parts.ensures.whole
     c.args.count c.loop-step-test.true c.explain_step.new.session (g.W.Sink.written c.explain_step.new.out) p.0
-    (subst (λ (n : ℕ). StopsExplained p.0 (c.args.number + n) i.explainer (c.args.pid ∷ []) i.session c.explain_step.new.session (g.W.Sink.written i.out) (g.W.Sink.written c.explain_step.new.out))
+    (subst (λ (n : ℕ). StopsExplained c.args.errors p.0 (c.args.number + n) i.explainer (c.args.pid ∷ []) i.session c.explain_step.new.session (g.W.Sink.written i.out) (g.W.Sink.written c.explain_step.new.out))
     c.from.ensures
-    (subst (λ (stop : Stop). StopsExplained stop (c.args.number + c.from.result) i.explainer (c.args.pid ∷ []) i.session c.explain_step.new.session (g.W.Sink.written i.out) (g.W.Sink.written c.explain_step.new.out))
+    (subst (λ (stop : Stop). StopsExplained c.args.errors stop (c.args.number + c.from.result) i.explainer (c.args.pid ∷ []) i.session c.explain_step.new.session (g.W.Sink.written i.out) (g.W.Sink.written c.explain_step.new.out))
     (sym p.2) c.in_err-explain_step.ensures.stopped)))

@@ -14,7 +14,7 @@ returns-in_err-write_step_line-in-Gone-clause-prefix g c =
     let s = c.args.session.now in
     on_err c.from_residual.result
     (subst (λ (bs : Bytes). WritesPrefix bs (g.W.Sink.written c.args.out.now) (g.W.Sink.written c.write_step_line.new.out))
-    (step-text s c.args.pid Gone s (c.in-Gone.ensures.next, refl) c.args.number c.args.self.now _ refl)
+    (step-text s c.args.pid Gone s (c.in-Gone.ensures.next, refl) c.args.errors c.args.number c.args.self.now _ refl)
     (begins_first _ _ _ _ c.in_err-write_step_line-in-Gone.ensures.prefix))
 
 pub returns-in_err-write_gone_line-in-Gone-clause-prefix : goal.returns-in_err-write_gone_line-in-Gone-clause-prefix
@@ -22,7 +22,7 @@ returns-in_err-write_gone_line-in-Gone-clause-prefix g c =
     let s = c.args.session.now in
     on_err c.from_residual-in_err-write_gone_line-in-Gone.result
     (subst (λ (bs : Bytes). WritesPrefix bs (g.W.Sink.written c.args.out.now) (g.W.Sink.written c.write_gone_line.new.out))
-    (step-text s c.args.pid Gone s (c.in-Gone.ensures.next, refl) c.args.number c.args.self.now _ refl)
+    (step-text s c.args.pid Gone s (c.in-Gone.ensures.next, refl) c.args.errors c.args.number c.args.self.now _ refl)
     (begins_then _ _ _ _ _ c.in_ok-write_step_line-in-Gone.ensures.whole c.in_err-write_gone_line-in-Gone.ensures.prefix))
 
 pub returns-in_ok-write_gone_line-in-Gone-clause-after : goal.returns-in_ok-write_gone_line-in-Gone-clause-after
@@ -33,7 +33,7 @@ pub returns-in_ok-write_gone_line-in-Gone-clause-whole : goal.returns-in_ok-writ
 returns-in_ok-write_gone_line-in-Gone-clause-whole g c =
     let s = c.args.session.now in
     written_both _ _ _ _ _ c.in_ok-write_step_line-in-Gone.ensures.whole c.in_ok-write_gone_line-in-Gone.ensures.whole
-    ∙ ap (and_all (g.W.Sink.written c.args.out.now)) (step-text s c.args.pid Gone s (c.in-Gone.ensures.next, refl) c.args.number c.args.self.now _ refl)
+    ∙ ap (and_all (g.W.Sink.written c.args.out.now)) (step-text s c.args.pid Gone s (c.in-Gone.ensures.next, refl) c.args.errors c.args.number c.args.self.now _ refl)
 
 -- ---- an instruction on registers
 
@@ -41,7 +41,7 @@ pub returns-in_err-write_step_line-in-Register-clause-prefix : goal.returns-in_e
 returns-in_err-write_step_line-in-Register-clause-prefix g c =
     on_err c.from_residual-in_err-write_step_line-in-Register.result
     (subst (λ (bs : Bytes). WritesPrefix bs (g.W.Sink.written c.args.out.now) (g.W.Sink.written c.write_step_line-in-Register.new.out))
-    (step-text c.args.session.now c.args.pid (Register c.make_register-line.result) c.make_register-line.new.session c.make_register-line.ensures c.args.number c.args.self.now _ refl)
+    (step-text c.args.session.now c.args.pid (Register c.make_register-line.result) c.make_register-line.new.session c.make_register-line.ensures c.args.errors c.args.number c.args.self.now _ refl)
     (begins_first _ _ _ _ c.in_err-write_step_line-in-Register.ensures.prefix))
 
 pub returns-in_ok-write_step_line-in-Register-clause-after : goal.returns-in_ok-write_step_line-in-Register-clause-after
@@ -53,4 +53,4 @@ returns-in_ok-write_step_line-in-Register-clause-whole g c =
     c.in_ok-write_step_line-in-Register.ensures.whole
     ∙ ap (and_all (g.W.Sink.written c.args.out.now))
     (sym (append-nil _)
-    ∙ step-text c.args.session.now c.args.pid (Register c.make_register-line.result) c.make_register-line.new.session c.make_register-line.ensures c.args.number c.args.self.now _ refl)
+    ∙ step-text c.args.session.now c.args.pid (Register c.make_register-line.result) c.make_register-line.new.session c.make_register-line.ensures c.args.errors c.args.number c.args.self.now _ refl)

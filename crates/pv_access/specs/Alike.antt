@@ -1,29 +1,48 @@
 -- The accesses of a step depend only on the part of the state on which the step depends.
-use Rattle.std.proofs.Common.{◌≡◌, ◌≢◌, ◌∙◌, ◌⊎◌, inl, inr, sym, ap, ap₂, subst, ℕ, pos, Bool, true, false, cond, ◌==◌, if◌then◌else◌, List, [], ◌∷◌, ◌++◌, map, Option, None, Some, refl}
+use Rattle.std.proofs.Common.{◌≡◌, ◌≢◌, ◌∙◌, ◌⊎◌, inl, inr, sym, ap, ap₂, subst, ℕ, pos, Bool, cond, ◌==◌, if◌then◌else◌, List, [], ◌∷◌, ◌++◌, map, Option, None, Some, refl}
 use Rattle.std.specs.Prelude.{flat_map, filter_map, option_map, option_and_then, option_to_list}
 use Rattle.std.specs.FinMap.Entries.{find}
-use Rattle.std.specs.Ordering.{nat_cmp, is_eq, eq_by_cmp}
+use Rattle.std.specs.Ordering.{nat_cmp, is_eq}
 use Rattle.std.proofs.lemmas.Bool.{cases_eq, eq-eqb, ne_eqb}
 use Rattle.std.specs.Cmp.{unsigned_ties}
 use Rattle.pv_model.specs.declared.call.Call.{Call}
 use Rattle.pv_model.specs.declared.open_flags.OpenFlags.{OpenFlags}
 use Rattle.pv_model.specs.declared.outcome.Outcome.{Outcome}
-use Rattle.pv_model.specs.declared.outcome.Outcome.TheVariants.{Value, Text, Failed, Killed, Exited, Blocked, Gone}
+use Rattle.pv_model.specs.declared.outcome.Outcome.TheVariants.{Value}
 use Rattle.pv_model.specs.Answers.Access.{Access, accesses, accesses_by_open, node_opened, access_line, reads, executes, writes, changes_name, reports, nodes_read, nodes_executed, nodes_written, nodes_reported, places_changed, opens}
 use Rattle.pv_model.specs.Answers.Observed.{of_process, of_next}
-use Rattle.pv_model.specs.Bytes.{Bytes}
 use Rattle.pv_model.specs.Effect.{name_of, open_file}
 use Rattle.pv_model.specs.Numbered.{Numbered}
 use Rattle.pv_model.specs.Program.{Next, inside, calls_for, next}
-use Rattle.pv_model.specs.State.{OpenFile, Program, Process, ProcessRecord, live, ended_record, State, live_process, process_at}
+use Rattle.pv_model.specs.State.{OpenFile, Process, ProcessRecord, State, live_process, process_at}
 use Rattle.pv_model.specs.Step.{Stepped, step}
 use Rattle.pv_model.specs.Touch.{flags_of, has_succeeded}
 use Rattle.pv_model.specs.Tree.{Tree}
 use Rattle.pv_model.specs.Trace.{Line}
-use Rattle.pv_laws_steps.specs.Seen.{SeenRecord, own, seen_other, seen_record, seen, with_inside, inside_from, with_insides, StepsBesideAll}
+use Rattle.pv_laws_steps.proofs.SeenSteps.{steps-by_seen}
+use Rattle.pv_laws_steps.specs.Seen.{SeenRecord, own, live_other, ended_other, seen_other, seen_record, seen, with_inside, inside_from, with_insides, StepsBesideAll}
+use Rattle.pv_model.specs.Grammar.Programs.{program_of}
+use Rattle.pv_step_cache.specs.Cached.{DependsOnSeen}
 use Rattle.pv_access.specs.Texts.{access_texts, texts_by, texts_of_call}
 
 -- ---- the process that makes the step
+
+abbrev first_or : {X : Type 0} → X → List X → X
+first_or x [] = x
+first_or x (y ∷ ys) = y
+
+abbrev rest_of : {X : Type 0} → List X → List X
+rest_of [] = []
+rest_of (x ∷ xs) = xs
+
+abbrev IsNil : {X : Type 0} → List X → Type 0
+IsNil [] = Unit
+IsNil (x ∷ xs) = ⊥
+
+abbrev whole_or : ProcessRecord → SeenRecord → ProcessRecord
+whole_or r (own whole) = whole
+whole_or r (live_other parent directory descriptors held) = r
+whole_or r (ended_other parent status) = r
 
 module _ (pid : ℕ) where
   abbrev own_if : Bool → ProcessRecord → SeenRecord
@@ -39,10 +58,10 @@ module _ (pid : ℕ) where
   found-later k r rs other = ap (λ b. live_process (cond b (Some r) (find nat_cmp pid rs))) (sym (unsigned_ties pid k) ∙ ne_eqb pid k (λ e. other (sym e)))
 
   heads : {X : Type 0} (x y : X) (xs ys : List X) → x ∷ xs ≡ y ∷ ys → (x ≡ y) × (xs ≡ ys)
-  heads x y xs ys is = (let same : x ≡ y = cc in same, let same : xs ≡ ys = cc in same)
+  heads x y xs ys is = (ap (first_or x) is, ap rest_of is)
 
   owned : (r q : ProcessRecord) → own r ≡ own q → r ≡ q
-  owned r q same = cc
+  owned r q same = ap (whole_or r) same
 
   same-record : (r q : ℕ × ProcessRecord) → r.0 ≡ pid → seen_record pid r ≡ seen_record pid q → r.1 ≡ q.1
   same-record r q is same =
@@ -52,8 +71,8 @@ module _ (pid : ℕ) where
 
   same-found : (rs qs : List (ℕ × ProcessRecord)) → map (seen_record pid) rs ≡ map (seen_record pid) qs → live_process (find nat_cmp pid rs) ≡ live_process (find nat_cmp pid qs)
   same-found [] [] same = refl
-  same-found [] (q ∷ qs) same = cc
-  same-found (r ∷ rs) [] same = cc
+  same-found [] (q ∷ qs) same = absurd (subst IsNil same tt)
+  same-found (r ∷ rs) [] same = absurd (subst IsNil (sym same) tt)
   same-found (r ∷ rs) (q ∷ qs) same =
       let both = heads (seen_record pid r) (seen_record pid q) (map (seen_record pid) rs) (map (seen_record pid) qs) same in
       let number : r.0 ≡ q.0 = ap (λ x. x.0) both.0 in
@@ -129,3 +148,6 @@ texts-by_seen s t pid a b alike steps =
     by : (o : Option Process) → of_process texts_of_call s pid a o ≡ of_process texts_of_call t pid b o
     by None = refl
     by (Some p) = by-next p (next p)
+
+pub access_texts-seen : DependsOnSeen access_texts
+access_texts-seen s t pid whole whole_t alike = texts-by_seen s t pid (step program_of s pid) (step program_of t pid) alike (steps-by_seen program_of s t pid whole whole_t alike)

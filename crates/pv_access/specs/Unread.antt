@@ -1,0 +1,51 @@
+-- The files of a tree whose bytes no step of a search depends on, and the last lines of `access`.
+use Rattle.std.specs.Prelude.{ℕ, zero, suc, Bool, not, ◌&&◌, ◌==◌, if◌then◌else◌, List, [], ◌∷◌, ◌++◌, length, map, flat_map, filter, bytes_eq, codes}
+use Rattle.std.specs.List.{list_any}
+use Rattle.pv_model.specs.Answers.Explore.{states_line}
+use Rattle.pv_model.specs.Answers.Files.{is_file_at, named_files, node_brief}
+use Rattle.pv_model.specs.Answers.Lines.{AnswerLine, answer_line}
+use Rattle.pv_model.specs.Bytes.{Bytes}
+use Rattle.pv_model.specs.Calls.Paths.{same_node}
+use Rattle.pv_model.specs.Tree.{Tree, root, entries_at, find_entry}
+use Rattle.pv_access.specs.Texts.{note}
+
+-- a list with the number if the condition holds, and the empty list otherwise
+abbrev pub one_if : Bool → ℕ → List ℕ
+one_if b n = if b then n ∷ [] else []
+
+module _ (t : Tree) where
+  -- the nodes of the names from a node downwards, to a depth, in the order of the listing
+  abbrev pub nodes_within : ℕ → ℕ → List ℕ
+  nodes_within zero n = []
+  nodes_within (suc depth) n = n ∷ flat_map (λ e. nodes_within depth e.1) (entries_at t n)
+
+  -- the nodes of all names
+  abbrev pub listed_nodes : List ℕ
+  listed_nodes = nodes_within (length t.nodes) root
+
+  -- the files with a node appended, if it is a file and new
+  abbrev pub with_file : List ℕ → ℕ → List ℕ
+  with_file files n = if is_file_at t n && not (list_any (λ m. m == n) files) then files ++ n ∷ [] else files
+
+  abbrev pub with_files : List ℕ → List ℕ → List ℕ
+  with_files files [] = files
+  with_files files (n ∷ ns) = with_files (with_file files n) ns
+
+  -- whether a file is not the one at `/init`, and the texts have no note of it
+  abbrev pub is_without_note : List Bytes → ℕ → Bool
+  is_without_note texts n = not (same_node (find_entry t root (codes "init")) n) && not (list_any (bytes_eq (note n)) texts)
+
+  abbrev pub files_without_note : List Bytes → List ℕ
+  files_without_note texts = filter (is_without_note texts) (named_files t)
+
+  abbrev pub unread_file_line : ℕ → AnswerLine
+  unread_file_line n = answer_line 0 (codes "UNRD") (node_brief t n)
+
+  -- the lines of the files without a note, if the search is complete
+  abbrev pub unread_lines : List Bytes → Bool → List AnswerLine
+  unread_lines texts complete = if complete then map unread_file_line (files_without_note texts) else []
+
+  -- the lines after those of the accesses, given the texts that were observed, the number of states and whether these
+  -- are all
+  abbrev pub last_lines : List Bytes → ℕ → Bool → List AnswerLine
+  last_lines texts states complete = unread_lines texts complete ++ states_line states complete ∷ []

@@ -1,0 +1,74 @@
+//! The accesses of all schedules.
+ghost use Rattle.std.specs.Prelude.{◌≡◌, ◌≤◌, IfErr, IfOk, OnErr, OnOk};
+ghost use Rattle.pv_access.specs.Unread.{last_lines};
+ghost use Rattle.pv_model.specs.Answers.Access.{access_lines};
+ghost use Rattle.pv_model.specs.Answers.Explore.{is_complete};
+ghost use Rattle.pv_model.specs.Answers.Lines.{answer_bytes};
+ghost use Rattle.pv_model.specs.Grammar.Programs.{program_of};
+ghost use Rattle.pv_session.specs.Running.{FailsBy};
+ghost use Rattle.pv_streams.specs.Sinks.{and_all, WritesPrefix};
+
+use crate::observer::AccessObserver;
+use crate::unread::write_unread;
+use pv_explore::{FirstMachine, Progress, Searched, search_observed, write_states};
+use pv_session::Stop;
+use pv_streams::Sink;
+use pv_tree::Tree;
+use std::alloc::Global;
+
+// Writes the unread files, if the search is complete, and then the number of states.
+fn write_last<W: Sink>(
+    alloc: Global,
+    tree: &Tree,
+    searched: &Searched,
+    out: &mut W,
+) -> Result<(), Stop>
+    ensures whole { OnOk result (W.written out.new ≡ and_all (W.written out.old) (answer_bytes (last_lines tree.now.tree searched.now.texts searched.now.states searched.now.complete))) }
+    ensures prefix { OnErr result (WritesPrefix (answer_bytes (last_lines tree.now.tree searched.now.texts searched.now.states searched.now.complete)) (W.written out.old) (W.written out.new)) }
+    ensures failed { IfErr result (λ stop. FailsBy stop (W.failures out.old) (W.failures out.new)) }
+    ensures quiet { OnOk result (W.failures out.new ≡ W.failures out.old) }
+{
+    write_unread(alloc, tree, searched, out)?;
+    Ok(write_states(out, searched.states, searched.complete)?)
+}
+
+/// Writes which process can access what under any schedule. The search visits at most `states` states, in breadth-first
+/// order from the first state of a machine. For each access of a step whose line no earlier access has, it writes a BY
+/// line with a shortest witness, that is, a schedule that leads to this step, and then the line of the access:
+///
+/// - READ, EXEC, WRIT: the file that the call reads, executes or writes;
+/// - NAME: a name that the call creates, removes or changes;
+/// - TELL: the node that the call reports;
+/// - OPEN: the mode and the node of the new descriptor.
+///
+/// If the visited states are all states, it then writes a line UNRD for each file of the first tree, in the order of a
+/// listing, that is not the file at `/init` and that no step reads or executes. The last line, DONE, has the number of
+/// visited states, and whether these are all. Returns whether the visited states are all.
+///
+/// If they are, each access of each step in each schedule is among those written: see `pv_laws_schedules`.
+///
+/// `progress` shows the state of the search. It ends before the lines UNRD, also if the search fails.
+///
+/// # Errors
+///
+/// - `Memory`, if there is no memory.
+/// - `Write`, if a write failed. The sink received a prefix of the lines.
+pub fn write_access<W: Sink, P: Progress>(
+    alloc: Global,
+    first_machine: &FirstMachine,
+    states: u32,
+    progress: &mut P,
+    out: &mut W,
+) -> Result<bool, Stop>
+    requires { 1 ≤ states }
+    ensures whole { OnOk result (W.written out.new ≡ and_all (W.written out.old) (answer_bytes (access_lines program_of states first_machine.now))) }
+    ensures prefix { OnErr result (WritesPrefix (answer_bytes (access_lines program_of states first_machine.now)) (W.written out.old) (W.written out.new)) }
+    ensures failed { IfErr result (λ stop. FailsBy stop (W.failures out.old) (W.failures out.new)) }
+    ensures quiet { OnOk result (W.failures out.new ≡ W.failures out.old) }
+    ensures complete { IfOk result (λ complete. complete ≡ is_complete program_of states first_machine.now) }
+{
+    let observer = AccessObserver;
+    let searched = search_observed(alloc, first_machine, states, observer, progress, out)?;
+    write_last(alloc, first_machine.tree(), &searched, out)?;
+    Ok(searched.complete)
+}

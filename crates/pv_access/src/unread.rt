@@ -1,0 +1,151 @@
+//! The files that no step of a search reads or executes.
+ghost use Rattle.std.specs.Prelude.{◌≡◌, ◌++◌, ◌∷◌, [], codes, filter, map, IfErr, IfOk, OnErr, OnOk};
+ghost use Rattle.pv_access.specs.Unread.{files_without_note, is_without_note, one_if, unread_file_line, unread_lines};
+ghost use Rattle.pv_model.specs.Answers.Files.{named_files};
+ghost use Rattle.pv_model.specs.Answers.Lines.{answer_bytes, answer_line_bytes};
+ghost use Rattle.pv_model.specs.Tree.{find_entry, root};
+ghost use Rattle.pv_session.specs.Running.{FailsBy};
+ghost use Rattle.pv_streams.specs.Sinks.{and_all, Writes, WritesOr, WritesPrefix};
+
+use crate::candidate::note_of;
+use crate::files::named_files;
+use crate::word::NodeBrief;
+use pv_answers::{Fragment, Line};
+use pv_explore::Searched;
+use pv_model::limits::ROOT;
+use pv_session::Stop;
+use pv_streams::{Failed, Sink};
+use pv_tree::Tree;
+use std::alloc::{AllocError, Global};
+
+// Returns the node at `/init`, if there is one.
+fn init_of(tree: &Tree) -> Option<u16>
+    ensures { result ≡ find_entry tree.now.tree root (codes "init") }
+{
+    // The contract of `sizes` states that the tree is well-formed.
+    let _ = tree.sizes();
+    tree.find(ROOT, b"init")
+}
+
+// Returns whether a file is not the one at `/init`, and no step of a search read or executed it.
+fn is_unread(alloc: Global, tree: &Tree, searched: &Searched, file: u16) -> Result<bool, AllocError>
+    ensures { IfOk result (λ unread. unread ≡ is_without_note tree.now.tree searched.now.texts file) }
+{
+    if init_of(tree) == Some(file) {
+        return Ok(false);
+    }
+    let note = note_of(alloc, file)?;
+    Ok(!searched.has_text(&note))
+}
+
+// Appends a number.
+fn push_number(numbers: &mut Vec<u16>, number: u16) -> Result<(), AllocError>
+    ensures { OnOk result (numbers.new.items ≡ numbers.old.items ++ number ∷ []) }
+{
+    numbers.push(number)?;
+    Ok(())
+}
+
+// Appends a file, if it is not the one at `/init` and no step of a search read or executed it.
+fn push_unread(
+    alloc: Global,
+    tree: &Tree,
+    searched: &Searched,
+    files: &mut Vec<u16>,
+    file: u16,
+) -> Result<(), AllocError>
+    ensures { OnOk result (files.new.items ≡ files.old.items ++ one_if (is_without_note tree.now.tree searched.now.texts file) file) }
+{
+    if is_unread(alloc, tree, searched, file)? {
+        return push_number(files, file);
+    }
+    Ok(())
+}
+
+// Returns those of files that are not the one at `/init` and that no step of a search read or executed.
+fn unread_among(
+    alloc: Global,
+    tree: &Tree,
+    searched: &Searched,
+    named: &[u16],
+) -> Result<Vec<u16>, AllocError>
+    ensures { IfOk result (λ files. files.items ≡ filter (is_without_note tree.now.tree searched.now.texts) named.now) }
+{
+    let mut files = Vec::new(alloc);
+    for file in named {
+        push_unread(alloc, tree, searched, &mut files, *file)?;
+    }
+    Ok(files)
+}
+
+// Returns the files of a tree, except the one at `/init`, that no step of a search read or executed.
+fn unread_files(alloc: Global, tree: &Tree, searched: &Searched) -> Result<Vec<u16>, AllocError>
+    ensures { IfOk result (λ files. files.items ≡ files_without_note tree.now.tree searched.now.texts) }
+{
+    let named = named_files(alloc, tree)?;
+    unread_among(alloc, tree, searched, &named)
+}
+
+// Writes the line of an unread file.
+#[tactic(auto, unfolding(pv_model::specs::Trace::text_line))]
+fn write_file<W: Sink>(out: &mut W, tree: &Tree, file: u16) -> Result<(), Failed>
+    ensures { Writes W.Sink (answer_line_bytes (unread_file_line tree.now.tree file)) out.old out.new result }
+{
+    let line = Line {
+        pid: 0,
+        word: *b"UNRD",
+        text: NodeBrief { tree, node: file },
+    };
+    line.write(out)
+}
+
+// Writes the lines of unread files.
+fn write_files<W: Sink>(out: &mut W, tree: &Tree, files: &[u16]) -> Result<(), Failed>
+    ensures { Writes W.Sink (answer_bytes (map (unread_file_line tree.now.tree) files.now)) out.old out.new result }
+{
+    for file in files {
+        write_file(out, tree, *file)?;
+    }
+    Ok(())
+}
+
+// Writes a line UNRD for each file of the first tree, in the order of a listing, each once, that is not the file at
+// `/init` and that no step of a search read or executed.
+fn write_unread_files<W: Sink>(
+    alloc: Global,
+    tree: &Tree,
+    searched: &Searched,
+    out: &mut W,
+) -> Result<(), Stop>
+    ensures { WritesOr W.Sink FailsBy (answer_bytes (map (unread_file_line tree.now.tree) (files_without_note tree.now.tree searched.now.texts))) out.old out.new result }
+{
+    let Ok(files) = unread_files(alloc, tree, searched) else {
+        return Err(Stop::Memory);
+    };
+    Ok(write_files(out, tree, &files)?)
+}
+
+/// Writes a line UNRD for each file of the first tree, in the order of a listing, each once, that is not the file at
+/// `/init` and that no step of a search read or executed. Writes nothing if the search is not complete.
+///
+/// # Errors
+///
+/// - `Memory`, if there is no memory.
+/// - `Write`, if a write failed. The sink received a prefix of the lines.
+#[tactic(auto, using(pv_streams::proofs::Reporting::written_none))]
+pub(crate) fn write_unread<W: Sink>(
+    alloc: Global,
+    tree: &Tree,
+    searched: &Searched,
+    out: &mut W,
+) -> Result<(), Stop>
+    ensures whole { OnOk result (W.written out.new ≡ and_all (W.written out.old) (answer_bytes (unread_lines tree.now.tree searched.now.texts searched.now.complete))) }
+    ensures prefix { OnErr result (WritesPrefix (answer_bytes (unread_lines tree.now.tree searched.now.texts searched.now.complete)) (W.written out.old) (W.written out.new)) }
+    ensures failed { IfErr result (λ stop. FailsBy stop (W.failures out.old) (W.failures out.new)) }
+    ensures quiet { OnOk result (W.failures out.new ≡ W.failures out.old) }
+{
+    if searched.complete {
+        return write_unread_files(alloc, tree, searched, out);
+    }
+    Ok(())
+}

@@ -1,0 +1,191 @@
+//! Questions about the translations of sources.
+ghost use Rattle.std.specs.Prelude.{◌≡◌, ◌≢◌, codes, IfOk, IfErr, Ok, Err};
+ghost use Rattle.pv_cli_commands.specs.Asking.{GivenText, AsksGiven, AsksManifest, AsksRunOfSource, AsksTranslation, AsksTranslationOf, given_text, whole_text};
+ghost use Rattle.pv_cli_commands.specs.Sources.{Translates};
+ghost use Rattle.pv_cli_commands.specs.Status.{Flushes};
+ghost use Rattle.pv_cli_commands.specs.Streams.{disk_of};
+
+use crate::asking::{ask_beside, ask_from, ask_manifest_from, ask_under_by};
+use crate::command::ScheduleInput;
+use crate::fault::Fault;
+use crate::system::Files;
+use pv_questions::{Progress, RunQuestion, TreeQuestion};
+use pv_source::{SourceStop, translate};
+use pv_streams::{Bytes, Failed, Sink, Source};
+use std::alloc::Global;
+
+// Translates a source, or reports its lines in error under a name.
+fn translated<S: Source, E: Sink>(
+    alloc: Global,
+    name: &str,
+    source: &mut S,
+    errors: &mut E,
+) -> Result<Vec<u8>, SourceStop>
+    ensures text { IfOk result (λ text. Translates S.Source E.Sink name.now source.old source.new errors.old errors.new (Ok text.items)) }
+    ensures stop { IfErr result (λ stop. Translates S.Source E.Sink name.now source.old source.new errors.old errors.new (Err stop)) }
+{
+    match translate(alloc, name.as_bytes(), source, errors) {
+        Ok(text) => Ok(text),
+        Err(stop) => Err(stop),
+    }
+}
+
+// Answers a question about the run of the bundle that a source gives, or of a schedule on the tree of its manifest.
+#[tactic(auto, using(crate::proofs::Outcomes::flushed_unwritten))]
+fn ask_given<F: Files, S: Source, W: Sink>(
+    alloc: Global,
+    files: &F,
+    question: RunQuestion<'_>,
+    text: &mut S,
+    schedule: Option<ScheduleInput<'_>>,
+    out: &mut W,
+) -> Result<(), Fault>
+    ensures asks { AsksGiven (disk_of F.Files F.Reader.Source F.Writer.Sink) S.Source W.Sink files.now question.entry schedule.entry text.old text.new out.old out.new result }
+    ensures flushed { Flushes W.Sink out.old out.new result }
+{
+    match schedule {
+        None => ask_from(alloc, question, text, out),
+        Some(ScheduleInput::File(name)) => ask_beside(alloc, files, question, text, name, out),
+        Some(ScheduleInput::Turns(turns)) => ask_under_by(alloc, question, text, turns, out),
+    }
+}
+
+// Answers a question about the run of a bundle in memory, or of a schedule on the tree of its manifest.
+fn ask_text<F: Files, W: Sink>(
+    alloc: Global,
+    files: &F,
+    question: RunQuestion<'_>,
+    text: &[u8],
+    schedule: Option<ScheduleInput<'_>>,
+    out: &mut W,
+) -> Result<(), Fault>
+    ensures asks { (last : GivenText) × AsksGiven (disk_of F.Files F.Reader.Source F.Writer.Sink) given_text W.Sink files.now question.entry schedule.entry (whole_text text.now) last out.old out.new result }
+    ensures flushed { Flushes W.Sink out.old out.new result }
+{
+    let mut source = Bytes::new(text);
+    ask_given(alloc, files, question, &mut source, schedule, out)
+}
+
+// Answers a question about the run of the translation of a source, or reports the lines in error of the source.
+#[tactic(auto, using(crate::proofs::Outcomes::flushed_unwritten, crate::proofs::GivenTexts::translation_asked, crate::proofs::GivenTexts::translation_stopped))]
+fn ask_translation<F: Files, S: Source, W: Sink, E: Sink>(
+    alloc: Global,
+    files: &F,
+    question: RunQuestion<'_>,
+    name: &str,
+    source: &mut S,
+    schedule: Option<ScheduleInput<'_>>,
+    out: &mut W,
+    errors: &mut E,
+) -> Result<(), Fault>
+    ensures asks { AsksTranslation S.Source E.Sink name.now (λ text text_last. AsksGiven (disk_of F.Files F.Reader.Source F.Writer.Sink) given_text W.Sink files.now question.entry schedule.entry text text_last out.old out.new result)
+        source.old source.new out.old out.new errors.old errors.new result }
+    ensures flushed { Flushes W.Sink out.old out.new result }
+{
+    let text = translated(alloc, name, source, errors)?;
+    ask_text(alloc, files, question, &text, schedule, out)
+}
+
+// Answers a question about the run of the translation of a source. The source `-` is read from the standard input.
+#[tactic(auto, using(crate::proofs::Outcomes::flushed_unwritten))]
+pub(crate) fn ask_source<F: Files, I: Source, W: Sink, E: Sink>(
+    alloc: Global,
+    files: &F,
+    input: &mut I,
+    question: RunQuestion<'_>,
+    name: &str,
+    schedule: Option<ScheduleInput<'_>>,
+    out: &mut W,
+    errors: &mut E,
+) -> Result<(), Fault>
+    ensures asks { AsksRunOfSource (disk_of F.Files F.Reader.Source F.Writer.Sink) I.Source W.Sink E.Sink files.now question.entry name.now schedule.entry input.old input.new out.old out.new errors.old errors.new result }
+    ensures flushed { Flushes W.Sink out.old out.new result }
+    ensures unread { name.now ≢ codes "-" → input.new ≡ input.old }
+{
+    if name == "-" {
+        return ask_translation(alloc, files, question, name, input, schedule, out, errors);
+    }
+    match files.open(name) {
+        Ok(mut source) => {
+            ask_translation(
+                alloc,
+                files,
+                question,
+                name,
+                &mut source,
+                schedule,
+                out,
+                errors,
+            )
+        }
+        Err(Failed) => Err(Fault::Source(SourceStop::Read)),
+    }
+}
+
+// Answers a question about the tree of a manifest or bundle in memory.
+fn ask_manifest_text<W: Sink, P: Progress>(
+    alloc: Global,
+    question: TreeQuestion<'_>,
+    text: &[u8],
+    progress: &mut P,
+    out: &mut W,
+) -> Result<(), Fault>
+    ensures asks { (last : GivenText) × AsksManifest given_text W.Sink question.entry (whole_text text.now) last out.old out.new result }
+    ensures flushed { Flushes W.Sink out.old out.new result }
+{
+    let mut source = Bytes::new(text);
+    ask_manifest_from(alloc, question, &mut source, progress, out)
+}
+
+// Answers a question about the tree of the translation of a source, or reports the lines in error of the source.
+#[tactic(auto, using(crate::proofs::Outcomes::flushed_unwritten, crate::proofs::GivenTexts::translation_asked, crate::proofs::GivenTexts::translation_stopped))]
+fn ask_manifest_translation<S: Source, W: Sink, E: Sink, P: Progress>(
+    alloc: Global,
+    question: TreeQuestion<'_>,
+    name: &str,
+    source: &mut S,
+    progress: &mut P,
+    out: &mut W,
+    errors: &mut E,
+) -> Result<(), Fault>
+    ensures asks { AsksTranslation S.Source E.Sink name.now (λ text text_last. AsksManifest given_text W.Sink question.entry text text_last out.old out.new result)
+        source.old source.new out.old out.new errors.old errors.new result }
+    ensures flushed { Flushes W.Sink out.old out.new result }
+{
+    let text = translated(alloc, name, source, errors)?;
+    ask_manifest_text(alloc, question, &text, progress, out)
+}
+
+// Answers a question about the tree of the translation of a source. The source `-` is read from the standard input.
+#[tactic(auto, using(crate::proofs::Outcomes::flushed_unwritten))]
+pub(crate) fn ask_manifest_source<F: Files, I: Source, W: Sink, E: Sink, P: Progress>(
+    alloc: Global,
+    files: &F,
+    input: &mut I,
+    question: TreeQuestion<'_>,
+    name: &str,
+    progress: &mut P,
+    out: &mut W,
+    errors: &mut E,
+) -> Result<(), Fault>
+    ensures asks { AsksTranslationOf (disk_of F.Files F.Reader.Source F.Writer.Sink) I.Source E.Sink files.now name.now (λ text text_last. AsksManifest given_text W.Sink question.entry text text_last out.old out.new result)
+        input.old input.new out.old out.new errors.old errors.new result }
+    ensures flushed { Flushes W.Sink out.old out.new result }
+    ensures unread { name.now ≢ codes "-" → input.new ≡ input.old }
+{
+    if name == "-" {
+        return ask_manifest_translation(alloc, question, name, input, progress, out, errors);
+    }
+    match files.open(name) {
+        Ok(mut source) => ask_manifest_translation(
+            alloc,
+            question,
+            name,
+            &mut source,
+            progress,
+            out,
+            errors,
+        ),
+        Err(Failed) => Err(Fault::Source(SourceStop::Read)),
+    }
+}
