@@ -1,5 +1,6 @@
--- The reason that the code finds for a process is that of the definitions.
-use Rattle.std.proofs.Common.{◌≡◌, ℕ, Bool, true, false, not, ◌&&◌, ◌||◌, if◌then◌else◌, ◌==◌, List, [], ◌∷◌, ◌++◌, map, filter, Option, None, Some, refl, ap, sym, ◌∙◌, append_assoc}
+-- The reasons that the code finds for a process are those of the definitions.
+use Rattle.std.proofs.Common.{◌≡◌, ℕ, Bool, true, false, not, ◌&&◌, ◌||◌, if◌then◌else◌, ◌==◌, List, [], ◌∷◌, ◌++◌, map, filter, Option, None, Some, option_map, refl, ap, sym, ◌∙◌, append_assoc}
+use Rattle.std.specs.List.{cons_option}
 use Rattle.std.specs.Option.{is_none}
 use Rattle.pv_model.specs.declared.open_flags.Mode.{Mode}
 use Rattle.pv_model.specs.declared.open_flags.Mode.TheVariants.{Read, Write, ReadWrite}
@@ -20,7 +21,7 @@ use Rattle.pv_model.specs.Unveil.{Table}
 use Rattle.pv_procs.specs.Parts.{record_of}
 use Rattle.pv_audit.specs.declared.table_access.TableAccess.{TableAccess}
 use Rattle.pv_audit.specs.Findings.{least, nothing, table_of, suspect, noted_by}
-use Rattle.pv_audit.specs.Reasons.{first_of, is_on, descriptors_for, by_number, unless, reason_of_table, reason_of, is_preserved_by, is_preserved, reason_for, reason_at, preserved_for, preserved_at}
+use Rattle.pv_audit.specs.Reasons.{all_reasons_of, present_reasons, reason_if, reasons_of_table, first_of, is_on, descriptors_for, by_number, unless, reason_of_table, reason_of, is_preserved_by, is_preserved, reason_for, reason_at, preserved_for, preserved_at}
 use Rattle.pv_audit.proofs.LeastOnes.{least-fold}
 use Rattle.pv_audit.proofs.FoundOnes.{gives-all, above-all, writes-all, noted-pid, noted-table_access}
 
@@ -37,6 +38,18 @@ first-unless false why rest = refl
 last-unless : (b : Bool) (why : Why) → first_of (Sealed.when (not b) why) ≡ unless b why None
 last-unless true why = refl
 last-unless false why = refl
+
+all-least : (why : ℕ → Why) (ks : List ℕ) (rest : List Why) → Sealed.least_first why ks ++ rest ≡ cons_option (option_map why (least ks)) rest
+all-least why [] rest = refl
+all-least why (k ∷ ks) rest = sym (ap (λ (o : Option ℕ). cons_option (option_map why o) rest) (least-fold k ks))
+
+all-when : (b : Bool) (why : Why) (rest : List Why) → Sealed.when b why ++ rest ≡ cons_option (reason_if b why) rest
+all-when true why rest = refl
+all-when false why rest = refl
+
+last-when : (b : Bool) (why : Why) → Sealed.when b why ≡ cons_option (reason_if b why) []
+last-when true why = refl
+last-when false why = refl
 
 none-empty : (ks : List ℕ) → is_none (least ks) ≡ is_empty ks
 none-empty [] = refl
@@ -100,6 +113,32 @@ module _ (s : State) (p : Process) (f : ℕ) where
       pick true = refl
       pick false = by_table table_access p.table all
 
+  all_by_table : (table_access : TableAccess) (o : Option Table) → ((table : Table) → o ≡ Some table → IsAllOf table table_access) → Sealed.leaks_of_table s p f o
+      ≡ present_reasons (reasons_of_table (record_of p) table_access o)
+  all_by_table table_access None all = refl
+  all_by_table table_access (Some table) all =
+      let is = all table refl in
+      let a = Sealed.when (not p.locked) NotLocked in
+      let b = Sealed.least_first Gives (Sealed.giving s p f opens_or_moves table) in
+      let c = Sealed.least_first Above (Sealed.above s p f table) in
+      let d = Sealed.when (not (Sealed.is_held_over_exec s p f)) Exec in
+      append_assoc (a ++ b) c d ∙ append_assoc a b (c ++ d)
+      ∙ all-when (not p.locked) NotLocked (b ++ (c ++ d))
+      ∙ ap (cons_option (reason_if (not p.locked) NotLocked))
+      (all-least Gives (Sealed.giving s p f opens_or_moves table) (c ++ d)
+      ∙ (λ i. cons_option (option_map Gives (sym is.gives i))
+      ((all-least Above (Sealed.above s p f table) d ∙ (λ j. cons_option (option_map Above (sym is.above j)) (last-when (not (Sealed.is_held_over_exec s p f)) Exec j))) i)))
+
+  pub leaks-reasons : (table_access : TableAccess) → ((table : Table) → p.table ≡ Some table → IsAllOf table table_access) → Sealed.leaks s p f ≡ all_reasons_of s.files (record_of p) f table_access
+  unfolding Sealed.leaks
+  leaks-reasons table_access all =
+      all-least Reads (Sealed.descriptors_on s p f reads) _
+      ∙ (λ i. cons_option (option_map Reads (least (descriptors-for reads permission_r reads-r i))) (pick (Sealed.is_pledged_without (Rpath ∷ ExecPromise ∷ Cpath ∷ []) p) i))
+    where
+      pick : (b : Bool) → (if b then [] else Sealed.leaks_of_table s p f p.table) ≡ present_reasons (if b then [] else reasons_of_table (record_of p) table_access p.table)
+      pick true = refl
+      pick false = all_by_table table_access p.table all
+
   preserved_by : (table_access : TableAccess) (o : Option Table) → ((table : Table) → o ≡ Some table → IsAllOf table table_access) → Sealed.is_preserved_by_table s p f o ≡ is_preserved_by (record_of p) table_access o
   preserved_by table_access None all = refl
   preserved_by table_access (Some table) all =
@@ -132,6 +171,9 @@ module _ (s : State) (p : Process) (f : ℕ) where
 
     pub reason-first : reason_at s f (noted_by s (names_of s.tree f) (suspect pid)) ≡ first_of (Sealed.leaks s p f)
     reason-first = ap (λ (o : Option Process). reason_for s f o mine) there ∙ sym (leaks-reason mine all-of)
+
+    pub reasons-all : all_reasons_of s.files (record_of p) f mine ≡ Sealed.leaks s p f
+    reasons-all = sym (leaks-reasons mine all-of)
 
     pub preserved-frozen : preserved_at s f (noted_by s (names_of s.tree f) (suspect pid)) ≡ Sealed.is_frozen_to s p f
     preserved-frozen = ap (λ (o : Option Process). preserved_for s f o mine) there ∙ sym (frozen-preserved mine all-of)

@@ -1,5 +1,5 @@
 -- The reasons of a process for which all names of the file are noted.
-use Rattle.std.specs.Prelude.{ℕ, Bool, true, false, not, ◌&&◌, ◌||◌, if◌then◌else◌, ◌==◌, List, [], ◌∷◌, map, filter, Option, None, Some, is_some, is_none}
+use Rattle.std.specs.Prelude.{ℕ, Bool, true, false, not, ◌&&◌, ◌||◌, if◌then◌else◌, ◌==◌, List, [], ◌∷◌, map, filter, filter_map, Option, None, Some, is_some, is_none, option_map}
 use Rattle.pv_model.specs.declared.perms.Perms.{Perms}
 use Rattle.pv_model.specs.declared.promise.Promise.TheVariants.{Rpath, Wpath, Cpath, Exec as ExecPromise}
 use Rattle.pv_model.specs.declared.verdict.Leak.{Leak}
@@ -57,6 +57,30 @@ abbrev pub reason_of : Numbered OpenFile → ProcessRecord → ℕ → TableAcce
 reason_of files r f table_access =
     by_number Reads (least (descriptors_for files r.descriptors f permission_r))
     (if has_none_of (Rpath ∷ ExecPromise ∷ Cpath ∷ []) r.pledge.promises then None else reason_of_table r table_access r.unveiled.table)
+
+-- ---- all reasons
+
+-- the reasons that are present
+abbrev pub present_reasons : List (Option Why) → List Why
+present_reasons reasons = filter_map (λ reason. reason) reasons
+
+abbrev pub reason_if : Bool → Why → Option Why
+reason_if true why = Some why
+reason_if false why = None
+
+-- the reasons why a table leaves the file open
+abbrev pub reasons_of_table : ProcessRecord → TableAccess → Option Table → List (Option Why)
+reasons_of_table r table_access None = Some NoTable ∷ []
+reasons_of_table r table_access (Some table) =
+    reason_if (not r.unveiled.locked) NotLocked ∷ option_map Gives table_access.gives ∷ option_map Above table_access.above
+    ∷ reason_if (not (is_held r.pledge)) Exec ∷ []
+
+-- the reasons why a process is not closed to a file
+abbrev pub all_reasons_of : Numbered OpenFile → ProcessRecord → ℕ → TableAccess → List Why
+all_reasons_of files r f table_access =
+    present_reasons
+    (option_map Reads (least (descriptors_for files r.descriptors f permission_r))
+    ∷ (if has_none_of (Rpath ∷ ExecPromise ∷ Cpath ∷ []) r.pledge.promises then [] else reasons_of_table r table_access r.unveiled.table))
 
 abbrev pub is_preserved_by : ProcessRecord → TableAccess → Option Table → Bool
 is_preserved_by r table_access None = false

@@ -11,5 +11,5 @@ mod suspects;
 mod table_access;
 mod verdicts;
 
-pub use reasons::{frozen_to, leak};
+pub use reasons::{Leaks, frozen_to, leak, leaks};
 pub use verdicts::{audit, audit_node, verdict_of};

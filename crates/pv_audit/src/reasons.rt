@@ -2,7 +2,9 @@
 ghost use Rattle.std.specs.Prelude.{◌≡◌, not, option_map, IsSome, Some};
 ghost use Rattle.std.specs.List.{list_all};
 ghost use Rattle.pv_audit.specs.Findings.{least};
-ghost use Rattle.pv_audit.specs.Reasons.{descriptors_for, first_of, is_held as is_held_over_exec_by, is_preserved, is_on as is_open_on, preserved_at, reason_at, reason_of as first_reason_of, reason_of_table as table_reason_of};
+ghost use Rattle.pv_audit.specs.Reasons.{all_reasons_of, descriptors_for, first_of, is_held as is_held_over_exec_by, is_preserved, is_on as is_open_on, preserved_at, reason_at, reason_of as first_reason_of, present_reasons, reason_if, reason_of_table as table_reason_of, reasons_of_table as all_table_reasons};
+ghost use Rattle.pv_model.specs.declared.verdict.Why.TheVariants.{Above, Gives, Reads};
+ghost use Rattle.pv_model.specs.Perms.{permission_r};
 ghost use Rattle.pv_model.specs.Numbered.{at_number};
 ghost use Rattle.pv_model.specs.Promises.{contains};
 ghost use Rattle.pv_model.specs.Sealed.{has_none_of, is_frozen_to, leaks};
@@ -17,6 +19,10 @@ use pv_model::limits::DESCRIPTORS;
 use pv_model::{Perms, Promise, Promises, Why};
 use pv_procs::ProcessRecord;
 use pv_promises::Pledge;
+
+/// The reasons why a process is not closed to a file, in order: a descriptor, the lock or that there is no table, an
+/// entry for a name of the file, an entry for a directory above it, and execve(2). Each may be absent.
+pub type Leaks = [Option<Why>; 5];
 
 // Returns whether a set contains a promise.
 fn has(held: Promises, promise: Promise) -> bool
@@ -126,6 +132,70 @@ fn first_reason(
     }
 }
 
+// Returns a reason if the condition holds.
+fn when_holds(holds: bool, why: Why) -> Option<Why>
+    ensures { result ≡ reason_if holds why }
+{
+    if holds { Some(why) } else { None }
+}
+
+// Returns the least descriptor that reads a file, as a reason.
+fn reading_reason(record: &ProcessRecord, files: &OpenFiles, node: u16) -> Option<Why>
+    ensures { result ≡ option_map Reads (least (descriptors_for files.now.files record.now.descriptors node permission_r)) }
+{
+    let d = least_descriptor(files, &record.descriptors, node, Perms::R)?;
+    Some(Why::Reads(d))
+}
+
+// Returns the entry that governs a name of the file, as a reason.
+fn giving_reason(table_access: &TableAccess) -> Option<Why>
+    ensures { result ≡ option_map Gives table_access.now.gives }
+{
+    let k = table_access.gives?;
+    Some(Why::Gives(k))
+}
+
+// Returns the entry that governs a directory above the file, as a reason.
+fn reason_above(table_access: &TableAccess) -> Option<Why>
+    ensures { result ≡ option_map Above table_access.now.above }
+{
+    let k = table_access.above?;
+    Some(Why::Above(k))
+}
+
+// Returns all reasons why the unveil table of a process does not close it to a file.
+fn reasons_of_table(record: &ProcessRecord, table_access: &TableAccess) -> [Option<Why>; 4]
+    ensures { present_reasons result ≡ present_reasons (all_table_reasons record.now table_access.now record.now.unveiled.table) }
+{
+    if record.unveiled.is_empty() {
+        return [Some(Why::NoTable), None, None, None];
+    }
+    [
+        when_holds(!record.unveiled.is_locked(), Why::NotLocked),
+        giving_reason(table_access),
+        reason_above(table_access),
+        when_holds(!is_held_over_exec(&record.pledge), Why::Exec),
+    ]
+}
+
+// Returns all reasons why a process is not closed to a file.
+fn all_reasons(
+    record: &ProcessRecord,
+    files: &OpenFiles,
+    node: u16,
+    table_access: &TableAccess,
+) -> Leaks
+    ensures { present_reasons result ≡ all_reasons_of files.now.files record.now node table_access.now }
+{
+    let reads = reading_reason(record, files, node);
+    let opening = [Promise::Rpath, Promise::Exec, Promise::Cpath];
+    if is_pledged_without(&record.pledge, &opening) {
+        return [reads, None, None, None, None];
+    }
+    let of_table = reasons_of_table(record, table_access);
+    [reads, of_table[0], of_table[1], of_table[2], of_table[3]]
+}
+
 // Returns whether a process that is closed to a file can't write it either.
 fn can_not_write(
     record: &ProcessRecord,
@@ -185,6 +255,22 @@ pub fn leak(parts: &Parts, pid: u32, node: u16) -> Option<Why>
     let mut suspects = [Suspect::new(pid)];
     note_names(parts, node, &mut suspects);
     reason_for(parts, &suspects[0], node)
+}
+
+/// Returns all reasons why a live process is not closed to a file, in the order of `leak`. There is none if the process
+/// is closed to the file.
+pub fn leaks(parts: &Parts, pid: u32, node: u16) -> Leaks
+    requires { IsSome (process_at parts.now pid) }
+    ensures { (p : Process) → process_at parts.now pid ≡ Some p → present_reasons result ≡ leaks parts.now p node }
+{
+    let mut suspects = [Suspect::new(pid)];
+    note_names(parts, node, &mut suspects);
+    all_reasons(
+        parts.record(pid),
+        parts.files(),
+        node,
+        &suspects[0].table_access,
+    )
 }
 
 /// Returns whether a live process that is closed to a file has no descriptor that writes the file, and can never get

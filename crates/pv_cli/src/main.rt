@@ -2,8 +2,8 @@
 //!
 //! `main` passes the words, the files and the standard streams to `run`. The output is buffered, so that many small
 //! writes are one system call. Without arguments, and with a terminal as standard input, the program first says that it
-//! reads a bundle. If the standard error is a terminal, a search shows its progress there. The contract of `run`, over
-//! any files and streams, is what is proved of the program.
+//! reads a bundle. If the standard error is a terminal, a search shows its progress there, and errors are explained by
+//! default. The contract of `run`, over any files and streams, is what is proved of the program.
 #![tactic(auto)]
 
 use pv_cli_commands::HostSystem;
@@ -63,7 +63,14 @@ fn main(rt: HostRuntime) -> ExitCode {
         Ok(words) => {
             greet(&rt, words.as_slice());
             let mut progress = Shown::new(&screen);
-            match run(rt.alloc(), words.as_slice(), &mut system, &mut progress) {
+            let explains = rt.stderr().is_terminal();
+            match run(
+                rt.alloc(),
+                words.as_slice(),
+                explains,
+                &mut system,
+                &mut progress,
+            ) {
                 0 if !name_build(&rt, words.as_slice()) => report(&Fault::Write, &mut system),
                 status => status,
             }

@@ -1,9 +1,9 @@
 -- The matches of a line, or its refusal by the parser, and the command that it asks for.
-use Rattle.std.proofs.Common.{◌≡◌, ◌⊎◌, ◌∙◌, ap, sym, subst, inl, inr, Bool, true, false, arith, if◌then◌else◌, bytes_eq, ℕ, List, [], ◌∷◌, length, map, codes, Option, None, Some, option_map, refl}
+use Rattle.std.proofs.Common.{◌≡◌, ◌∙◌, ap, sym, subst, inl, inr, Bool, true, false, arith, if◌then◌else◌, bytes_eq, ℕ, List, [], ◌∷◌, length, map, codes, Option, None, Some, option_map, refl}
 use Rattle.std.proofs.lemmas.Bool.{and_parts, false_from_ne_true}
 use Rattle.std.proofs.lemmas.List.{length-map}
 use Rattle.std.proofs.lemmas.Slice.Eq.{bytes_eq-Decides}
-use Rattle.std.specs.Prelude.{◌<◌, ◌≤◌, Box, Result, Ok, Err, IfErr, IfOk, IfSome, IsErrAnd}
+use Rattle.std.specs.Prelude.{◌<◌, ◌≤◌, Box, Result, Ok, Err, IfErr, IfOk, IsErrAnd}
 use Rattle.std.specs.Option.{IsSomeAnd}
 use Rattle.std.specs.Box.{box_value}
 use Rattle.clap.specs.Words.{HasKind, Row, Text, fault_of, first_of, found_of, kind_of, rows_of, subcommand_rows, takes}
@@ -13,7 +13,7 @@ use Rattle.clap.specs.declared.error.kind.ErrorKind.TheVariants.{MissingRequired
 use Rattle.clap.specs.declared.parser.matches.SubCommand.{SubCommand}
 use Rattle.clap.specs.declared.parser.matches.ArgMatches.TheViews.{out-SubCommand}
 use Rattle.clap.proofs.OnLiterals.{clap_on_literals}
-use Rattle.clap.specs.Words.{is_simple, is_simple_and_free, subcommand_of}
+use Rattle.clap.specs.Words.{is_simple, is_simple_and_free, matches_of, subcommand_of}
 use Rattle.pv_cli_commands.specs.declared.command.Command.{Command}
 use Rattle.pv_cli_commands.specs.declared.command.Command.TheVariants.{RunTree, MakeImage, ListImage, RunImage, MigrateImage, ImportDirectory, ExportImage, AuditImage, WriteSource, Ask, AskTree}
 use Rattle.pv_cli_commands.specs.declared.command.RunInput.{RunInput}
@@ -26,12 +26,14 @@ use Rattle.pv_cli_commands.specs.declared.command.TreeInput.TheVariants.{Image, 
 use Rattle.pv_questions.specs.Schedules.{are_turns}
 use Rattle.pv_questions.specs.declared.question.Question.{Question}
 use Rattle.pv_questions.specs.declared.question.Question.TheVariants.{Trace, Audit}
-use Rattle.pv_questions.specs.declared.question.TreeQuestion.TheVariants.{Listing, File, Turns, Explore, Access, Graph}
+use Rattle.pv_questions.specs.declared.question.TreeQuestion.TheVariants.{Listing, File, Turns, Search as OfSearch}
+use Rattle.pv_questions.specs.declared.question.Search.{Search}
+use Rattle.pv_questions.specs.declared.question.Search.TheVariants.{Explore, Access, Exposure, Policy, Graph}
 use Rattle.pv_cli_line.specs.declared.command.CommandLine.{CommandLine}
 use Rattle.pv_cli_line.specs.declared.command.LineFault.{LineFault}
 use Rattle.pv_cli_line.specs.declared.command.LineFault.TheVariants as line
 use Rattle.pv_cli_line.specs.declared.matches.Migration.{Migration}
-use Rattle.pv_cli_line.specs.Line.{AreFaultyTurns, HasTexts, IsCommandIn, IsMigrationOf, IsPlain, IsQuestionIn, IsRefused, IsTextIn, IsTextless, IsTreeIn, IsValidIn, IsValidTreeIn, IsWithoutNumbers, RefusesLine, RefusesTurns, RefusesTurnsOf, RefusesWords, entered_text, is_given, is_verbose_in, is_verbose_line, of_kind, of_parser, turns_of}
+use Rattle.pv_cli_line.specs.Line.{AreFaultyTurns, HasTexts, IsCommandIn, IsMigrationOf, IsPlain, IsQuestionIn, IsRefused, IsTextIn, IsTextless, IsTreeIn, IsValidIn, IsValidTreeIn, IsWithoutNumbers, RefusesLine, RefusesTurns, RefusesTurnsOf, RefusesWords, entered_text, is_verbose_in, is_verbose_line, of_kind, of_parser, search_name, turns_of}
 use Rattle.pv_cli_line.specs.Parser.{pvsim_app}
 
 module _ {Z : Type 0} where
@@ -62,17 +64,19 @@ module _ {Z : Type 0} where
       ap (λ x. if x then first_of argument (rows_of (found_of (out-SubCommand (box_value b)).matches)) else None)
       (false_from_ne_true (bytes_eq entered name) (λ same. other (ap Some ((bytes_eq-Decides entered name).0 same))))
 
--- the flag of the entered command
-pub verbose-entered : (entered : Option (Text × List Row)) (rows : List Row) → option_map (λ p. p.1) entered ≡ Some rows
-    → is_verbose_in entered ≡ is_given (first_of (codes "verbose") rows)
-verbose-entered None rows r = cc
-verbose-entered (Some p) rows r = let same : p.1 ≡ rows = cc in ap (λ rs. is_given (first_of (codes "verbose") rs)) same
-
 -- a line without words has no flag
-pub verbose-wordless : {A : Type 0} (text : A → Text) (words : List A) → length words ≤ 1 → is_verbose_line (map text words) ≡ false
-verbose-wordless text [] few = refl
-verbose-wordless text (program ∷ []) few = refl
-verbose-wordless text (program ∷ word ∷ words) few = absurd (omega (arith, few))
+pub verbose-wordless : {A : Type 0} (text : A → Text) (default : Bool) (words : List A) → length words ≤ 1 → is_verbose_line default (map text words) ≡ default
+verbose-wordless text default [] few = refl
+verbose-wordless text default (program ∷ []) few = refl
+verbose-wordless text default (program ∷ word ∷ words) few = absurd (omega (arith, few))
+
+-- one with words has the flags of its matches
+pub verbose-words : {A : Type 0} (text : A → Text) (default : Bool) (words : List A) (r : Result CommandLine LineFault) → 1 < length words
+    → IfOk r (λ line. line.is_verbose ≡ is_verbose_in default (matches_of pvsim_app (map text words)) (subcommand_of pvsim_app (map text words)))
+    → IfOk r (λ line. line.is_verbose ≡ is_verbose_line default (map text words))
+verbose-words text default [] r some is = absurd (omega (arith, some))
+verbose-words text default (program ∷ []) r some is = absurd (omega (arith, some))
+verbose-words text default (program ∷ word ∷ words) r some is = is
 
 -- ---- if no command has its texts, there is no command
 
@@ -114,37 +118,31 @@ module _ (entered : Option (Text × List Row)) where
   no_command plain list cat (AskTree Listing (Image image)) without is = absurd is
   no_command plain list cat (AskTree (File path) tree) without is = cat path.now tree is
   no_command plain list cat (AskTree (Turns slice steps) tree) without is = absurd without
-  no_command plain list cat (AskTree (Explore states) tree) without is = absurd without
-  no_command plain list cat (AskTree (Access states) tree) without is = absurd without
-  no_command plain list cat (AskTree (Graph states lists_tree) tree) without is = absurd without
+  no_command plain list cat (AskTree (OfSearch search states) tree) without is = absurd without
 
   pub no_command_at_all :
       ((command : Command) → IsWithoutNumbers command → IsCommandIn entered command → ⊥)
       → ((image out blocks inodes : Text) → HasTexts entered image out blocks inodes → ⊥)
       → ((directory image : Text) → entered_text entered (codes "import") (codes "DIR") ≡ Some directory → entered_text entered (codes "import") (codes "IMAGE") ≡ Some image → ⊥)
       → ((tree : TreeInput) → IsValidTreeIn entered (codes "turns") tree → ⊥)
-      → ((tree : TreeInput) → IsValidTreeIn entered (codes "explore") tree → ⊥)
-      → ((tree : TreeInput) → IsValidTreeIn entered (codes "access") tree → ⊥)
-      → ((tree : TreeInput) → IsValidTreeIn entered (codes "graph") tree → ⊥)
+      → ((search : Search) (tree : TreeInput) → IsValidTreeIn entered (search_name search) tree → ⊥)
       → ((question : Question) (run : RunInput) → IsQuestionIn entered question run → ⊥)
       → (command : Command) → IsCommandIn entered command → ⊥
-  no_command_at_all other migrates imports turns explores accesses graphs asks (RunTree file) is = asks Trace (Bundle (Plain file)) is.0
-  no_command_at_all other migrates imports turns explores accesses graphs asks (WriteSource file kind) is = other (WriteSource file kind) tt is
-  no_command_at_all other migrates imports turns explores accesses graphs asks (ListImage image) is = other (ListImage image) tt is
-  no_command_at_all other migrates imports turns explores accesses graphs asks (MakeImage manifest image) is = other (MakeImage manifest image) tt is
-  no_command_at_all other migrates imports turns explores accesses graphs asks (RunImage image schedule out) is = other (RunImage image schedule out) tt is
-  no_command_at_all other migrates imports turns explores accesses graphs asks (ExportImage image directory) is = other (ExportImage image directory) tt is
-  no_command_at_all other migrates imports turns explores accesses graphs asks (AuditImage image schedule path) is = asks (Audit path) (OfImage image (InFile schedule)) is.0
-  no_command_at_all other migrates imports turns explores accesses graphs asks (MigrateImage image out blocks inodes) is =
+  no_command_at_all other migrates imports turns searches asks (RunTree file) is = asks Trace (Bundle (Plain file)) is.0
+  no_command_at_all other migrates imports turns searches asks (WriteSource file kind) is = other (WriteSource file kind) tt is
+  no_command_at_all other migrates imports turns searches asks (ListImage image) is = other (ListImage image) tt is
+  no_command_at_all other migrates imports turns searches asks (MakeImage manifest image) is = other (MakeImage manifest image) tt is
+  no_command_at_all other migrates imports turns searches asks (RunImage image schedule out) is = other (RunImage image schedule out) tt is
+  no_command_at_all other migrates imports turns searches asks (ExportImage image directory) is = other (ExportImage image directory) tt is
+  no_command_at_all other migrates imports turns searches asks (AuditImage image schedule path) is = asks (Audit path) (OfImage image (InFile schedule)) is.0
+  no_command_at_all other migrates imports turns searches asks (MigrateImage image out blocks inodes) is =
       migrates image.now out.now is.2.word is.3.word (record { has_image = is.0; has_out = is.1; has_blocks = is.2.is_entered; has_inodes = is.3.is_entered })
-  no_command_at_all other migrates imports turns explores accesses graphs asks (ImportDirectory directory image version skips) is = imports directory.now image.now is.0 is.1
-  no_command_at_all other migrates imports turns explores accesses graphs asks (Ask question run) is = asks question.question run is.0
-  no_command_at_all other migrates imports turns explores accesses graphs asks (AskTree Listing tree) is = other (AskTree Listing tree) tt is
-  no_command_at_all other migrates imports turns explores accesses graphs asks (AskTree (File path) tree) is = other (AskTree (File path) tree) tt is
-  no_command_at_all other migrates imports turns explores accesses graphs asks (AskTree (Turns slice steps) tree) is = turns tree is.0
-  no_command_at_all other migrates imports turns explores accesses graphs asks (AskTree (Explore states) tree) is = explores tree is.0
-  no_command_at_all other migrates imports turns explores accesses graphs asks (AskTree (Access states) tree) is = accesses tree is.0
-  no_command_at_all other migrates imports turns explores accesses graphs asks (AskTree (Graph states lists_tree) tree) is = graphs tree is.0
+  no_command_at_all other migrates imports turns searches asks (ImportDirectory directory image version skips) is = imports directory.now image.now is.0 is.1
+  no_command_at_all other migrates imports turns searches asks (Ask question run) is = asks question.question run is.0
+  no_command_at_all other migrates imports turns searches asks (AskTree Listing tree) is = other (AskTree Listing tree) tt is
+  no_command_at_all other migrates imports turns searches asks (AskTree (File path) tree) is = other (AskTree (File path) tree) tt is
+  no_command_at_all other migrates imports turns searches asks (AskTree (Turns slice steps) tree) is = turns tree is.0
+  no_command_at_all other migrates imports turns searches asks (AskTree (OfSearch search states) tree) is = searches search tree is.0
 
   module _ (command : Text) where
     -- a text is one of a bundle and a source
@@ -268,3 +266,18 @@ nothing-asked words entered appears error is none = record {
   is_among = inr is;
   none = λ taken command there. none command (subst (λ (e : Option (Text × List Row)). IsCommandIn e command) (sym appears) there);
 }
+
+-- if no search was entered under its own name, none was entered
+module _ (entered : Option (Text × List Row)) where
+  pub no_search :
+      ((tree : TreeInput) → IsValidTreeIn entered (codes "explore") tree → ⊥)
+      → ((tree : TreeInput) → IsValidTreeIn entered (codes "access") tree → ⊥)
+      → ((tree : TreeInput) → IsValidTreeIn entered (codes "exposure") tree → ⊥)
+      → ((tree : TreeInput) → IsValidTreeIn entered (codes "policy") tree → ⊥)
+      → ((tree : TreeInput) → IsValidTreeIn entered (codes "graph") tree → ⊥)
+      → (search : Search) (tree : TreeInput) → IsValidTreeIn entered (search_name search) tree → ⊥
+  no_search explores accesses exposures policies graphs Explore = explores
+  no_search explores accesses exposures policies graphs Access = accesses
+  no_search explores accesses exposures policies graphs Exposure = exposures
+  no_search explores accesses exposures policies graphs Policy = policies
+  no_search explores accesses exposures policies graphs (Graph lists_tree) = graphs

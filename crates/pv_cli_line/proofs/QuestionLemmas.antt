@@ -1,14 +1,13 @@
 -- The questions about a run in the matches of a line.
-use Rattle.std.proofs.Common.{◌≡◌, sym, subst, inr, ℕ, List, codes, Option, None, Some, option_map, refl}
-use Rattle.std.specs.Prelude.{⊤}
+use Rattle.std.proofs.Common.{◌≡◌, inr, ℕ, List, codes, Option, None, Some, option_map, refl}
 use Rattle.clap.specs.Words.{Row, Text}
 use Rattle.pv_cli_commands.specs.declared.command.Command.{Command}
 use Rattle.pv_cli_commands.specs.declared.command.Command.TheVariants.{RunTree, MakeImage, ListImage, RunImage, MigrateImage, ImportDirectory, ExportImage, AuditImage, WriteSource, Ask, AskTree}
 use Rattle.pv_cli_commands.specs.declared.command.RunInput.{RunInput}
 use Rattle.pv_questions.specs.declared.question.Question.{Question}
-use Rattle.pv_questions.specs.declared.question.Question.TheVariants.{Trace, State, Reach, Explain, Needs, Audit}
+use Rattle.pv_questions.specs.declared.question.Question.TheVariants.{Trace, State, Reach, Explain, Needs, Audit, Reasons}
 use Rattle.pv_questions.specs.declared.question.RunQuestion.{RunQuestion}
-use Rattle.pv_cli_line.specs.Line.{EncodesNumber, IsCommandIn, IsCommandOf, IsOwnQuestion, IsQuestionIn, IsRunIn, IsTracedIn, IsValidRunIn, LacksNumber, size_in, steps_word}
+use Rattle.pv_cli_line.specs.Line.{EncodesNumber, IsCommandIn, IsCommandOf, IsQuestionIn, IsRunIn, IsTracedIn, IsValidRunIn, LacksNumber, size_in, steps_word}
 
 no_word : (word : Option Text) → option_map size_in word ≡ None → word ≡ None
 no_word None is = refl
@@ -36,7 +35,7 @@ module _ (entered : Option (Text × List Row)) where
   pub no_number : (question : Question) (run : RunInput) (word : Text) → IsQuestionIn entered question run → steps_word entered question ≡ Some word → size_in word ≡ None
       → LacksNumber entered
   no_number question run word enters is none =
-      inr (inr (inr (inr (inr (inr (inr (record { question = question; run = run; are_entered = enters; word = word; is_word = is; is_none = none })))))))
+      inr (inr (inr (inr (inr (record { question = question; run = run; are_entered = enters; word = word; is_word = is; is_none = none })))))
 
   -- if no command of a question has its texts, there is no question
   pub no_question :
@@ -49,5 +48,6 @@ module _ (entered : Option (Text × List Row)) where
   no_question traced state explain needs audit reaches State run is = state run is
   no_question traced state explain needs audit reaches (Explain errors) run is = explain run is.0
   no_question traced state explain needs audit reaches (Needs granted lines) run is = needs run is.0
-  no_question traced state explain needs audit reaches (Audit path) run is = audit run (option_map (λ bytes. bytes.now) path) is
+  no_question traced state explain needs audit reaches (Audit path) run is = audit run (option_map (λ bytes. bytes.now) path) is.0
+  no_question traced state explain needs audit reaches (Reasons path) run is = audit run (option_map (λ bytes. bytes.now) path) is.0
   no_question traced state explain needs audit reaches (Reach pid) run is = reaches pid run is

@@ -1,7 +1,7 @@
 -- The command in the words of a command line.
-use Rattle.std.specs.Prelude.{◌≡◌, ◌≢◌, ◌⊎◌, ⊤, ℕ, ◌<◌, Bool, ◌&&◌, nat_le, true, false, if◌then◌else◌, bytes_eq, List, [], ◌∷◌, length, codes, Option, None, Some, IfSome, option_map}
+use Rattle.std.specs.Prelude.{◌≡◌, ◌≢◌, ◌⊎◌, ⊤, ℕ, ◌<◌, Bool, ◌&&◌, ◌||◌, not, nat_le, true, false, if◌then◌else◌, bytes_eq, List, [], ◌∷◌, length, codes, Option, None, Some, IfSome, option_map}
 use Rattle.std.specs.Option.{IsSomeAnd}
-use Rattle.clap.specs.Words.{Row, Text, IsAmong, fault_of, first_of, kind_of, subcommand_of, takes}
+use Rattle.clap.specs.Words.{Row, Text, IsAmong, fault_of, first_of, kind_of, matches_of, subcommand_of, takes}
 use Rattle.clap.specs.declared.error.Error.{Error}
 use Rattle.clap.specs.declared.error.kind.ErrorKind.{ErrorKind}
 use Rattle.clap.specs.declared.error.kind.ErrorKind.TheVariants.{OutOfMemory, MissingRequiredArgument, ValueValidation}
@@ -20,11 +20,13 @@ use Rattle.pv_cli_commands.specs.declared.command.TextInput.TheVariants.{Plain, 
 use Rattle.pv_cli_commands.specs.declared.command.TreeInput.{TreeInput}
 use Rattle.pv_cli_commands.specs.declared.command.TreeInput.TheVariants.{Image, Manifest}
 use Rattle.pv_questions.specs.declared.question.Question.{Question}
-use Rattle.pv_questions.specs.declared.question.Question.TheVariants.{Trace, State, Reach, Explain, Needs, Audit}
+use Rattle.pv_questions.specs.declared.question.Question.TheVariants.{Trace, State, Reach, Explain, Needs, Audit, Reasons}
 use Rattle.pv_questions.specs.Schedules.{are_turns}
 use Rattle.pv_questions.specs.declared.question.RunQuestion.{RunQuestion}
 use Rattle.pv_questions.specs.declared.question.TreeQuestion.{TreeQuestion}
-use Rattle.pv_questions.specs.declared.question.TreeQuestion.TheVariants.{Listing, File, Turns, Explore, Access, Graph}
+use Rattle.pv_questions.specs.declared.question.TreeQuestion.TheVariants.{Listing, File, Turns, Search as OfSearch}
+use Rattle.pv_questions.specs.declared.question.Search.{Search}
+use Rattle.pv_questions.specs.declared.question.Search.TheVariants.{Explore, Access, Exposure, Policy, Graph}
 use Rattle.pv_cli_line.specs.declared.matches.Parsed.{Parsed}
 use Rattle.pv_cli_line.specs.declared.matches.Parsed.TheVariants as found
 use Rattle.pv_cli_line.specs.declared.command.LineFault.{LineFault}
@@ -46,10 +48,17 @@ abbrev pub is_given : Option Text → Bool
 is_given None = false
 is_given (Some text) = bytes_eq text (codes "true")
 
--- the flag `verbose` of the entered command is set
-abbrev pub is_verbose_in : Option (Text × List Row) → Bool
-is_verbose_in None = false
-is_verbose_in (Some p) = is_given (first_of (codes "verbose") p.1)
+-- a flag is set, among the arguments before the name of a command or among those of the entered command
+abbrev pub is_set : List Row → Text → Bool
+is_set rows flag = is_given (first_of flag rows)
+
+abbrev pub is_set_in : List Row → Option (Text × List Row) → Text → Bool
+is_set_in above None flag = is_set above flag
+is_set_in above (Some p) flag = is_set above flag || is_set p.1 flag
+
+-- errors are explained: by default or because of the flag `verbose`, unless the flag `quiet` is set
+abbrev pub is_verbose_in : Bool → List Row → Option (Text × List Row) → Bool
+is_verbose_in default above entered = (default || is_set_in above entered (codes "verbose")) && not (is_set_in above entered (codes "quiet"))
 
 -- the number of 32 bits that a word is, in decimal without leading zeros
 unfoldable pub size_in : Text → Option ℕ
@@ -171,11 +180,24 @@ states_entered entered command = states_in (entered_text entered command (codes 
 
 -- the version, or its default
 abbrev pub version_entered : Option (Text × List Row) → Option Version
-version_entered entered = version_in (entered_text entered (codes "import") (codes "version"))
+version_entered entered = version_in (entered_text entered (codes "import") (codes "image-version"))
 
 -- the output of `source`
 abbrev pub output_entered : Option (Text × List Row) → Output
 output_entered entered = if is_given (entered_text entered (codes "source") (codes "lines")) then ProgramLines else Translation
+
+-- the name of the command of a search
+abbrev pub search_name : Search → Text
+search_name Explore = codes "explore"
+search_name Access = codes "access"
+search_name Exposure = codes "exposure"
+search_name Policy = codes "policy"
+search_name (Graph lists_tree) = codes "graph"
+
+-- the flags of the command of a search are those entered
+abbrev pub HasFlags : Option (Text × List Row) → Search → Type 0
+HasFlags entered (Graph lists_tree) = is_given (entered_text entered (codes "graph") (codes "tree")) ≡ lists_tree
+HasFlags entered search = ⊤
 
 -- a question about a tree was entered, with its input
 abbrev pub IsTreeQuestionIn : Option (Text × List Row) → TreeQuestion → TreeInput → Type 0
@@ -184,13 +206,8 @@ IsTreeQuestionIn entered Listing (Image image) = ⊥
 IsTreeQuestionIn entered (File path) tree = IsTreeIn entered (codes "cat") (codes "PATH") tree (Some path.now)
 IsTreeQuestionIn entered (Turns slice steps) tree =
     IsValidTreeIn entered (codes "turns") tree × (slice_entered entered ≡ Some slice) × (steps_entered entered ≡ Some steps)
-IsTreeQuestionIn entered (Explore states) tree =
-    IsValidTreeIn entered (codes "explore") tree × (states_entered entered (codes "explore") ≡ Some states)
-IsTreeQuestionIn entered (Access states) tree =
-    IsValidTreeIn entered (codes "access") tree × (states_entered entered (codes "access") ≡ Some states)
-IsTreeQuestionIn entered (Graph states lists_tree) tree =
-    IsValidTreeIn entered (codes "graph") tree × (states_entered entered (codes "graph") ≡ Some states)
-    × (is_given (entered_text entered (codes "graph") (codes "tree")) ≡ lists_tree)
+IsTreeQuestionIn entered (OfSearch search states) tree =
+    IsValidTreeIn entered (search_name search) tree × (states_entered entered (search_name search) ≡ Some states) × HasFlags entered search
 
 -- the text of a number, if there is one, is this number
 abbrev pub EncodesNumber : Option Text → Option ℕ → Type 0
@@ -204,6 +221,7 @@ question_name (Reach pid) = codes "reach"
 question_name (Explain errors) = codes "explain"
 question_name (Needs granted lines) = codes "needs"
 question_name (Audit path) = codes "audit"
+question_name (Reasons path) = codes "audit"
 
 -- the file of `run-tree` was entered, which the flag `source` makes a source
 abbrev pub IsTracedTextIn : Option (Text × List Row) → TextInput → Type 0
@@ -229,7 +247,10 @@ IsQuestionIn entered (Explain errors) run =
 IsQuestionIn entered (Needs granted lines) run =
     IsValidRunIn entered (codes "needs") run
     × (is_given (entered_text entered (codes "needs") (codes "granted")) ≡ granted) × (is_given (entered_text entered (codes "needs") (codes "lines")) ≡ lines)
-IsQuestionIn entered (Audit path) run = IsRunIn entered (codes "audit") (codes "PATH") run (option_map (λ bytes. bytes.now) path)
+IsQuestionIn entered (Audit path) run =
+    IsRunIn entered (codes "audit") (codes "PATH") run (option_map (λ bytes. bytes.now) path) × (is_given (entered_text entered (codes "audit") (codes "reasons")) ≡ false)
+IsQuestionIn entered (Reasons path) run =
+    IsRunIn entered (codes "audit") (codes "PATH") run (option_map (λ bytes. bytes.now) path) × (is_given (entered_text entered (codes "audit") (codes "reasons")) ≡ true)
 
 -- the text of the number of steps of the question, if there is one
 abbrev pub steps_word : Option (Text × List Row) → Question → Option Text
@@ -317,9 +338,7 @@ IsWithoutNumbers (ImportDirectory directory image version skips) = ⊥
 IsWithoutNumbers (AuditImage image schedule path) = ⊥
 IsWithoutNumbers (Ask question run) = ⊥
 IsWithoutNumbers (AskTree (Turns slice steps) tree) = ⊥
-IsWithoutNumbers (AskTree (Explore states) tree) = ⊥
-IsWithoutNumbers (AskTree (Access states) tree) = ⊥
-IsWithoutNumbers (AskTree (Graph states lists_tree) tree) = ⊥
+IsWithoutNumbers (AskTree (OfSearch search states) tree) = ⊥
 IsWithoutNumbers command = ⊤
 
 -- the turns of a command, in place of a schedule
@@ -358,11 +377,12 @@ IsAsked [] command = IsWithoutWords command
 IsAsked (program ∷ []) command = IsWithoutWords command
 IsAsked (program ∷ word ∷ words) command = IsValidIn (subcommand_of pvsim_app (program ∷ word ∷ words)) command
 
--- the words have the flag `verbose`
-abbrev pub is_verbose_line : List Text → Bool
-is_verbose_line [] = false
-is_verbose_line (program ∷ []) = false
-is_verbose_line (program ∷ word ∷ words) = is_verbose_in (subcommand_of pvsim_app (program ∷ word ∷ words))
+-- errors are explained: by default, which the flags of the words change
+abbrev pub is_verbose_line : Bool → List Text → Bool
+is_verbose_line default [] = default
+is_verbose_line default (program ∷ []) = default
+is_verbose_line default (program ∷ word ∷ words) =
+    is_verbose_in default (matches_of pvsim_app (program ∷ word ∷ words)) (subcommand_of pvsim_app (program ∷ word ∷ words))
 
 -- ---- refusals
 
@@ -421,10 +441,11 @@ pub record LacksCount (entered : Option (Text × List Row)) : Type 0 where
   pub is_none : (slice_entered entered ≡ None) ⊎ (steps_entered entered ≡ None)
 
 -- a search was entered with a number of states that is not a number, or 0
-pub record LacksStates (entered : Option (Text × List Row)) (command : Text) : Type 0 where
+pub record LacksStates (entered : Option (Text × List Row)) : Type 0 where
+  pub search : Search
   pub tree : TreeInput
-  pub are_entered : IsValidTreeIn entered command tree
-  pub is_none : states_entered entered command ≡ None
+  pub are_entered : IsValidTreeIn entered (search_name search) tree
+  pub is_none : states_entered entered (search_name search) ≡ None
 
 -- `import` was entered with a version that does not exist
 pub record LacksVersion (entered : Option (Text × List Row)) : Type 0 where
@@ -437,7 +458,7 @@ pub record LacksVersion (entered : Option (Text × List Row)) : Type 0 where
 -- a numeric argument is not a number
 abbrev pub LacksNumber : Option (Text × List Row) → Type 0
 LacksNumber entered =
-    LacksSize entered ⊎ (LacksProcess entered ⊎ (LacksCount entered ⊎ (LacksStates entered (codes "explore") ⊎ (LacksStates entered (codes "access") ⊎ (LacksStates entered (codes "graph") ⊎ (LacksVersion entered ⊎ LacksSteps entered))))))
+    LacksSize entered ⊎ (LacksProcess entered ⊎ (LacksCount entered ⊎ (LacksStates entered ⊎ (LacksVersion entered ⊎ LacksSteps entered))))
 
 -- the result of reading the matches of a subcommand
 abbrev pub IsFoundIn : Option (Text × List Row) → Parsed → Type 0

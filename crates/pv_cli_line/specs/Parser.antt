@@ -5,7 +5,7 @@ use Rattle.clap.specs.declared.builder.ArgAction.TheVariants.{Set, SetTrue}
 use Rattle.clap.specs.declared.builder.command.Command.{Command as Parser}
 use Rattle.clap.specs.declared.builder.command.Command.TheViews.{out-Command}
 use Rattle.pv_cli_line.specs.declared.parser.Argument.{Argument}
-use Rattle.pv_cli_line.specs.declared.parser.Argument.TheVariants.{Required, Optional, Named, Flag}
+use Rattle.pv_cli_line.specs.declared.parser.Argument.TheVariants.{Required, Optional, Named, Renamed, Flag}
 use Rattle.pv_cli_line.specs.declared.parser.CommandRow.{CommandRow}
 
 -- an optional text
@@ -19,6 +19,10 @@ text_rule name = record (optional_rule name) { required = true }
 -- an option with one text
 abbrev pub long_rule : Text → Rule
 long_rule name = record (optional_rule name) { long = Some name; value_names = 1 }
+
+-- the same, which also has an old name
+abbrev pub renamed_rule : (name old : Text) → Rule
+renamed_rule name old = record (long_rule name) { aliases = old ∷ [] }
 
 -- a bundle, in place of an image and a schedule
 abbrev pub bundle_rule : Rule
@@ -36,13 +40,21 @@ flag_rule name = record (new_rule name) { action = Some SetTrue; long = Some nam
 abbrev pub verbose_rule : Rule
 verbose_rule = record (flag_rule (codes "verbose")) { short = Some 118 }
 
+-- the flag that turns that off
+abbrev pub quiet_rule : Rule
+quiet_rule = record (flag_rule (codes "quiet")) { short = Some 113 }
+
+-- both flags, which may be given before or after the name of a command
+abbrev pub with_flags : App → App
+with_flags app = with_rule (with_rule app verbose_rule) quiet_rule
+
 -- the flag that says that a bundle is given by a source
 abbrev pub source_flag_rule : Rule
 source_flag_rule = record (flag_rule (codes "source")) { short = Some 115 }
 
--- a command: it takes this flag, and then its own arguments
+-- a command: it takes these flags, and then its own arguments
 abbrev pub command_app : Text → List Rule → App
-command_app name rules = fold with_rule (with_rule (new_app name) verbose_rule) rules
+command_app name rules = fold with_rule (with_flags (new_app name)) rules
 
 -- `IMAGE`, or `--bundle FILE` or `--source FILE`
 abbrev pub tree_rules : List Rule
@@ -69,7 +81,7 @@ command_apps =
     ∷ command_app (codes "mkimg") (text_rule (codes "MANIFEST") ∷ text_rule (codes "IMAGE") ∷ [])
     ∷ command_app (codes "ls") tree_rules
     ∷ command_app (codes "run") (text_rule (codes "IMAGE") ∷ text_rule (codes "SCHEDULE") ∷ text_rule (codes "OUT") ∷ [])
-    ∷ command_app (codes "audit") (question_rules ++ optional_rule (codes "PATH") ∷ [])
+    ∷ command_app (codes "audit") (question_rules ++ optional_rule (codes "PATH") ∷ flag_rule (codes "reasons") ∷ [])
     ∷ command_app (codes "state") question_rules
     ∷ command_app (codes "reach") (question_rules ++ optional_rule (codes "PID") ∷ [])
     ∷ command_app (codes "explain") (question_rules ++ flag_rule (codes "errors") ∷ [])
@@ -78,19 +90,21 @@ command_apps =
     ∷ command_app (codes "turns") (tree_rules ++ long_rule (codes "slice") ∷ long_rule (codes "steps") ∷ [])
     ∷ command_app (codes "explore") search_rules
     ∷ command_app (codes "access") search_rules
+    ∷ command_app (codes "exposure") search_rules
+    ∷ command_app (codes "policy") search_rules
     ∷ command_app (codes "graph") (search_rules ++ flag_rule (codes "tree") ∷ [])
     ∷ command_app (codes "migrate")
     (text_rule (codes "IMAGE") ∷ text_rule (codes "OUT") ∷ text_rule (codes "BLOCKS") ∷ text_rule (codes "INODES") ∷ [])
     ∷ command_app (codes "import")
-    (text_rule (codes "DIR") ∷ text_rule (codes "IMAGE") ∷ long_rule (codes "version") ∷ flag_rule (codes "skip") ∷ [])
+    (text_rule (codes "DIR") ∷ text_rule (codes "IMAGE") ∷ renamed_rule (codes "image-version") (codes "version") ∷ flag_rule (codes "skip") ∷ [])
     ∷ command_app (codes "export") (text_rule (codes "IMAGE") ∷ text_rule (codes "DIR") ∷ [])
     ∷ []
 
--- the program without commands: it has a version and requires a command
+-- the program without commands: it has a version, requires a command, and takes these flags
 abbrev pub bare_app : App
-bare_app = record (new_app (codes "pvsim")) {
+bare_app = with_flags (record (new_app (codes "pvsim")) {
   top = record (new_app (codes "pvsim")).top { has_version = true; subcommand_required = true };
-}
+})
 
 -- the program with another command
 abbrev pub with_command : App → App → App
@@ -105,6 +119,7 @@ abbrev pub rule_of_argument : Argument → Rule
 rule_of_argument (Required name help) = text_rule name.now
 rule_of_argument (Optional name help) = optional_rule name.now
 rule_of_argument (Named name short value help) = record (long_rule name.now) { short = short }
+rule_of_argument (Renamed name old value help) = renamed_rule name.now old.now
 rule_of_argument (Flag name short help) = record (flag_rule name.now) { short = short }
 
 -- the command with more arguments of the table

@@ -1,16 +1,17 @@
 //! The command line.
 ghost use Rattle.std.specs.Prelude.{◌≡◌, map, None, IfOk, IfErr, option_map};
-ghost use Rattle.clap.specs.Words.{kind_of, subcommand_of};
-ghost use Rattle.clap.specs.declared.error.kind.ErrorKind.TheVariants.{ValueValidation};
+ghost use Rattle.clap.specs.Words.{kind_of, matches_of, subcommand_of};
+ghost use Rattle.clap.specs.declared.error.kind.ErrorKind.TheVariants.{MissingRequiredArgument, ValueValidation};
 ghost use Rattle.pv_cli_line.specs.Line.{AreFaultyTurns, IsAsked, IsValidIn, RefusesLine, RefusesTurnsOf, RefusesWords, is_verbose_in, is_verbose_line, turns_of as turns_text_of};
 ghost use Rattle.pv_cli_line.specs.Parser.{pvsim_app};
 ghost use Rattle.pv_cli_line.specs.Program.{is_number};
 
 use crate::matches::{Parsed, found_in};
 use crate::parser::parser;
+use crate::superfluous::{Superfluous, superfluous_in};
 use crate::texts::is_verbose;
 use clap::error::ErrorKind;
-use clap::{Command as Parser, Error as ParserError};
+use clap::{ArgMatches, Command as Parser, Error as ParserError};
 use pv_cli_commands::{Command, RunInput, ScheduleInput};
 use pv_questions::is_turns;
 use std::alloc::{AllocError, Global};
@@ -69,7 +70,7 @@ impl From<ParserError> for LineFault {
 pub struct CommandLine<'a> {
     /// The command.
     pub command: Command<'a>,
-    /// Whether the flag `verbose` is set: an error is explained in more lines.
+    /// Whether an error is explained in more lines.
     pub is_verbose: bool,
 }
 
@@ -141,29 +142,57 @@ fn checked<'a>(
     Err(LineFault::Parser(error))
 }
 
+// Returns the error for matches without a command. It names a superfluous word, if there is one, and otherwise the
+// expected arguments.
+fn no_command(
+    alloc: Global,
+    parser: &mut Parser<'_>,
+    matches: &ArgMatches<'_>,
+) -> Result<ParserError, AllocError>
+    ensures { IfOk result (λ error. kind_of error ≡ MissingRequiredArgument) }
+{
+    let Some(Superfluous { command, word }) = superfluous_in(matches) else {
+        return parser.error(
+            ErrorKind::MissingRequiredArgument,
+            "expected IMAGE and its further arguments, or one of --bundle FILE and --source FILE in place of IMAGE and SCHEDULE",
+        );
+    };
+    let message = format!(in alloc;
+        "superfluous word '{word}' for '{command}' with these options"
+    )?;
+    parser.error(ErrorKind::MissingRequiredArgument, message.as_str())
+}
+
 // Parses the words of a command line.
-fn parsed<'a, S: AsStr>(alloc: Global, words: &'a [S]) -> Result<CommandLine<'a>, LineFault>
+fn parsed<'a, S: AsStr>(
+    alloc: Global,
+    words: &'a [S],
+    by_default: bool,
+) -> Result<CommandLine<'a>, LineFault>
     ensures asked { IfOk result (λ line. IsValidIn (subcommand_of pvsim_app (map S.text words.entry.now)) line.command) }
-    ensures verbose { IfOk result (λ line. line.is_verbose ≡ is_verbose_in (subcommand_of pvsim_app (map S.text words.entry.now))) }
+    ensures verbose { IfOk result (λ line. line.is_verbose
+        ≡ is_verbose_in by_default (matches_of pvsim_app (map S.text words.entry.now)) (subcommand_of pvsim_app (map S.text words.entry.now))) }
     ensures refused { IfErr result (RefusesWords (map S.text words.entry.now)) }
 {
     let mut parser = parser(alloc)?;
     let matches = parser.try_get_matches_from_mut(words)?;
     match found_in(&matches) {
         Some(Parsed::Command(command)) => {
-            checked(alloc, &mut parser, command, is_verbose(&matches))
+            checked(
+                alloc,
+                &mut parser,
+                command,
+                is_verbose(&matches, by_default),
+            )
         }
         Some(Parsed::Number) => Err(LineFault::Number),
-        None => Err(LineFault::Parser(parser.error(
-            ErrorKind::MissingRequiredArgument,
-            "expected IMAGE and its further arguments, or one of --bundle FILE and --source FILE in place of IMAGE and SCHEDULE",
-        )?)),
+        None => Err(LineFault::Parser(no_command(alloc, &mut parser, &matches)?)),
     }
 }
 
 /// Parses the words of a command line. The first word is the name of the program. Without further words, the command is
 /// to run the bundle on the standard input. Otherwise it is the command in the parser's matches of the words, with its
-/// arguments, and the flag `verbose` if it is set.
+/// arguments. Errors are explained by default or because of the flag `verbose`, unless the flag `quiet` is set.
 ///
 /// # Errors
 ///
@@ -174,18 +203,19 @@ fn parsed<'a, S: AsStr>(alloc: Global, words: &'a [S]) -> Result<CommandLine<'a>
 pub fn command_line_of<'a, S: AsStr>(
     alloc: Global,
     words: &'a [S],
+    by_default: bool,
 ) -> Result<CommandLine<'a>, LineFault>
     ensures asked { IfOk result (λ line. IsAsked (map S.text words.entry.now) line.command) }
-    ensures verbose { IfOk result (λ line. line.is_verbose ≡ is_verbose_line (map S.text words.entry.now)) }
+    ensures verbose { IfOk result (λ line. line.is_verbose ≡ is_verbose_line by_default (map S.text words.entry.now)) }
     ensures refused { IfErr result (RefusesLine (map S.text words.entry.now)) }
 {
     if words.len() <= 1 {
         return Ok(CommandLine {
             command: Command::RunTree("-"),
-            is_verbose: false,
+            is_verbose: by_default,
         });
     }
-    parsed(alloc, words)
+    parsed(alloc, words, by_default)
 }
 
 /// Returns the command that the words of a command line ask for. The first word is the name of the program. Without
@@ -198,7 +228,7 @@ pub fn command_of<'a, S: AsStr>(alloc: Global, words: &'a [S]) -> Result<Command
     ensures asked { IfOk result (IsAsked (map S.text words.entry.now)) }
     ensures refused { IfErr result (RefusesLine (map S.text words.entry.now)) }
 {
-    match command_line_of(alloc, words) {
+    match command_line_of(alloc, words, false) {
         Ok(line) => Ok(line.command),
         Err(fault) => Err(fault),
     }

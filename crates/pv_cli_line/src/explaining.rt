@@ -2,18 +2,21 @@
 //! expected form.
 //!
 //! A contract says only that an explanation is written to the standard error. Each of its lines begins with two spaces.
+ghost use Rattle.std.specs.Prelude.{◌≡◌};
 ghost use Rattle.pv_cli_line.specs.Messages.{WritesMore};
+ghost use Rattle.pv_cli_line.specs.Program.{is_explained};
 
+use crate::lines::{push_line, push_reason, push_shown};
+use crate::readings::{push_directory, push_readings};
 use pv_cli_commands::{Command, Fault, Files, RunInput, ScheduleInput, TextInput, TreeInput};
 use pv_host_copy::{ExportFault, ImportStop};
-use pv_model::{ImageFault, ListFault, ManifestFault, MigrateFault, RunFault};
+use pv_model::{ImageFault, Layout, ListFault, ManifestFault, MigrateFault, RunFault, Version};
 use pv_questions::AskStop;
 use pv_run::{AuditStop, MigrateStop};
 use pv_source::{SourceStop, faults_of};
 use pv_streams::{SOURCE_BYTES, Sink, read_whole, write_through};
 use pv_text::lines::split_line;
 use std::alloc::{AllocError, Global};
-use std::convert::AsStr;
 
 // The location of an error.
 #[derive(Clone, Copy)]
@@ -34,6 +37,10 @@ enum Cause {
     Schedule(u32),
     // An image, a path or a process.
     Image,
+    // The entries of a directory that an image cannot hold.
+    Entries,
+    // The lines of a source, which are already reported.
+    Source,
     // Memory, or an error that is already reported.
     Nothing,
 }
@@ -71,6 +78,8 @@ fn cause_of(fault: Fault) -> Cause {
         | Fault::Source(SourceStop::Read)
         | Fault::Exporting(ExportFault::Read) => Cause::Reading,
         Fault::Importing(ImportStop::Read) => Cause::Directory,
+        Fault::Importing(ImportStop::Refused) => Cause::Entries,
+        Fault::Source(SourceStop::Refused) => Cause::Source,
         Fault::Exporting(ExportFault::Directory) => Cause::Target,
         Fault::Listing(ListFault::Write)
         | Fault::Auditing(AuditStop::Write)
@@ -84,8 +93,8 @@ fn cause_of(fault: Fault) -> Cause {
             MigrateStop::Refused(MigrateFault::Memory | MigrateFault::Image(ImageFault::Memory)),
         )
         | Fault::Asking(AskStop::Incomplete)
-        | Fault::Source(SourceStop::Memory | SourceStop::Refused)
-        | Fault::Importing(ImportStop::Memory | ImportStop::Refused | ImportStop::WriteLines)
+        | Fault::Source(SourceStop::Memory)
+        | Fault::Importing(ImportStop::Memory | ImportStop::WriteLines)
         | Fault::Exporting(
             ExportFault::Memory
             | ExportFault::Image(ImageFault::Memory)
@@ -216,40 +225,6 @@ impl<'a> Names<'a> {
     }
 }
 
-// Appends a line.
-fn push_line(out: &mut Vec<u8>, words: &str) -> Result<(), AllocError> {
-    out.extend_from_slice(b"  ")?;
-    out.extend_from_slice(words.as_bytes())?;
-    out.extend_from_slice(b"\n")
-}
-
-// Appends a line of a text. A byte that is not from 20 to 7E is shown by its number.
-fn push_shown(alloc: Global, out: &mut Vec<u8>, line: &[u8]) -> Result<(), AllocError> {
-    out.extend_from_slice(b"  ")?;
-    for byte in line {
-        let byte = *byte;
-        if matches!(byte, b' '..=b'~') {
-            out.push(byte)?;
-        } else {
-            out.extend_from_slice(format!(in alloc; "\\x{byte:02x}")?.as_bytes())?;
-        }
-    }
-    out.extend_from_slice(b"\n")
-}
-
-// Appends the name of a file and the reason of the operating system.
-fn push_reason(
-    alloc: Global,
-    out: &mut Vec<u8>,
-    name: &str,
-    reason: Option<String>,
-) -> Result<(), AllocError> {
-    match reason {
-        Some(reason) => push_line(out, format!(in alloc; "{name}: {reason}")?.as_str()),
-        None => push_line(out, name),
-    }
-}
-
 // Returns the line of a text with this number, counted from 1.
 fn line_at(text: &[u8], number: u32) -> Option<&[u8]> {
     let mut rest = text;
@@ -267,10 +242,24 @@ fn bytes_of<F: Files>(alloc: Global, files: &F, name: &str) -> Option<Vec<u8>> {
     read_whole(alloc, &mut reader).ok()
 }
 
+// The message for a bundle that ends before its schedule.
+const UNSCHEDULED: &str = "the line 'schedule' is missing; expected it and a schedule below it";
+
+// Returns whether a line of a text ends in CR LF.
+fn has_crlf(text: &[u8]) -> bool {
+    text.windows(2).any(|pair| pair == b"\r\n".as_slice())
+}
+
+// Appends that the lines of a text end in CR LF.
+fn push_crlf(alloc: Global, out: &mut Vec<u8>, name: &str) -> Result<(), AllocError> {
+    let line = format!(in alloc; "{name}: the lines end in CR LF; use LF")?;
+    push_line(out, line.as_str())
+}
+
 // Returns the message for a line that only a source may have, or for a text that ends before the line.
 fn wanted_of(shown: Option<&[u8]>) -> &'static str {
     let Some(line) = shown else {
-        return "expected the line 'schedule' and a schedule below it";
+        return UNSCHEDULED;
     };
     if line == b"schedule".as_slice() {
         return "unexpected line 'schedule': expected a manifest without a schedule";
@@ -344,12 +333,28 @@ fn push_text<F: Files>(
         return push_line(out, name);
     }
     if names.is_source && named.is_some() {
-        let wanted = "expected the line 'schedule' and a schedule below it";
-        return push_line(out, format!(in alloc; "{name}: {wanted}")?.as_str());
+        return push_line(out, format!(in alloc; "{name}: {UNSCHEDULED}")?.as_str());
     }
     match bytes_of(alloc, files, name) {
+        Some(bytes) if has_crlf(&bytes) => push_crlf(alloc, out, name),
         Some(bytes) => push_faults(alloc, out, name, &bytes, named),
         None => push_line(out, name),
+    }
+}
+
+// Appends the explanation of an error in a source whose lines in error are already reported.
+fn push_source<F: Files>(
+    alloc: Global,
+    out: &mut Vec<u8>,
+    files: &F,
+    names: &Names<'_>,
+) -> Result<(), AllocError> {
+    let Some(name) = names.first_file() else {
+        return Ok(());
+    };
+    match bytes_of(alloc, files, name) {
+        Some(bytes) if has_crlf(&bytes) => push_crlf(alloc, out, name),
+        _ => Ok(()),
     }
 }
 
@@ -361,46 +366,64 @@ fn push_turn<F: Files>(
     name: &str,
     line: u32,
 ) -> Result<(), AllocError> {
+    let bytes = bytes_of(alloc, files, name).unwrap_or(Vec::new(alloc));
+    if has_crlf(&bytes) {
+        return push_crlf(alloc, out, name);
+    }
     let wanted =
         "expected PID or PID COUNT, each from 1 to 99999, with one blank between, on at most 65536 lines";
     push_line(out, format!(in alloc; "{name}:{line}: {wanted}")?.as_str())?;
-    let Some(bytes) = bytes_of(alloc, files, name) else {
-        return Ok(());
-    };
     match line_at(&bytes, line) {
         Some(shown) => push_shown(alloc, out, shown),
         None => Ok(()),
     }
 }
 
-// Appends the explanation of a failed read: the name of each file that could not be read, with the reason if it is
-// known.
-fn push_readings<F: Files>(
-    alloc: Global,
-    out: &mut Vec<u8>,
-    files: &F,
-    names: &Names<'_>,
-) -> Result<(), AllocError> {
-    match names.first_file() {
-        Some(name) => push_reason(alloc, out, name, files.read_reason(alloc, name))?,
-        None => push_line(out, "standard input")?,
-    }
-    match names.schedule {
-        Some(name) => push_reason(alloc, out, name, files.read_reason(alloc, name)),
-        None => Ok(()),
+// Appends what an image of this version holds, and, for version 1, the option for version 2.
+fn push_limits(alloc: Global, out: &mut Vec<u8>, version: Version) -> Result<(), AllocError> {
+    let (files, names) = (Layout::V2.greatest_length, Layout::V2.name_limit);
+    let most = format!(in alloc; "files up to {files} bytes and names up to {names} bytes")?;
+    let most = most.as_str();
+    match version {
+        Version::V1 => {
+            let (files, names) = (Layout::V1.greatest_length, Layout::V1.name_limit);
+            let line = format!(in alloc;
+                "version 1 holds files up to {files} bytes and names up to {names} bytes; '--image-version 2' holds {most}, and more of them"
+            )?;
+            push_line(out, line.as_str())
+        }
+        Version::V2 => push_line(out, format!(in alloc; "version 2 holds {most}")?.as_str()),
     }
 }
 
-// Returns the explanation of an error.
+// Appends the ways out if an image cannot hold the entries of a directory.
+fn push_ways_out(alloc: Global, out: &mut Vec<u8>, command: Command<'_>) -> Result<(), AllocError> {
+    let Command::ImportDirectory { version, skips, .. } = command else {
+        return Ok(());
+    };
+    push_limits(alloc, out, version)?;
+    if skips {
+        return Ok(());
+    }
+    push_line(
+        out,
+        "'--skip' leaves out each entry that is reported as name, size, text or kind",
+    )
+}
+
+// Returns the explanation of an error of a command.
 fn explanation<F: Files>(
     alloc: Global,
     files: &F,
-    names: &Names<'_>,
+    command: Command<'_>,
     cause: Cause,
 ) -> Result<Vec<u8>, AllocError> {
+    let names = &names_of(command);
     let mut out = Vec::new(alloc);
     match cause {
-        Cause::Reading => push_readings(alloc, &mut out, files, names)?,
+        Cause::Reading => {
+            push_readings(alloc, &mut out, files, names.first_file(), names.schedule)?;
+        }
         Cause::Writing => {
             if let Some(name) = names.out {
                 push_reason(alloc, &mut out, name, files.write_reason(alloc, name))?;
@@ -418,14 +441,27 @@ fn explanation<F: Files>(
             Some(name) => push_turn(alloc, &mut out, files, name, line)?,
             None => push_text(alloc, &mut out, files, names, None)?,
         },
-        Cause::Directory => push_line(&mut out, names.first)?,
+        Cause::Directory => push_directory(alloc, &mut out, files, names.first)?,
         Cause::Image => match names.first_file() {
             Some(name) => push_line(&mut out, name)?,
             None => push_line(&mut out, "standard input")?,
         },
+        Cause::Entries => push_ways_out(alloc, &mut out, command)?,
+        Cause::Source => push_source(alloc, &mut out, files, names)?,
         Cause::Nothing => {}
     }
     Ok(out)
+}
+
+// Returns whether an error can be explained: it is not yet reported, or the entries of an import or the lines of a
+// source are refused.
+pub(crate) fn is_explained(fault: Fault) -> bool
+    ensures { result ≡ is_explained fault }
+{
+    match fault {
+        Fault::Importing(ImportStop::Refused) | Fault::Source(SourceStop::Refused) => true,
+        _ => !fault.is_reported(),
+    }
 }
 
 // Writes the explanation of a command's error. If there is no memory or a write fails, nothing more is written.
@@ -439,29 +475,8 @@ pub(crate) fn explain<F: Files, E: Sink>(
 )
     ensures { WritesMore E.Sink errors.old errors.new }
 {
-    let names = names_of(command);
-    let Ok(text) = explanation(alloc, files, &names, cause_of(fault)) else {
+    let Ok(text) = explanation(alloc, files, command, cause_of(fault)) else {
         return;
     };
     let _written = write_through(errors, &text);
-}
-
-// Writes the expected form of a numeric argument. If the write fails, nothing more is written.
-pub(crate) fn explain_number<E: Sink>(errors: &mut E)
-    ensures { WritesMore E.Sink errors.old errors.new }
-{
-    let text =
-        "  expected a decimal number without leading zeros: 0 to 4294967295 for PID, BLOCKS and INODES; 1 to 65536 for --slice and --steps; 1 to 4294967295 for --states; 1 or 2 for --version\n";
-    let _written = write_through(errors, text.as_bytes());
-}
-
-// Returns whether any word is the flag `verbose`.
-pub(crate) fn asks_for_more<S: AsStr>(words: &[S]) -> bool {
-    for word in words {
-        let word = word.as_str();
-        if word == "-v" || word == "--verbose" {
-            return true;
-        }
-    }
-    false
 }

@@ -1,7 +1,7 @@
 //! The command in the matches of the parser.
 ghost use Rattle.std.specs.Prelude.{◌≡◌, ◌⊎◌, ℕ, List, codes, Option, None, Some, IfSome};
 ghost use Rattle.clap.specs.Words.{subcommand_rows_of};
-ghost use Rattle.pv_cli_line.specs.Line.{HasTexts, IsCommandIn, IsCommandOf, IsFoundIn, IsMigrationOf, IsPlain, IsQuestionIn, IsRunIn, IsTracedIn, IsTracedTextIn, IsTreeIn, IsValidRunIn, IsValidTreeIn, IsWithoutNumbers, entered_text, output_entered, question_name, size_in};
+ghost use Rattle.pv_cli_line.specs.Line.{HasFlags, HasTexts, IsCommandIn, IsCommandOf, IsFoundIn, IsMigrationOf, IsPlain, IsQuestionIn, IsRunIn, IsTracedIn, IsTracedTextIn, IsTreeIn, IsValidRunIn, IsValidTreeIn, IsWithoutNumbers, entered_text, output_entered, question_name, search_name, size_in};
 
 use crate::texts::{
     RunTexts, TreeTexts, count_of, is_flag_given, run_in, run_texts_in, size_of, states_of,
@@ -9,7 +9,7 @@ use crate::texts::{
 };
 use clap::ArgMatches;
 use pv_cli_commands::{Command, Output, RunInput, ScheduleInput, TextInput, TreeInput};
-use pv_questions::{Question, RunQuestion, TreeQuestion};
+use pv_questions::{Question, RunQuestion, Search, TreeQuestion};
 
 // Returns the `mkimg` command, if the matches are of it.
 fn make_image_in<'a>(matches: &ArgMatches<'a>) -> Option<Command<'a>>
@@ -115,7 +115,7 @@ fn name_of(question: Question<'_>) -> &'static str
         Question::Reach(_) => "reach",
         Question::Explain { .. } => "explain",
         Question::Needs { .. } => "needs",
-        Question::Audit(_) => "audit",
+        Question::Audit(_) | Question::Reasons(_) => "audit",
     }
 }
 
@@ -173,7 +173,8 @@ fn command_of_question<'a>(question: RunQuestion<'a>, run: RunInput<'a>) -> Comm
             Question::State
             | Question::Reach(_)
             | Question::Explain { .. }
-            | Question::Needs { .. } => Command::Ask { question, run },
+            | Question::Needs { .. }
+            | Question::Reasons(_) => Command::Ask { question, run },
         },
     }
 }
@@ -217,7 +218,12 @@ fn audit_in<'a>(matches: &ArgMatches<'a>) -> Option<Parsed<'a>>
 {
     let RunTexts { run, further } = run_texts_in(matches, "audit", "PATH")?;
     let path = further.map(|path| path.as_bytes());
-    Some(with_steps(matches, Question::Audit(path), run))
+    let question = if is_flag_given(matches, "audit", "reasons") {
+        Question::Reasons(path)
+    } else {
+        Question::Audit(path)
+    };
+    Some(with_steps(matches, question, run))
 }
 
 // Returns the file of `run-tree`, if the matches are of it.
@@ -338,50 +344,55 @@ fn turns_in<'a>(matches: &ArgMatches<'a>) -> Option<Parsed<'a>>
     }))
 }
 
-// Returns the `explore` command, if the matches are of it.
-fn explore_in<'a>(matches: &ArgMatches<'a>) -> Option<Parsed<'a>>
-    ensures found { IfSome result (IsFoundIn (subcommand_rows_of matches.now)) }
-    ensures none { result ≡ None → (tree : TreeInput) → IsValidTreeIn (subcommand_rows_of matches.now) (codes "explore") tree → ⊥ }
+// Returns the name of the command of a search.
+fn name_of_search(search: Search) -> &'static str
+    ensures { result.now ≡ search_name search }
 {
-    let tree = tree_in(matches, "explore")?;
-    let Some(states) = states_of(text_of(matches, "explore", "states")) else {
+    match search {
+        Search::Explore => "explore",
+        Search::Access => "access",
+        Search::Exposure => "exposure",
+        Search::Policy => "policy",
+        Search::Graph { .. } => "graph",
+    }
+}
+
+// Returns the command of a search, if the matches are of it.
+fn search_by<'a>(matches: &ArgMatches<'a>, search: Search) -> Option<Parsed<'a>>
+    requires { HasFlags (subcommand_rows_of matches.now) search }
+    ensures found { IfSome result (IsFoundIn (subcommand_rows_of matches.now)) }
+    ensures none { result ≡ None → (tree : TreeInput) → IsValidTreeIn (subcommand_rows_of matches.now) (search_name search) tree → ⊥ }
+{
+    let command = name_of_search(search);
+    let tree = tree_in(matches, command)?;
+    let Some(states) = states_of(text_of(matches, command, "states")) else {
         return Some(Parsed::Number);
     };
     Some(Parsed::Command(Command::AskTree {
-        question: TreeQuestion::Explore { states },
+        question: TreeQuestion::Search { search, states },
         tree,
     }))
 }
 
-// Returns the `access` command, if the matches are of it.
-fn access_in<'a>(matches: &ArgMatches<'a>) -> Option<Parsed<'a>>
+// Returns the command of a search, if there is one in the matches.
+fn search_in<'a>(matches: &ArgMatches<'a>) -> Option<Parsed<'a>>
     ensures found { IfSome result (IsFoundIn (subcommand_rows_of matches.now)) }
-    ensures none { result ≡ None → (tree : TreeInput) → IsValidTreeIn (subcommand_rows_of matches.now) (codes "access") tree → ⊥ }
+    ensures none { result ≡ None → (search : Search) (tree : TreeInput) → IsValidTreeIn (subcommand_rows_of matches.now) (search_name search) tree → ⊥ }
 {
-    let tree = tree_in(matches, "access")?;
-    let Some(states) = states_of(text_of(matches, "access", "states")) else {
-        return Some(Parsed::Number);
-    };
-    Some(Parsed::Command(Command::AskTree {
-        question: TreeQuestion::Access { states },
-        tree,
-    }))
-}
-
-// Returns the `graph` command, if the matches are of it.
-fn graph_in<'a>(matches: &ArgMatches<'a>) -> Option<Parsed<'a>>
-    ensures found { IfSome result (IsFoundIn (subcommand_rows_of matches.now)) }
-    ensures none { result ≡ None → (tree : TreeInput) → IsValidTreeIn (subcommand_rows_of matches.now) (codes "graph") tree → ⊥ }
-{
-    let input = tree_in(matches, "graph")?;
-    let Some(states) = states_of(text_of(matches, "graph", "states")) else {
-        return Some(Parsed::Number);
-    };
+    if let Some(found) = search_by(matches, Search::Explore) {
+        return Some(found);
+    }
+    if let Some(found) = search_by(matches, Search::Access) {
+        return Some(found);
+    }
+    if let Some(found) = search_by(matches, Search::Exposure) {
+        return Some(found);
+    }
+    if let Some(found) = search_by(matches, Search::Policy) {
+        return Some(found);
+    }
     let tree = is_flag_given(matches, "graph", "tree");
-    Some(Parsed::Command(Command::AskTree {
-        question: TreeQuestion::Graph { states, tree },
-        tree: input,
-    }))
+    search_by(matches, Search::Graph { tree })
 }
 
 // Returns the output of `source`.
@@ -437,7 +448,7 @@ fn import_in<'a>(matches: &ArgMatches<'a>) -> Option<Parsed<'a>>
 {
     let directory = text_of(matches, "import", "DIR")?;
     let image = text_of(matches, "import", "IMAGE")?;
-    let Some(version) = version_of(text_of(matches, "import", "version")) else {
+    let Some(version) = version_of(text_of(matches, "import", "image-version")) else {
         return Some(Parsed::Number);
     };
     let skips = is_flag_given(matches, "import", "skip");
@@ -482,13 +493,7 @@ pub(crate) fn found_in<'a>(matches: &ArgMatches<'a>) -> Option<Parsed<'a>>
     if let Some(found) = turns_in(matches) {
         return Some(found);
     }
-    if let Some(found) = explore_in(matches) {
-        return Some(found);
-    }
-    if let Some(found) = access_in(matches) {
-        return Some(found);
-    }
-    if let Some(found) = graph_in(matches) {
+    if let Some(found) = search_in(matches) {
         return Some(found);
     }
     question_in(matches)

@@ -2,7 +2,8 @@
 ghost use Rattle.std.specs.Prelude.{◌≡◌, false, IfOk, map};
 ghost use Rattle.std.specs.Option.{option_or};
 ghost use Rattle.clap.specs.Words.{app_of, rule_of};
-ghost use Rattle.pv_cli_line.specs.Parser.{IsParserOf, app_of_row, bare_app, command_apps, pvsim_app, rule_of_argument, with_rows};
+ghost use Rattle.clap.specs.declared.builder.command.Command.TheViews.{out-Command as fields_of};
+ghost use Rattle.pv_cli_line.specs.Parser.{IsParserOf, app_of_row, bare_app, command_apps, long_rule, pvsim_app, rule_of_argument, with_flags, with_rows};
 
 use clap::{Arg, ArgAction, Command as Parser};
 use std::alloc::{AllocError, Global};
@@ -20,6 +21,13 @@ enum Argument {
         value: &'static str,
         help: &'static str,
     },
+    // An option with one text, and its old name, which the help does not show.
+    Renamed {
+        name: &'static str,
+        old: &'static str,
+        value: &'static str,
+        help: &'static str,
+    },
     // A flag.
     Flag {
         name: &'static str,
@@ -28,7 +36,7 @@ enum Argument {
     },
 }
 
-use Argument::{Flag, Named, Optional, Required};
+use Argument::{Flag, Named, Optional, Renamed, Required};
 
 // A command: its name, its help, and its arguments in order.
 struct CommandRow {
@@ -37,11 +45,18 @@ struct CommandRow {
     arguments: &'static [Argument],
 }
 
-// The flag that asks for an explanation of errors. Every command takes it.
+// The flag that asks for an explanation of errors. It may be given before or after the name of a command.
 const VERBOSE: Argument = Flag {
     name: "verbose",
     short: Some('v'),
     help: "explain an error: the file, the system's reason, the line and the expected form",
+};
+
+// The flag that turns explanations off. It may be given before or after the name of a command.
+const QUIET: Argument = Flag {
+    name: "quiet",
+    short: Some('q'),
+    help: "do not explain an error; without -q it is explained if standard error is a terminal",
 };
 
 // The option that names a bundle, in place of an image and a schedule.
@@ -160,6 +175,11 @@ const COMMANDS: &[CommandRow] = &[
             IMAGE,
             SCHEDULE,
             Optional("PATH", "a file in the image (default: all files)"),
+            Flag {
+                name: "reasons",
+                short: None,
+                help: "print a line for each reason of each process, in place of the first",
+            },
         ],
     },
     CommandRow {
@@ -261,6 +281,16 @@ const COMMANDS: &[CommandRow] = &[
         arguments: &[BUNDLE, SOURCE, IMAGE, STATES],
     },
     CommandRow {
+        name: "exposure",
+        about: "Print at which lines of each program a process could still reach each file, whatever it called next",
+        arguments: &[BUNDLE, SOURCE, IMAGE, STATES],
+    },
+    CommandRow {
+        name: "policy",
+        about: "Print the promises and permissions that each program needs under any schedule, and those that it never uses",
+        arguments: &[BUNDLE, SOURCE, IMAGE, STATES],
+    },
+    CommandRow {
         name: "graph",
         about: "Write the states that an image can reach under any schedule, and the steps between them",
         arguments: &[
@@ -297,9 +327,9 @@ const COMMANDS: &[CommandRow] = &[
         arguments: &[
             Required("DIR", "the host directory"),
             Required("IMAGE", "the image file to write"),
-            Named {
-                name: "version",
-                short: None,
+            Renamed {
+                name: "image-version",
+                old: "version",
                 value: "V",
                 help: "the version of the image: 1 or 2 (default 1)",
             },
@@ -333,49 +363,71 @@ fn with_short<'a>(argument: Arg<'a>, short: Option<char>) -> Arg<'a>
     }
 }
 
-// Converts an argument of the table to an argument of the parser.
-fn argument_of<'a>(alloc: Global, argument: &Argument) -> Arg<'a>
-    ensures rule { rule_of result ≡ rule_of_argument argument.now }
+// Returns an option with one text.
+fn option_of<'a>(alloc: Global, name: &'a str, value: &'a str, help: &'a str) -> Arg<'a>
+    ensures rule { rule_of result ≡ long_rule name.now }
     ensures local { result.global ≡ false }
 {
+    Arg::new(alloc, name)
+        .action(ArgAction::Set)
+        .long(name)
+        .value_name(value)
+        .help(help)
+}
+
+// Converts an argument of the table to an argument of the parser.
+fn argument_of<'a>(alloc: Global, argument: &Argument) -> Result<Arg<'a>, AllocError>
+    ensures rule { IfOk result (λ one. rule_of one ≡ rule_of_argument argument.now) }
+    ensures local { IfOk result (λ one. one.global ≡ false) }
+{
     match *argument {
-        Required(name, help) => Arg::new(alloc, name)
-            .action(ArgAction::Set)
-            .required(true)
-            .help(help),
-        Optional(name, help) => Arg::new(alloc, name).action(ArgAction::Set).help(help),
+        Required(name, help) => Ok(
+            Arg::new(alloc, name)
+                .action(ArgAction::Set)
+                .required(true)
+                .help(help),
+        ),
+        Optional(name, help) => Ok(Arg::new(alloc, name).action(ArgAction::Set).help(help)),
         Named {
             name,
             short,
             value,
             help,
-        } => {
-            let option = Arg::new(alloc, name)
-                .action(ArgAction::Set)
-                .long(name)
-                .value_name(value)
-                .help(help);
-            with_short(option, short)
-        }
+        } => Ok(with_short(option_of(alloc, name, value, help), short)),
+        Renamed {
+            name,
+            old,
+            value,
+            help,
+        } => option_of(alloc, name, value, help).alias(old),
         Flag { name, short, help } => {
             let flag = Arg::new(alloc, name)
                 .action(ArgAction::SetTrue)
                 .long(name)
                 .help(help);
-            with_short(flag, short)
+            Ok(with_short(flag, short))
         }
     }
+}
+
+// Adds the flags that may be given before or after the name of a command.
+fn with_flags<'a>(alloc: Global, parser: Parser<'a>) -> Result<Parser<'a>, AllocError>
+    ensures app { IfOk result (λ more. app_of more ≡ with_flags (app_of parser.entry)) }
+    ensures globals { (fields_of parser.entry).has_globals ≡ false → IfOk result (λ more. (fields_of more).has_globals ≡ false) }
+{
+    let verbose = parser.arg(argument_of(alloc, &VERBOSE)?)?;
+    let quiet = verbose.arg(argument_of(alloc, &QUIET)?)?;
+    Ok(quiet)
 }
 
 // Returns the parser of a command.
 fn command_parser<'a>(alloc: Global, row: &CommandRow) -> Result<Parser<'a>, AllocError>
     ensures { IfOk result (IsParserOf (app_of_row row.now)) }
 {
-    let mut parser = Parser::new(alloc, row.name)
-        .about(row.about)
-        .arg(argument_of(alloc, &VERBOSE))?;
+    let bare = Parser::new(alloc, row.name).about(row.about);
+    let mut parser = with_flags(alloc, bare)?;
     for argument in row.arguments {
-        parser = parser.arg(argument_of(alloc, argument))?;
+        parser = parser.arg(argument_of(alloc, argument)?)?;
     }
     Ok(parser)
 }
@@ -395,15 +447,16 @@ fn with_commands<'a>(
 }
 
 // Returns the parser of the program without commands.
-fn bare_parser<'a>(alloc: Global) -> Parser<'a>
-    ensures { app_of result ≡ bare_app }
+fn bare_parser<'a>(alloc: Global) -> Result<Parser<'a>, AllocError>
+    ensures { IfOk result (λ parser. app_of parser ≡ bare_app) }
 {
-    Parser::new(alloc, "pvsim")
+    let bare = Parser::new(alloc, "pvsim")
         .version("0.1.0")
         .about(
             "A teaching kernel with OpenBSD's pledge and unveil. Without arguments, pvsim runs the bundle on standard input.",
         )
-        .subcommand_required(true)
+        .subcommand_required(true);
+    with_flags(alloc, bare)
 }
 
 // Returns the table of the commands.
@@ -417,5 +470,5 @@ fn commands() -> &'static [CommandRow]
 pub(crate) fn parser<'a>(alloc: Global) -> Result<Parser<'a>, AllocError>
     ensures { IfOk result (λ parser. app_of parser ≡ pvsim_app) }
 {
-    with_commands(alloc, bare_parser(alloc), commands())
+    with_commands(alloc, bare_parser(alloc)?, commands())
 }

@@ -1,14 +1,15 @@
 //! The whole program.
-ghost use Rattle.std.specs.Prelude.{◌≡◌, ◌≢◌, map, ◌&&◌, not};
-ghost use Rattle.pv_cli_commands.specs.Status.{is_reported as is_reported_by_command, status_of as command_status_of};
+ghost use Rattle.std.specs.Prelude.{◌≡◌, ◌≢◌, map, ◌&&◌};
+ghost use Rattle.pv_cli_commands.specs.Status.{status_of as command_status_of};
 ghost use Rattle.pv_cli_commands.specs.Streams.{disk_of, host_of};
 ghost use Rattle.pv_cli_line.specs.declared.fault.Fault.TheVariants.{Command as OfCommand, Line as OfLine};
-ghost use Rattle.pv_cli_line.specs.Program.{EndsWith, Reports, ReportsAll, is_number};
+ghost use Rattle.pv_cli_line.specs.Program.{EndsWith, Reports, ReportsAll, is_explained, is_number};
 
 use crate::command::{CommandLine, LineFault, command_line_of};
-use crate::explaining::{asks_for_more, explain, explain_number};
+use crate::explaining::{explain, is_explained};
 use crate::fault::Fault;
 use crate::message::write_message;
+use crate::numbers::explain_number;
 use pv_cli_commands::{Directories, Fault as CommandFault, Files, HostSystem, Progress, perform};
 use pv_streams::{Failed, Sink, Source};
 use std::alloc::Global;
@@ -49,11 +50,11 @@ fn report_all<F: Files + Drop, I: Drop, O: Sink + Drop, E: Sink + Drop>(
     system: &mut HostSystem<F, I, O, E>,
 ) -> u8
     requires { command_status_of fault ≢ 0 }
-    ensures reports { ReportsAll O.Sink E.Sink (OfCommand fault) (line.entry.is_verbose && not (is_reported_by_command fault)) system.old system.new result }
+    ensures reports { ReportsAll O.Sink E.Sink (OfCommand fault) (line.entry.is_verbose && is_explained fault) system.old system.new result }
     ensures output { system.new.output ≡ system.old.output }
 {
     let status = report(&Fault::Command(fault), system);
-    if line.is_verbose && !fault.is_reported() {
+    if line.is_verbose && is_explained(fault) {
         explain(
             alloc,
             &system.files,
@@ -65,10 +66,12 @@ fn report_all<F: Files + Drop, I: Drop, O: Sink + Drop, E: Sink + Drop>(
     status
 }
 
-// Reports an error in the command line, with the expected form of a number if an explanation is requested, and returns
+// Reports an error in the command line, with the word that is not a number if an explanation is requested, and returns
 // the exit status.
 fn report_words<S: AsStr, F: Drop, I: Drop, O: Sink + Drop, E: Sink + Drop>(
+    alloc: Global,
     words: &[S],
+    by_default: bool,
     fault: LineFault,
     system: &mut HostSystem<F, I, O, E>,
 ) -> u8
@@ -77,8 +80,8 @@ fn report_words<S: AsStr, F: Drop, I: Drop, O: Sink + Drop, E: Sink + Drop>(
 {
     let is_number = fault.is_number();
     let status = report(&Fault::Line(fault), system);
-    if is_number && asks_for_more(words) {
-        explain_number(&mut system.errors);
+    if is_number {
+        explain_number(alloc, words, by_default, &mut system.errors);
     }
     status
 }
@@ -87,9 +90,10 @@ fn report_words<S: AsStr, F: Drop, I: Drop, O: Sink + Drop, E: Sink + Drop>(
 /// a person, and returns the exit status.
 ///
 /// The status is 0 on success and after help or the version, 1 if the input is invalid, 2 for an error in the command
-/// line, 3 if there is no memory, 4 if a read or a write fails, and 5 if a search left a state out. If the words have the flag `verbose`, an error is
-/// explained in lines that begin with two spaces. If the standard output had nothing buffered and the status is not 4,
-/// it has nothing buffered afterwards. A search of states reports to `progress`.
+/// line, 3 if there is no memory, 4 if a read or a write fails, and 5 if a search left a state out. By default, or if the
+/// words have the flag `verbose`, and if they do not have the flag `quiet`, an error is explained in lines that begin
+/// with two spaces. If the standard output had nothing buffered and the status is not 4, it has nothing buffered
+/// afterwards. A search of states reports to `progress`.
 pub fn run<
     S: AsStr,
     F: Files + Directories + Drop,
@@ -97,14 +101,20 @@ pub fn run<
     O: Sink + Drop,
     E: Sink + Drop,
     P: Progress,
->(alloc: Global, words: &[S], system: &mut HostSystem<F, I, O, E>, progress: &mut P) -> u8
+>(
+    alloc: Global,
+    words: &[S],
+    by_default: bool,
+    system: &mut HostSystem<F, I, O, E>,
+    progress: &mut P,
+) -> u8
     ensures ends { EndsWith (disk_of F.Files F.Reader.Source F.Writer.Sink) (host_of F.entries F.target_of F.Target.made) I.Source O.Sink E.Sink
-        (map S.text words.now) system.old system.new result }
+        by_default (map S.text words.now) system.old system.new result }
     ensures flushed { O.buffered system.old.output ≡ 0 → result ≢ 4 → O.buffered system.new.output ≡ 0 }
 {
-    let line = match command_line_of(alloc, words) {
+    let line = match command_line_of(alloc, words, by_default) {
         Ok(line) => line,
-        Err(fault) => return report_words(words, fault, system),
+        Err(fault) => return report_words(alloc, words, by_default, fault, system),
     };
     match perform(alloc, line.command, system, progress) {
         Ok(()) => 0,

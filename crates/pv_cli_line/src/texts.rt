@@ -1,7 +1,7 @@
 //! The texts and numbers of a command in the parser's matches.
 ghost use Rattle.std.specs.Prelude.{◌≡◌, ℕ, List, codes, Option, None, Some, IfSome, option_map};
-ghost use Rattle.clap.specs.Words.{subcommand_rows_of};
-ghost use Rattle.pv_cli_line.specs.Line.{IsGivenIn, IsRunIn, IsScheduleOf, IsTextIn, IsTextless, IsTreeIn, IsValidRunIn, IsValidTreeIn, count_in, entered_text, is_given, is_verbose_in, size_in, states_in, version_in};
+ghost use Rattle.clap.specs.Words.{found_of, rows_of, subcommand_rows_of};
+ghost use Rattle.pv_cli_line.specs.Line.{IsGivenIn, IsRunIn, IsScheduleOf, IsTextIn, IsTextless, IsTreeIn, IsValidRunIn, IsValidTreeIn, count_in, entered_text, is_given, is_set, is_set_in, is_verbose_in, size_in, states_in, version_in};
 
 use clap::ArgMatches;
 use pv_cli_commands::{RunInput, ScheduleInput, TextInput, TreeInput};
@@ -20,17 +20,32 @@ pub(crate) fn text_of<'a>(
     inner.get_str(argument)
 }
 
-// Returns whether the flag `verbose` of the command in the matches is set.
-pub(crate) fn is_verbose(matches: &ArgMatches<'_>) -> bool
-    ensures { result ≡ is_verbose_in (subcommand_rows_of matches.now) }
+// Returns whether a flag is set in the matches, without those of a command.
+fn is_set(matches: &ArgMatches<'_>, flag: &str) -> bool
+    ensures { result ≡ is_set (rows_of (found_of matches.now)) flag.now }
 {
-    let Some((_, inner)) = matches.subcommand() else {
-        return false;
-    };
-    match inner.get_str("verbose") {
+    match matches.get_str(flag) {
         Some(text) => text == "true",
         None => false,
     }
+}
+
+// Returns whether a flag is set in the matches, before or after the name of a command.
+fn is_set_in(matches: &ArgMatches<'_>, flag: &str) -> bool
+    ensures { result ≡ is_set_in (rows_of (found_of matches.now)) (subcommand_rows_of matches.now) flag.now }
+{
+    let above = is_set(matches, flag);
+    match matches.subcommand() {
+        Some((_, inner)) => above || is_set(inner, flag),
+        None => above,
+    }
+}
+
+// Returns whether errors are explained: by default or because of the flag `verbose`, unless the flag `quiet` is set.
+pub(crate) fn is_verbose(matches: &ArgMatches<'_>, by_default: bool) -> bool
+    ensures { result ≡ is_verbose_in by_default (rows_of (found_of matches.now)) (subcommand_rows_of matches.now) }
+{
+    (by_default || is_set_in(matches, "verbose")) && !is_set_in(matches, "quiet")
 }
 
 // Parses a number of 32 bits.

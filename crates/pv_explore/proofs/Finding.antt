@@ -6,7 +6,7 @@ use Rattle.std.proofs.Math.Seq.{drop-cons}
 use Rattle.std.specs.Global.{Vec}
 use Rattle.std.specs.List.{list_any}
 use Rattle.pv_step_cache.specs.Steps.{texts_in}
-use Rattle.pv_explore.specs.Plan.{Visited, added_to, endings_after, move_bytes, new_bytes, shown_bytes, state_key, is_known, reported_after, reported_bytes, bytes_at, visited_at, with_state_at, with_found_at, visited_after, state_at, move_at, texts_at, live_at, reported_steps, visited_after_steps, and_report, and_visit, reported_from, visited_from, first_visited}
+use Rattle.pv_explore.specs.Plan.{Visited, added_to, endings_after, move_bytes, new_bytes, shown_bytes, state_key, is_known, reported_after, reported_bytes, bytes_at, visited_at, with_state_at, with_found_at, visited_after, state_at, live_at, reported_steps, visited_after_steps, and_report, and_visit, reported_from, visited_from, first_visited}
 use Rattle.pv_explore.specs.Searches.{move_of}
 use Rattle.pv_explore.specs.Observing.{is_shown}
 use Rattle.pv_model.specs.Answers.Explore.{Move}

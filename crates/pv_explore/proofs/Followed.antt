@@ -1,5 +1,5 @@
 -- Steps taken from the cache, and the states at the ends of witnesses.
-use Rattle.std.proofs.Common.{◌≡◌, ◌∙◌, sym, ap, ap₂, ℕ, ◌<◌, ◌≤◌, Bool, true, false, if◌then◌else◌, List, [], ◌∷◌, ◌++◌, length, nat_le, option_map, slice_get, None, Some, refl, subst, arith}
+use Rattle.std.proofs.Common.{◌≡◌, ◌∙◌, sym, ap, ap₂, ℕ, ◌<◌, ◌≤◌, Bool, true, false, if◌then◌else◌, List, [], ◌∷◌, ◌++◌, bytes_eq, length, nat_le, option_map, slice_get, None, Some, refl, subst, arith}
 use Rattle.std.proofs.lemmas.List.{length-map, map-append}
 use Rattle.std.proofs.lemmas.Option.{slice_get-get_or, slice_get-map, slice_get_past, slice_get_within}
 use Rattle.pv_explore.specs.declared.states.Visit.{Visit}
@@ -21,18 +21,20 @@ use Rattle.pv_model.specs.Held.{named_tree}
 use Rattle.pv_model.specs.State.{State}
 use Rattle.pv_model.specs.Step.{Run}
 use Rattle.pv_session.specs.Running.{stepped}
+use Rattle.pv_step_cache.proofs.KeyLists.{there-some}
 
 -- ---- the data after a visit
 
 pub visited-found : (limit : ℕ) (visited : Visited) (witness : List ℕ) (u : State) (keys endings : List Bytes) (found : Visit) → IsFoundIn limit visited.keys keys (state_key u) found → endings ≡ endings_found found visited.endings u
     → with_witness found witness (record visited { keys = keys; endings = endings }) ≡ with_found_at limit visited witness u
-visited-found limit visited witness u keys endings Known it is = ap₂ (λ (ks es : List Bytes). record visited { keys = ks; endings = es }) it.1 is ∙ found-known limit visited witness u it.0
+visited-found limit visited witness u keys endings (Known number) it is =
+    ap₂ (λ (ks es : List Bytes). record visited { keys = ks; endings = es }) it.1 is ∙ found-known limit visited witness u (there-some (bytes_eq (state_key u)) visited.keys number [] (sym it.0))
 visited-found limit visited witness u keys endings Full it is = ap₂ (λ (ks es : List Bytes). record visited { keys = ks; endings = es; complete = false }) it.2 is ∙ found-full limit visited witness u it.0 it.1
 visited-found limit visited witness u keys endings New it is = ap₂ (λ (ks es : List Bytes). record visited { keys = ks; endings = es; witnesses = visited.witnesses ++ witness ∷ [] }) it.2 is ∙ found-new limit visited witness u it.0 it.1
 
 -- the first state is added
 pub first-found : (u : State) (new : List Bytes) (found : Visit) → IsFoundIn 1 [] new (state_key u) found → new ≡ state_key u ∷ []
-first-found u new Known it = let no : false ≡ true = it.0 in cc
+first-found u new (Known number) it = let no : None ≡ Some number = it.0 in cc
 first-found u new Full it = let no = it.1 in absurd (omega (arith, no))
 first-found u new New it = it.2
 
@@ -43,14 +45,20 @@ witness-found : (limit : ℕ) (visited : Visited) (witness : List ℕ) (u : Stat
 witness-found limit visited witness u going_on keys found it = visited-found limit visited witness u keys visited.endings found it (by found)
   where
     by : (f : Visit) → visited.endings ≡ endings_found f visited.endings u
-    by Known = refl
+    by (Known number) = refl
     by Full = refl
     by New = ap (λ b. if b then added_to visited.endings (tree_key (named_tree u.tree)) else visited.endings) (sym going_on)
 
 witness-reported : (found : Visit) (witness : List ℕ) (visited : Visited) (reported : List Bytes) → with_witness found witness (record visited { reported = reported }) ≡ record (with_witness found witness visited) { reported = reported }
-witness-reported Known witness visited reported = refl
+witness-reported (Known number) witness visited reported = refl
 witness-reported Full witness visited reported = refl
 witness-reported New witness visited reported = refl
+
+-- the states do not depend on the witnesses
+pub witness-keys : (found : Visit) (witness : List ℕ) (visited : Visited) → (with_witness found witness visited).keys ≡ visited.keys
+witness-keys (Known number) witness visited = refl
+witness-keys Full witness visited = refl
+witness-keys New witness visited = refl
 
 pub visited-followed : (observe : Observer Bytes) (limit : ℕ) (visited after : Visited) (witness : List ℕ) (pid : ℕ) (t : State) (texts : List Bytes) (keys reported : List Bytes) (found : Visit) → IsFollowed observe limit visited.keys keys t pid texts found → reported ≡ reported_after visited.reported texts
     → after ≡ with_witness found witness (record visited { keys = keys; reported = reported }) → after ≡ visited_after limit visited (move_of witness pid t) (observe t pid (stepped t pid))

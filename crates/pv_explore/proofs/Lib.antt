@@ -2,9 +2,10 @@
 -- (witnesses as turns), LastNumbers (the last process number given), LiveOnes
 -- (the numbers of live processes, and the tree without live processes), Along (states along a schedule, and
 -- checkpoints), Booting (the rebuilt machine), Finding (the search, step by step), Graphed (the state graph),
--- Explained (the lines of its steps), Reported (the bytes of texts, and of `explore`), Rows (states as rows of small numbers), VisitedStates (the data stored with
--- visited states), Followed (steps from the cache, and the states at the ends of witnesses), LastSteps (witnesses
--- stored as their last steps), Sizes (of images, which runs leave unchanged).
+-- Explained (the lines of its steps), Reported (the bytes of texts, and of `explore`), Rows (states as rows of small
+-- numbers), VisitedStates (the data stored with visited states), Visiting (the visited states, one at a time),
+-- Followed (steps from the cache, and the states at the ends of witnesses), LastSteps (witnesses stored as their last
+-- steps), Sizes (of images, which runs leave unchanged).
 pub mod Planned
 pub mod Turns
 pub mod LastNumbers
@@ -18,5 +19,6 @@ pub mod Explained
 pub mod Reported
 pub mod Rows
 pub mod VisitedStates
+pub mod Visiting
 pub mod LastSteps
 pub mod Sizes

@@ -22,7 +22,7 @@ use Rattle.pv_laws_answers.proofs.Complete.{there-found}
 use Rattle.pv_laws_answers.proofs.Lists.{among-right, each-append}
 use Rattle.pv_state_encoding.specs.Packed.{packed_all}
 use Rattle.pv_state_encoding.proofs.Apart.{packed-apart}
-use Rattle.pv_explore.specs.Plan.{state_key, tree_key, Visited, added_to, new_bytes, reported_after, reported_bytes, endings_after, with_state, is_known, visited_after, state_at, move_at, texts_at, visited_at, reported_steps, visited_after_steps, live_at, and_report, reported_from, and_visit, visited_from, first_visited}
+use Rattle.pv_explore.specs.Plan.{state_key, tree_key, Visited, added_to, new_bytes, reported_after, reported_bytes, endings_after, with_state, is_known, visited_after, state_at, move_at, texts_at, reported_steps, visited_after_steps, live_at, and_report, reported_from, and_visit, visited_from, first_visited}
 
 -- ---- comparison of bytes
 

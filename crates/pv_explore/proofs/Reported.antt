@@ -1,5 +1,5 @@
 -- The bytes written of observations are those of the first observations, and those of `explore` its lines.
-use Rattle.std.proofs.Common.{◌≡◌, ◌<◌, ◌∙◌, sym, ap, ap₂, subst, ℕ, zero, suc, ◌+◌, Bool, true, false, not, ◌||◌, cond, if◌then◌else◌, ◌==◌, nat_lt, ◌/◌, ◌%◌, bytes_eq, List, [], ◌∷◌, ◌++◌, length, map, flat_map, replicate, codes, append_assoc, append-nil, refl, arith}
+use Rattle.std.proofs.Common.{◌≡◌, ◌<◌, ◌∙◌, sym, ap, ap₂, ℕ, zero, suc, ◌+◌, Bool, true, false, not, ◌||◌, cond, if◌then◌else◌, ◌==◌, nat_lt, ◌/◌, ◌%◌, bytes_eq, List, [], ◌∷◌, ◌++◌, length, map, flat_map, replicate, codes, append_assoc, append-nil, refl, arith}
 use Rattle.std.specs.Prelude.{◌-◌}
 use Rattle.std.specs.Fmt.{decimal, digits, digits_onto, digit_glyph}
 use Rattle.std.specs.List.{list_any}
@@ -7,13 +7,12 @@ use Rattle.std.proofs.lemmas.Bool.Decides.{nat_tests}
 use Rattle.std.proofs.lemmas.Grind.{flat_map-append}
 use Rattle.std.proofs.lemmas.List.{map-append}
 use Rattle.std.proofs.lemmas.List.Folds.{list_any-append}
-use Rattle.pv_explore.specs.Observing.{is_shown, first_texts, observation_bytes, observed_bytes, recorded_texts, trace_text, IsSearched}
+use Rattle.pv_explore.specs.Observing.{is_shown, observation_bytes, observed_bytes, trace_text, IsSearched}
 use Rattle.pv_explore.specs.Plan.{Visited, added_to, move_bytes, new_bytes, reported_after, result_lines}
 use Rattle.pv_explore.proofs.Planned.{Finds, items, tree_key-many, written}
-use Rattle.pv_model.specs.Answers.Explore.{Found, Move, by_line, done_line, endings_line, explore_lines, is_complete, endings, moves, moves_of, move_lines, move_text, new_ones, reported_moves, states_found, witness_text}
+use Rattle.pv_model.specs.Answers.Explore.{Found, Move, done_line, endings_line, explore_lines, endings, moves, moves_of, move_lines, move_text, new_ones, reported_moves, states_found, witness_text}
 use Rattle.pv_model.specs.Answers.Lines.{AnswerLine, answer_bytes, answer_line_bytes, of_trace}
-use Rattle.pv_model.specs.Answers.Numbers.{Numbers}
-use Rattle.pv_model.specs.Answers.Observed.{Observation, Observer, first_observations, observations, observed}
+use Rattle.pv_model.specs.Answers.Observed.{Observation, Observer, observations, observed}
 use Rattle.pv_model.specs.Bytes.{Bytes, is_empty}
 use Rattle.pv_model.specs.Grammar.Programs.{program_of}
 use Rattle.pv_model.specs.State.{State}

@@ -1,24 +1,26 @@
 -- The data stored with visited states: it stays right when more is stored, and gives the steps of states.
-use Rattle.std.proofs.Common.{◌≡◌, ◌≢◌, ◌∙◌, sym, ap, ap₂, subst, ℕ, zero, suc, ◌+◌, ◌<◌, ◌⊎◌, inl, inr, Bool, true, false, ◌==◌, set, List, [], ◌∷◌, ◌++◌, get_or, length, map, take, bytes_eq, slice_get, Option, None, Some, option_map, refl, arith, ⊎_elim}
+use Rattle.std.proofs.Common.{◌≡◌, ◌≢◌, ◌∙◌, sym, ap, ap₂, subst, ℕ, zero, suc, ◌+◌, ◌<◌, ◌⊎◌, inl, inr, Bool, true, false, ◌||◌, ◌==◌, cond, not, nat_lt, vec_len, set, List, [], ◌∷◌, ◌++◌, get_or, length, map, take, bytes_eq, slice_get, Option, None, Some, option_map, refl, arith, ⊎_elim}
 use Rattle.std.specs.Global.{Vec}
-use Rattle.std.specs.Prelude.{Result, Ok, Err, OnOk, OnErr}
+use Rattle.std.specs.Prelude.{Result, Ok, Err, OnOk, OnErr, position}
 use Rattle.std.proofs.lemmas.List.{length-map, length-set}
 use Rattle.std.proofs.lemmas.Bool.{eqb-false, eqb-true}
+use Rattle.std.proofs.lemmas.Bool.Decides.{nat_tests}
 use Rattle.pv_explore.specs.declared.states.Visit.{Visit}
 use Rattle.pv_explore.specs.declared.states.Visit.TheVariants.{Known, Full, New}
 use Rattle.pv_explore.proofs.LiveOnes.{ended-numbers}
-use Rattle.std.specs.List.{AllByRecursion, list_any}
+use Rattle.std.specs.List.{AllByRecursion, list_any, position_or_len}
 use Rattle.std.proofs.lemmas.List.{length-append, map-append}
-use Rattle.std.proofs.lemmas.Option.{slice_get-map, slice_get_within}
+use Rattle.std.proofs.lemmas.Option.{slice_get-get_or, slice_get-map, slice_get_within}
 use Rattle.pv_explore.specs.Plan.{state_key}
 use Rattle.pv_explore.specs.Rows.{Grew, state_row, state_bytes, IsGroupVisited, AreVisited, IsRow}
-use Rattle.pv_explore.specs.VisitedStates.{number_of, AreCachedBoth, AreCellsIn, AreCellsOf, AreCellsAt, AreCachedSteps, AreReleased, ArePlaced, ArePushed, IsFine, IsFoundIn, IsRecalled, HasNumber, MayKeep}
-use Rattle.pv_explore.proofs.Rows.{all-next, any-row, visited-grew, numbers-grew, rows-grew, states-added, rows-added, same-rows, state-back, taken-more}
+use Rattle.pv_explore.specs.VisitedStates.{number_of, AreCachedBoth, AreCellsIn, AreCellsOf, AreCellsAt, AreCachedSteps, AreEncoded, AreReleased, ArePlaced, ArePushed, IsFine, IsFoundBy, IsFoundIn, IsMade, IsRecalled, HasNumber, MayKeep, cells_row}
+use Rattle.pv_explore.proofs.Rows.{all-next, any-row, position-row, visited-grew, numbers-grew, rows-grew, states-added, states-grew, rows-added, same-rows, state-back, taken-more}
 use Rattle.pv_step_cache.specs.declared.cells.Cell.{Cell}
 use Rattle.pv_step_cache.specs.declared.steps.CachedStep.{CachedStep}
 use Rattle.pv_step_cache.specs.Edits.{cell_of, number_of_cell, owners}
 use Rattle.pv_step_cache.specs.Cached.{AreApart, DependsOnSeen, IsCachedBoth, KeepsMore}
 use Rattle.pv_step_cache.proofs.Again.{IsAgain, cells-more, cells-same, cached-more}
+use Rattle.pv_step_cache.proofs.KeyLists.{number-none}
 use Rattle.pv_step_cache.proofs.Keys.{groups-encoded}
 use Rattle.pv_step_cache.proofs.LiveOwners.{owners-are}
 use Rattle.pv_step_cache.proofs.Recalling.{recalled-again, steps-added, steps-more}
@@ -50,9 +52,9 @@ module _ (parts groups : List Bytes) where
   numbers-cells [] = refl
   numbers-cells (c ∷ cs) = ap (λ ns. number_of parts groups c.group ∷ ns) (numbers-cells cs)
 
-  pub row-of_cells : (t : State) (cells : List Cell) → AreCellsOf parts groups t cells → packed_all (map number_of_cell cells) ≡ state_row parts groups (state_groups t)
+  pub row-of_cells : (t : State) (cells : List Cell) → AreCellsOf parts groups t cells → cells_row cells ≡ state_row parts groups (state_groups t)
   row-of_cells t cells there =
-      ap (λ (cs : List Cell). packed_all (map number_of_cell cs)) there.are ∙ ap packed_all (numbers-cells (encoded t) ∙ ap (map (number_of parts groups)) (groups-encoded t))
+      ap cells_row there.are ∙ ap packed_all (numbers-cells (encoded t) ∙ ap (map (number_of parts groups)) (groups-encoded t))
 
   groups-visited : (cs : List Encoded) → AreCachedBoth parts groups cs → AreVisited parts groups (map (λ c. c.group) cs)
   groups-visited [] visited = tt
@@ -87,10 +89,49 @@ module _ (parts groups : List Bytes) where
 
     -- a row of cells is stored exactly if its state was visited
     pub known-row : (u : State) (after : List Cell) → AreCellsOf parts groups u after
-        → list_any (bytes_eq (packed_all (map number_of_cell after))) rows ≡ list_any (bytes_eq (state_key u)) (map (state_bytes parts groups) rows)
+        → list_any (bytes_eq (cells_row after)) rows ≡ list_any (bytes_eq (state_key u)) (map (state_bytes parts groups) rows)
     known-row u after there =
         ap (λ (r : Bytes). list_any (bytes_eq r) rows) (row-of_cells u after there) ∙ any-row parts groups u rows fine.rows_are
         ∙ ap (λ (k : Bytes). list_any (bytes_eq k) (map (state_bytes parts groups) rows)) (state-joined u)
+
+    -- and it has the number of that state
+    pub number-row : (u : State) (after : List Cell) → AreCellsOf parts groups u after
+        → position (bytes_eq (cells_row after)) rows ≡ position (bytes_eq (state_key u)) (map (state_bytes parts groups) rows)
+    number-row u after there =
+        ap (λ (r : Bytes). position (bytes_eq r) rows) (row-of_cells u after there) ∙ position-row parts groups u rows fine.rows_are
+        ∙ ap (λ (k : Bytes). position (bytes_eq k) (map (state_bytes parts groups) rows)) (state-joined u)
+
+-- ---- byte strings that are not in a table
+
+not-there : {X : Type 0} (p : X → Bool) (xs : List X) → length xs ≡ position_or_len p xs → list_any p xs ≡ false
+not-there p [] past = refl
+not-there p (x ∷ xs) past = by (λ more. not-there p xs more) (p x) refl
+  where
+    by : (length xs ≡ position_or_len p xs → list_any p xs ≡ false) → (b : Bool) → p x ≡ b → list_any p (x ∷ xs) ≡ false
+    by rest true here =
+        let none : suc (length xs) ≡ 0 = past ∙ ap (λ c. cond (not c) (1 + position_or_len p xs) 0) here in
+        absurd (omega arith)
+    by rest false here =
+        let more : suc (length xs) ≡ 1 + position_or_len p xs = past ∙ ap (λ c. cond (not c) (1 + position_or_len p xs) 0) here in
+        ap (λ c. c || list_any p xs) here ∙ rest (omega arith)
+
+pub other-row : (rows : List Bytes) (row sought : Bytes) (found : Option ℕ) → found ≡ position (bytes_eq sought) rows → sought ≡ row → found ≡ None → list_any (bytes_eq row) rows ≡ false
+other-row rows row sought found is same none =
+    not-there (bytes_eq row) rows (number-none (bytes_eq row) rows (length rows) (sym none ∙ is ∙ ap (λ (k : Bytes). position (bytes_eq k) rows) same) refl)
+
+-- ---- stored cells
+
+-- a lookup found cells, and they are not empty
+pub cells-found : (all : List (Vec Cell)) (number : ℕ) (cs : Vec Cell) → true ≡ nat_lt number (length all) → cs ≡ get_or all number cs → slice_get all number ≡ Some cs
+cells-found all number cs test is =
+    let within : number < length all = grind (arith, nat_tests, sym test) in
+    slice_get-get_or all number cs within ∙ ap Some (sym is)
+
+pub cells-there : (cs : Vec Cell) (empty : Bool) → empty ≡ (vec_len cs == 0) → empty ≡ false → cs.items ≢ []
+cells-there cs empty is some = λ none.
+    let long : vec_len cs ≡ 0 = cs.ok.0 ∙ ap length none in
+    let test : true ≡ false = sym (ap (λ n. n == 0) long) ∙ sym is ∙ some in
+    cc
 
 -- ---- cells of groups
 
@@ -261,9 +302,12 @@ module _ {observe : Observer Bytes} (parts groups rows : List Bytes) (cells : Li
   }
 
   -- a state is added
-  module _ (u : State) (cs : Vec Cell) (are : AreCellsOf parts groups u cs.items) (row : Bytes) (row_is : row ≡ packed_all (map number_of_cell cs.items)) where
+  module _ (u : State) (cs : Vec Cell) (are : AreCellsOf parts groups u cs.items) where
+    abbrev row : Bytes
+    row = cells_row cs.items
+
     row-of : row ≡ state_row parts groups (state_groups u)
-    row-of = row_is ∙ row-of_cells parts groups u cs.items are
+    row-of = row-of_cells parts groups u cs.items are
 
     visited-of : AreVisited parts groups (state_groups u)
     visited-of = state-visited parts groups u are.cached
@@ -282,19 +326,55 @@ module _ {observe : Observer Bytes} (parts groups rows : List Bytes) (cells : Li
             fine-cells parts groups rs cells steps fine_now cs row cells_now more (ap (slice_get rs) next ∙ ap (λ (x : List Bytes). slice_get x (length rows)) is ∙ get-end rows row) (record { state = u; row_is = row-of; cells_are = are })
 
     known-is : list_any (bytes_eq row) rows ≡ list_any (bytes_eq (state_key u)) (map (state_bytes parts groups) rows)
-    known-is = ap (λ (r : Bytes). list_any (bytes_eq r) rows) row_is ∙ known-row parts groups rows cells steps fine u cs.items are
+    known-is = known-row parts groups rows cells steps fine u cs.items are
 
     long : length (map (state_bytes parts groups) rows) ≡ length rows
     long = length-map rows (state_bytes parts groups)
 
     pub found-bytes : (limit : ℕ) (rows_now : List Bytes) (found : Visit) → IsFoundIn limit rows rows_now row found → IsFoundIn limit (map (state_bytes parts groups) rows) (map (state_bytes parts groups) rows_now) (state_key u) found
-    found-bytes limit rows_now Known it = (sym known-is ∙ it.0, ap (map (state_bytes parts groups)) it.1)
+    found-bytes limit rows_now (Known number) it = (sym (number-row parts groups rows cells steps fine u cs.items are) ∙ it.0, ap (map (state_bytes parts groups)) it.1)
     found-bytes limit rows_now Full it = (sym known-is ∙ it.0, (let room = it.1 in omega (arith, room, long)), ap (map (state_bytes parts groups)) it.2)
     found-bytes limit rows_now New it = (
       sym known-is ∙ it.0,
       (let room = it.1 in omega (arith, room, long)),
       states-added parts groups rows fine.rows_are (state_groups u) u refl visited-of rows_now (it.2 ∙ ap (λ (r : Bytes). rows ++ r ∷ []) row-of) ∙ ap (λ (k : Bytes). map (state_bytes parts groups) rows ++ k ∷ []) (state-joined u),
     )
+
+-- ---- after a step
+
+-- the parts of groups were stored, and the state of these groups is visited
+module _ {observe : Observer Bytes} (parts groups rows : List Bytes) (cells : List (Vec Cell)) (steps : List CachedStep) (fine : IsFine observe parts groups rows cells steps) (keys : List Bytes) (keys_are : map (state_bytes parts groups) rows ≡ keys)
+    (parts_now groups_now : List Bytes) (parts_grew : Grew parts parts_now) (groups_grew : Grew groups groups_now) (after : List Encoded) (cs : Vec Cell) (learnt : AreCellsIn parts_now groups_now after cs.items) where
+  keys-now : map (state_bytes parts_now groups_now) rows ≡ keys
+  keys-now = states-grew parts groups parts_now groups_now parts_grew groups_grew rows fine.rows_are ∙ keys_are
+
+  pub found-learnt : (limit : ℕ) (rows_now : List Bytes) (found : Visit) → IsFoundIn limit rows rows_now (cells_row cs.items) found → IsFoundBy limit keys (map (state_bytes parts_now groups_now) rows_now) after found
+  found-learnt limit rows_now found it = λ t is.
+      subst (λ (all : List Bytes). IsFoundIn limit all (map (state_bytes parts_now groups_now) rows_now) (state_key t) found) keys-now
+      (found-bytes parts_now groups_now rows cells steps (fine-grew parts groups parts_now groups_now parts_grew groups_grew rows cells steps fine) t cs (cells-of_groups parts_now groups_now t after cs.items learnt is) limit rows_now found it)
+
+  pub fine-learnt : AreEncoded after → (rows_now : List Bytes) (cells_now : List (Vec Cell)) → ArePlaced (cells_row cs.items) cs rows rows_now cells cells_now → IsFine observe parts_now groups_now rows_now cells_now steps
+  fine-learnt (t, is) rows_now cells_now placed =
+      fine-placed parts_now groups_now rows cells steps (fine-grew parts groups parts_now groups_now parts_grew groups_grew rows cells steps fine) t cs (cells-of_groups parts_now groups_now t after cs.items learnt is) rows_now cells_now placed
+
+  -- the transition that leads to it is cached
+  module _ (number pid : ℕ) (texts : List Bytes) (made : IsMade observe keys number pid texts after) (steps_now : List CachedStep) (may : MayKeep cells number pid cs.items texts steps steps_now) where
+    left-are : AreCellsOf parts_now groups_now (stepped made.state pid).after cs.items
+    left-are = cells-of_groups parts_now groups_now (stepped made.state pid).after after cs.items learnt made.after_is
+
+    pub fine-made : IsFine observe parts_now groups_now rows cells steps_now
+    fine-made =
+        fine-visited parts_now groups_now rows cells steps (fine-grew parts groups parts_now groups_now parts_grew groups_grew rows cells steps fine) number pid made.state cs.items texts steps_now made.whole
+        (subst (λ (all : List Bytes). HasNumber all number made.state) (sym keys-now) made.number_is) left-are made.texts_are may
+
+    pub fine-arrived : (rows_now : List Bytes) (cells_now : List (Vec Cell)) → ArePlaced (cells_row cs.items) cs rows rows_now cells cells_now → IsFine observe parts_now groups_now rows_now cells_now steps_now
+    fine-arrived rows_now cells_now placed = fine-placed parts_now groups_now rows cells steps_now fine-made (stepped made.state pid).after cs left-are rows_now cells_now placed
+
+-- a state that was added has the last number
+pub number-new : (limit : ℕ) (old new : List Bytes) (t : State) (found : Visit) → IsFoundIn limit old new (state_key t) found → found ≡ New → HasNumber new (length old) t
+number-new limit old new t (Known number) it is = cc
+number-new limit old new t Full it is = cc
+number-new limit old new t New it is = ap (λ (keys : List Bytes). slice_get keys (length old)) it.2 ∙ get-end old (state_key t)
 
 -- ---- live processes
 

@@ -6,4 +6,5 @@ pub mod Rows
 pub mod Searches
 pub mod Vertices
 pub mod VisitedStates
+pub mod Visiting
 pub mod Witnesses

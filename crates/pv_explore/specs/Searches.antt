@@ -27,12 +27,12 @@ AreAt s visited = visited.keys ≡ map (λ witness. state_key (state_at program_
 
 -- the trees at ends after a visit: the tree is added if the state was added
 abbrev pub endings_found : Visit → List Bytes → State → List Bytes
-endings_found Known endings t = endings
+endings_found (Known number) endings t = endings
 endings_found Full endings t = endings
 endings_found New endings t = endings_after endings t
 
 -- the data after a visit: the witness is added if the state was added
 abbrev pub with_witness : Visit → List ℕ → Visited → Visited
-with_witness Known witness visited = visited
+with_witness (Known number) witness visited = visited
 with_witness Full witness visited = record visited { complete = false }
 with_witness New witness visited = record visited { witnesses = visited.witnesses ++ witness ∷ [] }

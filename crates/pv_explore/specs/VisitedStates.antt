@@ -1,5 +1,5 @@
 -- The data stored with visited states, so that no step is made twice.
-use Rattle.std.specs.Prelude.{◌≡◌, ◌≢◌, ℕ, ◌<◌, ◌≤◌, ◌⊎◌, false, true, List, [], ◌∷◌, ◌++◌, length, map, bytes_eq, slice_get, Option, None, Some}
+use Rattle.std.specs.Prelude.{◌≡◌, ◌≢◌, ℕ, ◌<◌, ◌≤◌, ◌⊎◌, false, List, [], ◌∷◌, ◌++◌, length, map, position, bytes_eq, slice_get, Option, None, Some}
 use Rattle.std.specs.Global.{Vec}
 use Rattle.std.specs.List.{AllByRecursion, list_any}
 use Rattle.pv_explore.specs.declared.states.Visit.{Visit}
@@ -8,7 +8,7 @@ use Rattle.pv_explore.specs.Plan.{state_key}
 use Rattle.pv_explore.specs.Rows.{number_in, group_row, state_row, IsGroupVisited, IsRow}
 use Rattle.pv_step_cache.specs.declared.cells.Cell.{Cell}
 use Rattle.pv_step_cache.specs.declared.steps.CachedStep.{CachedStep}
-use Rattle.pv_step_cache.specs.Edits.{cell_of, owners, step_key}
+use Rattle.pv_step_cache.specs.Edits.{cell_of, number_of_cell, owners, step_key}
 use Rattle.pv_step_cache.specs.Cached.{AreCells, IsCachedBoth, IsStep}
 use Rattle.pv_explore.specs.declared.states.Followed.{Followed}
 use Rattle.pv_step_cache.specs.Steps.{Adds, WasCached, texts_in, texts_of}
@@ -21,6 +21,7 @@ use Rattle.pv_model.specs.State.{State}
 use Rattle.pv_session.specs.Running.{stepped}
 use Rattle.pv_state_encoding.specs.Groups.{state_groups}
 use Rattle.pv_state_encoding.specs.Encoded.{Encoded, encoded}
+use Rattle.pv_state_encoding.specs.Packed.{packed_all}
 
 -- ---- in tables
 
@@ -73,6 +74,10 @@ pub record AreReleased (old new : List (Vec Cell)) : Type 0 where
   pub long : length new ≡ length old
   pub each : (k : ℕ) (cs : Vec Cell) → slice_get new k ≡ Some cs → (cs.items ≡ []) ⊎ (slice_get old k ≡ Some cs)
 
+-- the row of a list of cells
+abbrev pub cells_row : List Cell → Bytes
+cells_row cells = packed_all (map number_of_cell cells)
+
 -- nothing is appended, or the cells of state `number`
 abbrev pub ArePushed : ℕ → Vec Cell → List (Vec Cell) → List (Vec Cell) → Type 0
 ArePushed number cs old new = (new ≡ old) ⊎ ((new ≡ old ++ cs ∷ []) × (length old ≡ number))
@@ -106,9 +111,9 @@ HasNumber keys number t = slice_get keys number ≡ Some (state_key t)
 abbrev pub AreLiveAt : List Bytes → ℕ → List ℕ → Type 0
 AreLiveAt keys number pids = (t : State) → IsValid t → HasNumber keys number t → pids ≡ map (λ p. p.0) (live_processes t.processes)
 
--- a state was visited: it was added if it was new and there were fewer than `limit` states
+-- a state was visited: it has its number, or it is new, and was added if there were fewer than `limit` states
 abbrev pub IsFoundIn : ℕ → List Bytes → List Bytes → Bytes → Visit → Type 0
-IsFoundIn limit old new key Known = (list_any (bytes_eq key) old ≡ true) × (new ≡ old)
+IsFoundIn limit old new key (Known number) = (position (bytes_eq key) old ≡ Some number) × (new ≡ old)
 IsFoundIn limit old new key Full = (list_any (bytes_eq key) old ≡ false) × (limit ≤ length old) × (new ≡ old)
 IsFoundIn limit old new key New = (list_any (bytes_eq key) old ≡ false) × (length old < limit) × (new ≡ old ++ key ∷ [])
 

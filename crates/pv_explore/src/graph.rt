@@ -207,8 +207,12 @@ fn new_line_buffer(alloc: Global) -> Result<Box<LineBuffer>, StepFault> {
     }
 }
 
-// Searches all states without observing the steps.
-fn search_states<P: Progress>(
+/// Searches all states without observing the steps.
+///
+/// # Errors
+///
+/// `NoMemory`, if there is no memory.
+pub(crate) fn search_states<P: Progress>(
     alloc: Global,
     first_machine: &FirstMachine,
     states: u32,

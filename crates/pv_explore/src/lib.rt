@@ -4,11 +4,11 @@
 //! schedule, and `checkpoints` keeps machines along the schedule that was followed last. `search` visits the states:
 //! `states` stores each as a row of indices into tables of its parts, and `witnesses` stores the schedule that
 //! leads to each. A step whose transition is in the cache is not made. Any other step is made on a copy of a checkpoint,
-//! and `ahead` lets the copy make a few more steps to fill the cache.
+//! and if it leads to a new state, `ahead` lets the copy make a few more steps to fill the cache.
 //!
 //! `observer` has the trait of what is observed of the steps, and `searched` the search with an observer: each text
 //! observed is written with a witness. `explore` observes the trace lines of each step, and `graph` writes each state
-//! with its transitions. `witness` writes a schedule, `unheard` is a sink that discards, and `progress` is the trait for
+//! with its transitions. `visited` gives the visited states one at a time. `witness` writes a schedule, `unheard` is a sink that discards, and `progress` is the trait for
 //! progress reports. `specs/Plan` specifies the search, and `proofs/Planned` proves that it visits the states and writes
 //! the texts of the definitions.
 #![tactic(auto)]
@@ -25,6 +25,7 @@ mod search;
 mod searched;
 mod states;
 mod unheard;
+mod visited;
 mod witness;
 mod witnesses;
 
@@ -32,5 +33,8 @@ pub use explore::{write_explore, write_states};
 pub use first_machine::FirstMachine;
 pub use graph::write_graph;
 pub use observer::{Observer, TraceLines};
+pub use position::Position;
 pub use progress::{Progress, Unshown};
 pub use searched::{Searched, search_observed};
+pub use visited::{SearchedStates, VisitedState};
+pub use witness::{Count, Witness, write_by};

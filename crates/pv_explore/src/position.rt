@@ -37,7 +37,7 @@ use std::marker::Model;
 
 /// A machine at the end of a schedule, with the last process number that it has given. A contract sees its state.
 #[derive(Drop)]
-pub(crate) struct Position {
+pub struct Position {
     session: Session,
     last: u32,
 }
@@ -226,8 +226,16 @@ impl Position {
         Ok((Position { session, last }, texts))
     }
 
+    /// Returns the session of the machine.
+    pub fn into_session(self) -> Session
+        ensures { result ≡ self }
+    {
+        let Position { session, .. } = self;
+        session
+    }
+
     /// Returns the state.
-    pub(crate) fn parts(&self) -> &Parts
+    pub fn parts(&self) -> &Parts
         ensures value { result.now ≡ self.now }
         ensures whole { IsValid self.now }
     {
@@ -264,7 +272,7 @@ impl Position {
     /// # Errors
     ///
     /// `NoMemory`, if there is no memory.
-    pub(crate) fn live(&self, alloc: Global) -> Result<Vec<u32>, StepFault>
+    pub fn live(&self, alloc: Global) -> Result<Vec<u32>, StepFault>
         ensures { IfOk result (λ pids. pids.items ≡ map (λ p. p.0) (live_processes self.now.processes)) }
     {
         live_numbers(alloc, self.session.parts().processes())

@@ -3,7 +3,8 @@ ghost use Rattle.std.specs.Prelude.{◌≡◌, ◌<◌, ◌++◌, ◌∷◌, [],
 ghost use Rattle.std.specs.List.{list_any};
 ghost use Rattle.pv_explore.specs.Observing.{is_shown};
 ghost use Rattle.pv_explore.specs.Plan.{added_to, bytes_at, endings_after, first_visited, live_at, move_bytes, new_bytes, reported_after, reported_bytes, reported_from, reported_steps, shown_bytes, state_at, state_key, visited_after, visited_after_steps, visited_at, visited_from, with_found_at};
-ghost use Rattle.pv_explore.specs.VisitedStates.{HasNumber};
+ghost use Rattle.pv_explore.specs.VisitedStates.{HasNumber, IsFoundIn, IsMade};
+ghost use Rattle.pv_explore.specs.declared.states.Visit.TheVariants.{New};
 ghost use Rattle.pv_explore.specs.Searches.{AreAt, endings_found, move_of, visited_of, witness_at, with_witness};
 ghost use Rattle.pv_explore.specs.Witnesses.{longer, witness_of};
 ghost use Rattle.pv_laws_states.specs.States.{IsValid};
@@ -11,7 +12,7 @@ ghost use Rattle.pv_model.specs.Grammar.Programs.{program_of};
 ghost use Rattle.pv_model.specs.Stream.{Rose};
 ghost use Rattle.pv_session.specs.Running.{FailsBy, stepped};
 ghost use Rattle.pv_step_cache.specs.Steps.{texts_in};
-ghost use Rattle.pv_state_encoding.specs.Encoded.{encoded, encoded_all};
+ghost use Rattle.pv_state_encoding.specs.Encoded.{encoded};
 ghost use Rattle.pv_streams.specs.Sinks.{and_all, WritesPrefix};
 
 use crate::checkpoints::Checkpoints;
@@ -26,7 +27,6 @@ use crate::witnesses::Witnesses;
 use pv_answers::{Fragment, Line, Plain};
 use pv_model::StepFault;
 use pv_session::Stop;
-use pv_state_encoding::EncodedGroup;
 use pv_step_cache::tables::Keys;
 use pv_streams::{Failed, Sink};
 use std::alloc::Global;
@@ -197,7 +197,7 @@ fn add_found_ending(
     ensures { OnOk result (endings.new ≡ endings_found found endings.old position.now) }
 {
     match found {
-        Visit::Known | Visit::Full => Ok(()),
+        Visit::Known(_) | Visit::Full => Ok(()),
         Visit::New => add_ending(alloc, endings, position),
     }
 }
@@ -279,7 +279,7 @@ impl<O: Observer + Drop> Search<O> {
         ensures { OnOk result (visited_of self.new ≡ with_witness found (longer (visited_of self.old).witnesses number pid) (visited_of self.old)) }
     {
         match found {
-            Visit::Known => Ok(()),
+            Visit::Known(_) => Ok(()),
             Visit::Full => {
                 self.complete = false;
                 Ok(())
@@ -291,28 +291,57 @@ impl<O: Observer + Drop> Search<O> {
         }
     }
 
-    // Visits the state after a step of state `number`, given its groups. The state is added if it is new and the limit
-    // is not reached.
-    fn find(
+    // Visits the state of a machine after a step of state `number`, and caches the transition. `texts` are the texts
+    // observed of the step. The state is added if it is new and the limit is not reached.
+    fn visit(
         &mut self,
         alloc: Global,
         limit: u32,
-        position: &Position,
-        groups: &[EncodedGroup],
         number: u32,
         pid: u32,
-    ) -> Result<(), StepFault>
-        requires groups { encoded_all groups.now ≡ encoded position.now }
+        texts: Vec<Vec<u8>>,
+        position: &Position,
+    ) -> Result<Visit, StepFault>
+        requires made { IsMade O.observe self.old.states number pid (texts_in texts.items) (encoded position.now) }
         requires found { number < length (visited_of self.old).witnesses }
-        ensures { OnOk result (visited_of self.new ≡ with_found_at limit (visited_of self.old) (longer (visited_of self.old).witnesses number pid) position.now) }
+        ensures visited { OnOk result (visited_of self.new ≡ with_found_at limit (visited_of self.old) (longer (visited_of self.old).witnesses number pid) position.now) }
+        ensures found { IfOk result (IsFoundIn limit self.old.states self.new.states (state_key position.now)) }
     {
-        let found = self.states.find_or_add(alloc, limit as usize, groups)?;
+        let groups = position.encoded(alloc)?;
+        let found = self.states.arrive(
+            alloc,
+            limit as usize,
+            number as usize,
+            pid,
+            texts,
+            &groups,
+        )?;
         add_found_ending(alloc, &mut self.endings, position, found)?;
-        self.keep_witness(number, pid, found)
+        self.keep_witness(number, pid, found)?;
+        Ok(found)
+    }
+
+    // Makes speculative steps with a machine if its visit added its state, as state `number`. Returns the machine, in an
+    // unspecified state.
+    fn go_ahead(
+        &mut self,
+        alloc: Global,
+        number: usize,
+        position: Position,
+        found: Visit,
+    ) -> Result<Position, StepFault>
+        requires { found ≡ New → HasNumber self.old.states number position }
+        ensures { OnOk result (visited_of self.new ≡ visited_of self.old) }
+    {
+        match found {
+            Visit::Known(_) | Visit::Full => Ok(position),
+            Visit::New => self.states.go_ahead(alloc, number, position),
+        }
     }
 
     // Makes a step of a process with a machine in state `number`. Writes its texts if they are new, caches the transition,
-    // and visits the state after it. Then the machine makes speculative steps, and is returned in an unspecified state.
+    // and visits the state after it. If that state is new, the machine makes speculative steps. Returns the machine, in an
+    // unspecified state.
     fn make_new_move<W: Sink>(
         &mut self,
         alloc: Global,
@@ -332,7 +361,6 @@ impl<O: Observer + Drop> Search<O> {
     {
         let _ = from.parts();
         let (position, texts) = self.states.observe(alloc, from, pid)?;
-        let encoded = position.encoded(alloc)?;
         report(
             alloc,
             &mut self.reported,
@@ -342,10 +370,9 @@ impl<O: Observer + Drop> Search<O> {
             &texts,
             out,
         )?;
-        self.states
-            .keep_step(alloc, number as usize, pid, texts, &encoded)?;
-        self.find(alloc, limit, &position, &encoded, number, pid)?;
-        Ok(self.states.go_ahead(alloc, position, &encoded)?)
+        let next = self.states.len();
+        let found = self.visit(alloc, limit, number, pid, texts, &position)?;
+        Ok(self.go_ahead(alloc, next, position, found)?)
     }
 
     // Returns the machine in state `number`.

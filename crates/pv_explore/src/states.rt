@@ -2,11 +2,11 @@
 ghost use Rattle.std.specs.Prelude.{◌≡◌, ◌++◌, ◌∷◌, [], length, position, bytes_eq, IfOk, IfSome, OnErr, OnOk};
 ghost use Rattle.std.specs.List.{AllByRecursion};
 ghost use Rattle.pv_explore.specs.Rows.{AreOfState, Grew, IsAmong, IsGroupVisited, group_row, number_in, parts_in, state_row};
-ghost use Rattle.pv_explore.specs.VisitedStates.{AreCellsIn, AreReleased, AreLiveAt, ArePlaced, ArePushed, AreEncoded, IsFoundBy, IsFoundIn, IsMade, IsRecalled, IsValidAt, MayFollow, MayKeep, number_of};
+ghost use Rattle.pv_explore.specs.VisitedStates.{AreCellsIn, AreReleased, AreLiveAt, ArePlaced, ArePushed, AreEncoded, HasNumber, IsFoundBy, IsFoundIn, IsMade, IsRecalled, IsValidAt, MayFollow, MayKeep, cells_row, number_of};
 ghost use Rattle.pv_session.specs.Running.{stepped};
 ghost use Rattle.pv_step_cache.specs.Steps.{texts_in};
 ghost use Rattle.pv_state_encoding.specs.Groups.{groups_of, joined};
-ghost use Rattle.pv_state_encoding.specs.Encoded.{encoded, encoded_all, encoded_of};
+ghost use Rattle.pv_state_encoding.specs.Encoded.{encoded_all, encoded_of};
 
 use crate::ahead::make_ahead;
 use crate::observer::Observer;
@@ -42,8 +42,8 @@ pub(crate) struct States<O: Observer + Drop> {
 /// The result of visiting a state.
 #[derive(Clone, Copy)]
 pub(crate) enum Visit {
-    /// The state was visited before.
-    Known,
+    /// The state was visited before. It has this number.
+    Known(usize),
     /// The state is new, but the limit is reached.
     Full,
     /// The state is new and was added.
@@ -266,7 +266,7 @@ fn push_cells(all: &mut Vec<Vec<Cell>>, number: usize, cells: Vec<Cell>) -> Resu
 }
 
 // Visits the state of a row. The row and its cells are added if the row is new and the limit is not reached.
-fn place(
+fn place_row(
     rows: &mut Keys,
     all: &mut Vec<Vec<Cell>>,
     limit: usize,
@@ -276,8 +276,8 @@ fn place(
     ensures found { IfOk result (IsFoundIn limit rows.old rows.new row.items) }
     ensures placed { ArePlaced row.items cells rows.old rows.new all.old.items all.new.items }
 {
-    if rows.contains(&row) {
-        return Ok(Visit::Known);
+    if let Some(number) = rows.find(&row) {
+        return Ok(Visit::Known(number));
     }
     let number = rows.len();
     if number >= limit {
@@ -286,6 +286,21 @@ fn place(
     rows.add(row)?;
     push_cells(all, number, cells)?;
     Ok(Visit::New)
+}
+
+// Visits the state of a list of cells. The state is added if it is new and the limit is not reached.
+fn place(
+    alloc: Global,
+    rows: &mut Keys,
+    all: &mut Vec<Vec<Cell>>,
+    limit: usize,
+    cells: Vec<Cell>,
+) -> Result<Visit, AllocError>
+    ensures found { IfOk result (IsFoundIn limit rows.old rows.new (cells_row cells.items)) }
+    ensures placed { ArePlaced (cells_row cells.items) cells rows.old rows.new all.old.items all.new.items }
+{
+    let row = row_of_cells(alloc, &cells)?;
+    place_row(rows, all, limit, row, cells)
 }
 
 impl<O: Observer + Drop> States<O> {
@@ -360,8 +375,7 @@ impl<O: Observer + Drop> States<O> {
         ensures { IfOk result (IsFoundBy limit self.old self.new (encoded_all encoded.now)) }
     {
         let cells = learn_cells(alloc, &mut self.parts, &mut self.groups, encoded)?;
-        let row = row_of_cells(alloc, &cells)?;
-        let found = place(&mut self.rows, &mut self.cells, limit, row, cells)?;
+        let found = place(alloc, &mut self.rows, &mut self.cells, limit, cells)?;
         Ok(found)
     }
 
@@ -383,25 +397,27 @@ impl<O: Observer + Drop> States<O> {
         position.observe(alloc, &mut self.observer, pid)
     }
 
-    /// Caches the transition of a process's step in state `number`, given the texts observed of it and the groups of the
-    /// state after it.
+    /// Visits the state after a process's step in state `number`, and caches the transition. `texts` are the texts
+    /// observed of the step, and `after` are the groups of the state after it. That state is appended if it is new and
+    /// there are fewer than `limit` states.
     ///
     /// # Errors
     ///
     /// `NoMemory`, if there is no memory.
-    pub(crate) fn keep_step(
+    pub(crate) fn arrive(
         &mut self,
         alloc: Global,
+        limit: usize,
         number: usize,
         pid: u32,
         texts: Vec<Vec<u8>>,
         after: &[EncodedGroup],
-    ) -> Result<(), StepFault>
+    ) -> Result<Visit, StepFault>
         requires { IsMade O.observe self.old number pid (texts_in texts.items) (encoded_all after.now) }
-        ensures { OnOk result (self.new ≡ self.old) }
+        ensures { IfOk result (IsFoundBy limit self.old self.new (encoded_all after.now)) }
     {
         let cells = learn_cells(alloc, &mut self.parts, &mut self.groups, after)?;
-        Ok(keep_made(
+        keep_made(
             alloc,
             &self.cells,
             &mut self.steps,
@@ -409,7 +425,9 @@ impl<O: Observer + Drop> States<O> {
             pid,
             &cells,
             texts,
-        )?)
+        )?;
+        let found = place(alloc, &mut self.rows, &mut self.cells, limit, cells)?;
+        Ok(found)
     }
 
     /// Releases the cells of state `number`. Its steps can then no longer be taken from the cache.
@@ -419,8 +437,8 @@ impl<O: Observer + Drop> States<O> {
         empty_cells(alloc, &mut self.cells, number);
     }
 
-    /// Makes speculative steps with a machine and caches their transitions, as `make_ahead` does. `groups` are the
-    /// groups of the machine's state. Returns the machine, in an unspecified state.
+    /// Makes speculative steps with a machine in state `number` and caches their transitions, as `make_ahead` does, if
+    /// the cells of the state are stored. Returns the machine, in an unspecified state.
     ///
     /// # Errors
     ///
@@ -428,13 +446,18 @@ impl<O: Observer + Drop> States<O> {
     pub(crate) fn go_ahead(
         &mut self,
         alloc: Global,
+        number: usize,
         position: Position,
-        groups: &[EncodedGroup],
     ) -> Result<Position, StepFault>
-        requires { encoded_all groups.now ≡ encoded position }
+        requires { HasNumber self.old number position }
         ensures { OnOk result (self.new ≡ self.old) }
     {
-        let cells = learn_cells(alloc, &mut self.parts, &mut self.groups, groups)?;
+        let Some(cells) = self.cells.get(number) else {
+            return Ok(position);
+        };
+        if cells.is_empty() {
+            return Ok(position);
+        }
         make_ahead(
             alloc,
             &mut self.observer,
@@ -466,8 +489,7 @@ impl<O: Observer + Drop> States<O> {
             return Ok(None);
         };
         let Recalled { texts, cells } = made;
-        let row = row_of_cells(alloc, &cells)?;
-        let found = place(&mut self.rows, &mut self.cells, limit, row, cells)?;
+        let found = place(alloc, &mut self.rows, &mut self.cells, limit, cells)?;
         Ok(Some(Followed { texts, found }))
     }
 }

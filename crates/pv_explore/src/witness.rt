@@ -2,15 +2,16 @@
 ghost use Rattle.std.specs.Prelude.{◌≡◌, ◌∷◌, ◌++◌, ℕ, codes, OnOk, OnErr};
 ghost use Rattle.pv_model.specs.Answers.Explore.{turn_text, witness_text};
 ghost use Rattle.pv_model.specs.Stream.{Rose};
-ghost use Rattle.pv_streams.specs.Sinks.{and_all, WritesPrefix};
+ghost use Rattle.pv_model.specs.Answers.Lines.{answer_line, answer_line_bytes};
+ghost use Rattle.pv_streams.specs.Sinks.{Writes, WritesPrefix, and_all};
 
 use itoa::Buffer;
-use pv_answers::{Decimal, Fragment, Plain};
+use pv_answers::{Decimal, Fragment, Line, Plain};
 use pv_streams::{Failed, Sink, write_whole};
 
 /// A count in decimal digits.
 #[derive(Clone, Copy)]
-pub(crate) struct Count(pub(crate) usize);
+pub struct Count(pub usize);
 
 impl Fragment for Count {
     ghost use Rattle.std.specs.Fmt.{decimal};
@@ -61,7 +62,7 @@ fn write_from<W: Sink>(out: &mut W, first: u32, following: &[u32]) -> Result<(),
 
 /// A witness: the process numbers of its steps. Consecutive steps of one process are written once, with their count.
 #[derive(Clone, Copy)]
-pub(crate) struct Witness<'a>(pub(crate) &'a [u32]);
+pub struct Witness<'a>(pub &'a [u32]);
 
 impl<'a> Fragment for Witness<'a> {
     ghost text = { λ p. witness_text p.0.now };
@@ -72,4 +73,21 @@ impl<'a> Fragment for Witness<'a> {
             None => Ok(()),
         }
     }
+}
+
+/// Writes the line BY of a step of a process or of its state: the schedule that leads there.
+///
+/// # Errors
+///
+/// `Failed`, if a write failed. The sink received a prefix of the line.
+#[tactic(auto, unfolding(pv_model::specs::Trace::text_line))]
+pub fn write_by<W: Sink>(out: &mut W, pid: u32, witness: &[u32]) -> Result<(), Failed>
+    ensures { Writes W.Sink (answer_line_bytes (answer_line pid (codes "BY") (witness_text witness.now))) out.old out.new result }
+{
+    let line = Line {
+        pid,
+        word: *b"BY  ",
+        text: Witness(witness),
+    };
+    line.write(out)
 }

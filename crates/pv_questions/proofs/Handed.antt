@@ -1,12 +1,14 @@
--- A failed write is counted before the flush or at it, and a prefix is written if not all is.
-use Rattle.std.proofs.Common.{◌≡◌, ◌⊎◌, sym, subst, refl, ℕ, Option, Result, Ok, Err, IfErr, OnOk, OnErr, inl, inr}
+-- What a writer wrote, and what is then flushed, is the report of a text.
+use Rattle.std.proofs.Common.{◌≡◌, ◌⊎◌, ◌∙◌, sym, subst, refl, ℕ, Option, Result, Ok, Err, IfErr, OnOk, OnErr, inl, inr}
+use Rattle.pv_model.specs.declared.stream.Sink.{Ghosts as Writing}
 use Rattle.pv_model.specs.Bytes.{Bytes}
 use Rattle.pv_model.specs.Stream.{Rose}
 use Rattle.pv_session.specs.Running.{FailsBy}
 use Rattle.pv_session.specs.declared.session.Stop.{Stop}
 use Rattle.pv_session.specs.declared.session.Stop.TheVariants.{Memory, Write}
-use Rattle.pv_streams.specs.Sinks.{and_all, WritesPrefix}
+use Rattle.pv_streams.specs.Sinks.{and_all, WritesOr, WritesPrefix}
 use Rattle.pv_streams.proofs.Sinks.{begins_whole}
+use Rattle.pv_questions.specs.Asking.{Flushes, Reports}
 use Rattle.pv_questions.specs.declared.stop.AskStop.{AskStop}
 use Rattle.pv_questions.specs.declared.stop.AskStop.TheVariants.{Write as Unwritten}
 
@@ -20,7 +22,7 @@ module _ (before mid after : ℕ) where
   failed_by (Err Write) fails quiet why counted = subst (λ (n : ℕ). Rose before n) (sym (counted refl)) fails
 
   -- the case of any output before the flush
-  pub failed : {T R : Type 0} (end : Result T Stop) (result : Result R AskStop) → IfErr end (λ stop. FailsBy stop before mid) → OnOk end (mid ≡ before)
+  failed : {T R : Type 0} (end : Result T Stop) (result : Result R AskStop) → IfErr end (λ stop. FailsBy stop before mid) → OnOk end (mid ≡ before)
       → (result ≡ Err Unwritten → (end ≡ Err Write) ⊎ Rose mid after) → (end ≡ Err Write → after ≡ mid) → result ≡ Err Unwritten → Rose before after
   failed end result fails quiet why counted is = failed_by end fails quiet (why is) counted
 
@@ -29,8 +31,26 @@ module _ (text : Bytes) (before mid after : Option Bytes) where
   began_by (Ok done) whole prefix = begins_whole text before mid whole
   began_by (Err stop) whole prefix = prefix
 
+  whole : {T R : Type 0} (end : Result T Stop) (result : Result R AskStop) → OnOk end (mid ≡ and_all before text) → OnOk result (OnErr end ⊥) → after ≡ mid
+      → OnOk result (after ≡ and_all before text)
+  whole (Ok done) (Ok value) all ended preserved = preserved ∙ all
+  whole (Err stop) (Ok value) all ended preserved = absurd ended
+  whole end (Err stop) all ended preserved = tt
+
   -- if the end is not reached or the flush fails, a prefix was written
-  pub began : {T R : Type 0} (end : Result T Stop) (result : Result R AskStop) → OnOk end (mid ≡ and_all before text) → OnErr end (WritesPrefix text before mid) → after ≡ mid
+  began : {T R : Type 0} (end : Result T Stop) (result : Result R AskStop) → OnOk end (mid ≡ and_all before text) → OnErr end (WritesPrefix text before mid) → after ≡ mid
       → OnErr result (WritesPrefix text before after)
   began end (Ok done) whole prefix preserved = tt
   began end (Err stop) whole prefix preserved = subst (λ (w : Option Bytes). WritesPrefix text before w) (sym preserved) (began_by end whole prefix)
+
+-- a writer wrote a text or failed, and what it wrote was flushed
+pub reported : {W T : Type 0} (sink : Writing W) (text : Bytes) (before mid after : W) (end : Result T Stop) (result : Result T AskStop)
+    → WritesOr sink FailsBy text before mid end → Flushes sink end mid after result → Reports sink text before after result
+reported sink text before mid after end result written flushed = record {
+  whole = whole text (sink.written before) (sink.written mid) (sink.written after) end result written.whole flushed.done flushed.preserved;
+  prefix = began text (sink.written before) (sink.written mid) (sink.written after) end result written.whole written.prefix flushed.preserved;
+  empty = flushed.empty;
+  kind = flushed.kind;
+  stopped = flushed.stopped;
+  failed = failed (sink.failures before) (sink.failures mid) (sink.failures after) end result written.failed written.quiet flushed.failed flushed.counted;
+}

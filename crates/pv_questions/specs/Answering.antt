@@ -16,6 +16,7 @@ use Rattle.pv_needs.specs.Restraints.{restraints}
 use Rattle.pv_run.specs.Auditing.{audit_text}
 use Rattle.pv_run.specs.Run.{text_of}
 use Rattle.pv_session.specs.Running.{run_of}
+use Rattle.pv_questions.specs.Reasons.{audit_reasons}
 use Rattle.pv_questions.specs.Schedules.{cut_after}
 use Rattle.pv_questions.specs.declared.question.Question.{Question}
 use Rattle.pv_questions.specs.declared.question.Question.TheVariants as asked
@@ -53,6 +54,7 @@ run_answer (asked.Explain errors) it = of_lines (explained_lines errors (steps_o
 run_answer (asked.Needs granted false) it = of_lines (lines_of_demands program_of granted (steps_of it.schedule) it.state)
 run_answer (asked.Needs granted true) it = Ok (restraints program_of granted (steps_of it.schedule) it.state)
 run_answer (asked.Audit path) it = of_audit (audit_text (last_state it) (option_map (λ p. p.now) path))
+run_answer (asked.Reasons path) it = of_audit (audit_reasons (last_state it) (option_map (λ p. p.now) path))
 
 -- the answer about a run, or about its first steps
 abbrev pub answer_of : RunQuestion → Started → Answer

@@ -1,9 +1,13 @@
 -- The output of an answer, complete or not.
-use Rattle.std.specs.Prelude.{◌≡◌, ◌⊎◌, ⊤, ℕ, Bool, true, false, Option, Result, Ok, Err}
+use Rattle.std.specs.Prelude.{◌≡◌, ◌⊎◌, ⊤, ℕ, Bool, true, false, Option, Result, Ok, Err, IfErr, IfOk, OnErr, OnOk}
+use Rattle.pv_model.specs.declared.stream.Sink.{Ghosts as Writing}
 use Rattle.pv_model.specs.declared.run_fault.RunFault.{RunFault}
 use Rattle.pv_model.specs.declared.run_fault.RunFault.TheVariants.{Read, Init, Memory}
 use Rattle.pv_model.specs.Bytes.{Bytes}
+use Rattle.pv_model.specs.Stream.{Rose}
 use Rattle.pv_run.specs.Machines.{IsBundleMachineFault, IsMachineFault}
+use Rattle.pv_session.specs.declared.session.Stop.{Stop}
+use Rattle.pv_session.specs.declared.session.Stop.TheVariants.{Write as Unwritten}
 use Rattle.pv_streams.specs.Sinks.{and_all, WritesPrefix}
 use Rattle.pv_questions.specs.Answering.{Answer}
 use Rattle.pv_questions.specs.Trees.{IsSearch}
@@ -88,3 +92,34 @@ WritesNothingUnlessStopped before after stop = after ≡ before
 abbrev pub BufferedOnlyIfUnwritten : AskStop → ℕ → Type 0
 BufferedOnlyIfUnwritten Write waiting = ⊤
 BufferedOnlyIfUnwritten stop waiting = waiting ≡ 0
+
+-- ---- contracts of functions that write
+
+-- a writer ended, and then what it wrote is flushed: the value of a complete text, or the reason why it is not complete
+pub record Flushes {W T : Type 0} (sink : Writing W) (end : Result T Stop) (old new : W) (result : Result T AskStop) : Type 0 where
+  pub preserved : sink.written new ≡ sink.written old
+  pub done : OnOk result (OnErr end ⊥)
+  pub value : IfOk result (λ value. end ≡ Ok value)
+  pub empty : OnOk result (sink.buffered new ≡ 0)
+  pub kind : IfErr result IsWritingStop
+  pub stopped : IfErr result (λ stop. BufferedOnlyIfUnwritten stop (sink.buffered new))
+  pub failed : result ≡ Err Write → (end ≡ Err Unwritten) ⊎ Rose (sink.failures old) (sink.failures new)
+  pub counted : end ≡ Err Unwritten → sink.failures new ≡ sink.failures old
+
+-- a text is written and flushed: the whole text, or a prefix of it if there is no memory or a write failed
+pub record Reports {W T : Type 0} (sink : Writing W) (text : Bytes) (old new : W) (result : Result T AskStop) : Type 0 where
+  pub whole : OnOk result (sink.written new ≡ and_all (sink.written old) text)
+  pub prefix : OnErr result (WritesPrefix text (sink.written old) (sink.written new))
+  pub empty : OnOk result (sink.buffered new ≡ 0)
+  pub kind : IfErr result IsWritingStop
+  pub stopped : IfErr result (λ stop. BufferedOnlyIfUnwritten stop (sink.buffered new))
+  pub failed : result ≡ Err Write → Rose (sink.failures old) (sink.failures new)
+
+-- an answer is written and flushed: its whole text, or what the reason says; `IsStop` says which reasons there are
+pub record Answers {W : Type 0} (sink : Writing W) (answer : Answer) (IsStop : AskStop → Type 0) (old new : W) (result : Result (Unit {0}) AskStop) : Type 0 where
+  pub answered : OnOk result (WritesAnswer answer (sink.written old) (sink.written new))
+  pub refused : IfErr result (AppearsInAnswer answer (sink.written old) (sink.written new))
+  pub empty : OnOk result (sink.buffered new ≡ 0)
+  pub kind : IfErr result IsStop
+  pub stopped : IfErr result (λ stop. sink.buffered old ≡ 0 → BufferedOnlyIfUnwritten stop (sink.buffered new))
+  pub failed : result ≡ Err Write → Rose (sink.failures old) (sink.failures new)

@@ -2,5 +2,6 @@ pub mod Answering
 pub mod Asking
 pub mod Files
 pub mod Laws
+pub mod Reasons
 pub mod Schedules
 pub mod Trees

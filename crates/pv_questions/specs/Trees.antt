@@ -9,7 +9,10 @@ use Rattle.pv_model.specs.declared.verdict.AuditFault.{AuditFault}
 use Rattle.pv_model.specs.declared.kernel_fault.BootFault.{BootFault}
 use Rattle.pv_model.specs.Answers.Access.{access_lines}
 use Rattle.pv_model.specs.Answers.Explore.{explore_lines, is_complete}
+use Rattle.pv_model.specs.Answers.Exposure.{exposure_lines}
 use Rattle.pv_model.specs.Answers.Graph.{graph_lines}
+use Rattle.pv_model.specs.Answers.Lines.{AnswerLine}
+use Rattle.pv_model.specs.Answers.Policy.{policy_lines}
 use Rattle.pv_model.specs.Answers.Turns.{schedule_text, turns}
 use Rattle.pv_model.specs.Bytes.{Bytes}
 use Rattle.pv_model.specs.Grammar.Lines.{lines_of}
@@ -25,7 +28,9 @@ use Rattle.pv_questions.specs.Answering.{Answer, answer_of, of_lines}
 use Rattle.pv_questions.specs.Files.{cat_of}
 use Rattle.pv_questions.specs.declared.question.RunQuestion.{RunQuestion}
 use Rattle.pv_questions.specs.declared.question.TreeQuestion.{TreeQuestion}
-use Rattle.pv_questions.specs.declared.question.TreeQuestion.TheVariants.{Listing, File, Turns, Explore, Access, Graph}
+use Rattle.pv_questions.specs.declared.question.TreeQuestion.TheVariants.{Listing, File, Turns, Search as OfSearch}
+use Rattle.pv_questions.specs.declared.question.Search.{Search}
+use Rattle.pv_questions.specs.declared.question.Search.TheVariants.{Explore, Access, Exposure, Policy, Graph}
 use Rattle.pv_questions.specs.declared.stop.AskStop.{AskStop}
 use Rattle.pv_questions.specs.declared.stop.AskStop.TheVariants.{Machine, File as NoFile}
 
@@ -58,20 +63,24 @@ of_file (Err fault) = Err (NoFile fault)
 abbrev pub of_boot_fault : BootFault → AskStop
 of_boot_fault fault = Machine (of_boot fault)
 
+-- the lines of a search with a limit
+abbrev pub search_lines : Search → ℕ → State → List AnswerLine
+search_lines Explore limit s = explore_lines program_of limit s
+search_lines Access limit s = access_lines program_of limit s
+search_lines Exposure limit s = exposure_lines program_of limit s
+search_lines Policy limit s = policy_lines program_of limit s
+search_lines (Graph tree) limit s = graph_lines program_of limit tree s
+
 -- the answer about a tree; a schedule has at least one step in a turn, and a search visits at least one state
 abbrev pub tree_answer : TreeQuestion → Tree → Answer
 tree_answer Listing t = Ok (listing t)
 tree_answer (File path) t = of_file (cat_of t path.now)
-tree_answer (Explore states) t = and_then of_boot_fault (booted t) (λ s. of_lines (explore_lines program_of (max 1 states) s))
-tree_answer (Access states) t = and_then of_boot_fault (booted t) (λ s. of_lines (access_lines program_of (max 1 states) s))
-tree_answer (Graph states tree) t = and_then of_boot_fault (booted t) (λ s. of_lines (graph_lines program_of (max 1 states) tree s))
+tree_answer (OfSearch search states) t = and_then of_boot_fault (booted t) (λ s. of_lines (search_lines search (max 1 states) s))
 tree_answer (Turns slice steps) t = and_then of_boot_fault (booted t) (λ s. Ok (schedule_text (turns program_of (max 1 slice) steps s)))
 
 -- the question is a search of the states of a machine
 abbrev pub IsSearch : TreeQuestion → Type 0
-IsSearch (Explore states) = ⊤
-IsSearch (Access states) = ⊤
-IsSearch (Graph states tree) = ⊤
+IsSearch (OfSearch search states) = ⊤
 IsSearch question = ⊥
 
 -- the search of the states of a machine, if it boots, leaves no state out
@@ -81,9 +90,7 @@ search_is_complete states (Err fault) = true
 
 -- the answer about a tree leaves no state out
 abbrev pub tree_is_complete : TreeQuestion → Tree → Bool
-tree_is_complete (Explore states) t = search_is_complete states (booted t)
-tree_is_complete (Access states) t = search_is_complete states (booted t)
-tree_is_complete (Graph states tree) t = search_is_complete states (booted t)
+tree_is_complete (OfSearch search states) t = search_is_complete states (booted t)
 tree_is_complete question t = true
 
 -- the same for an input that may have no tree

@@ -4,8 +4,8 @@
 //! for a schedule on an image, `ask_bundle` for a bundle, and `ask_manifest_run` for a schedule on the tree of a
 //! manifest; `ask_by` and `ask_manifest_by` take the turns of a witness. `starting` starts these runs, and `schedules`
 //! cuts a schedule and converts the turns of a witness. `trees` answers questions of a tree: `ask_tree` for an
-//! image, and `ask_manifest` for a manifest or a bundle. `writers` writes and flushes each answer, and `file` finds the
-//! file at a path. `laws` states that a bundle, a manifest and their image give the same answers. Contracts cite the
+//! image, and `ask_manifest` for a manifest or a bundle. `writers` writes and flushes each answer, `file` finds the
+//! file at a path, and `reasons` writes verdicts with every reason. `laws` states that a bundle, a manifest and their image give the same answers. Contracts cite the
 //! answer that the bytes determine, which is a text or a refusal (`image_answer`, `bundle_answer`, `manifest_answer`,
 //! `image_tree_answer`, `manifest_tree_answer`).
 #![tactic(auto)]
@@ -13,6 +13,7 @@
 mod file;
 pub mod laws;
 pub mod question;
+mod reasons;
 pub mod runs;
 pub mod schedules;
 mod starting;
@@ -25,7 +26,7 @@ pub use laws::{
     images_answer_as_manifests, images_answer_as_their_manifests, manifests_stand_alone,
 };
 pub use pv_explore::{Progress, Unshown};
-pub use question::{Question, RunQuestion, TreeQuestion};
+pub use question::{Question, RunQuestion, Search, TreeQuestion};
 pub use runs::{ask, ask_bundle, ask_by, ask_manifest_by, ask_manifest_run};
 pub use schedules::{is_turns, text_of_turns};
 pub use stop::AskStop;

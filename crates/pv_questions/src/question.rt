@@ -32,6 +32,8 @@ pub enum Question<'a> {
     },
     /// The verdict on the file at a path after the run, or on all files.
     Audit(Option<&'a [u8]>),
+    /// The same verdicts, with a line for each reason of each process if a file is exposed.
+    Reasons(Option<&'a [u8]>),
 }
 
 /// A question about a tree.
@@ -49,20 +51,28 @@ pub enum TreeQuestion<'a> {
         /// The maximum number of steps in all turns together.
         steps: u32,
     },
-    /// What can happen under any schedule on the machine that boots on the tree.
-    Explore {
+    /// A search of the states of the machine that boots on the tree.
+    Search {
+        /// What the search answers.
+        search: Search,
         /// The maximum number of visited states: 0 counts as 1.
         states: u32,
     },
-    /// Which process can access what under any schedule on that machine.
-    Access {
-        /// The maximum number of visited states: 0 counts as 1.
-        states: u32,
-    },
-    /// The state graph of that machine.
+}
+
+/// What a search of all schedules answers.
+#[derive(Clone, Copy, Debug, PartialEq, Eq)]
+pub enum Search {
+    /// What can happen.
+    Explore,
+    /// Which process can access what.
+    Access,
+    /// What an attacker gains who takes over a process, at each line of its program.
+    Exposure,
+    /// What each program needs of its sandbox, and what it holds and never uses.
+    Policy,
+    /// The state graph.
     Graph {
-        /// The maximum number of visited states: 0 counts as 1.
-        states: u32,
         /// Whether each state is written with its tree and the permissions of its processes.
         tree: bool,
     },

@@ -5,7 +5,7 @@ ghost use Rattle.pv_model.specs.declared.run_fault.RunFault.TheVariants.{Memory}
 ghost use Rattle.pv_model.specs.State.{process_at};
 ghost use Rattle.pv_model.specs.Stream.{Rose};
 ghost use Rattle.pv_questions.specs.Answering.{answer_of, bundle_answer, image_answer, last_state, run_answer};
-ghost use Rattle.pv_questions.specs.Asking.{BufferedOnlyIfUnwritten, IsAnswerStop, IsBundleStop, IsImageStop, AppearsInAnswer, WritesAnswer, WritesNothingUnlessStopped};
+ghost use Rattle.pv_questions.specs.Asking.{Answers, BufferedOnlyIfUnwritten, IsAnswerStop, IsBundleStop, IsImageStop, AppearsInAnswer, WritesAnswer, WritesNothingUnlessStopped};
 ghost use Rattle.pv_questions.specs.Schedules.{first_steps, turns_text};
 ghost use Rattle.pv_questions.specs.Trees.{manifest_answer};
 ghost use Rattle.pv_questions.specs.declared.stop.AskStop.TheVariants.{Machine as MachineStop};
@@ -13,12 +13,13 @@ ghost use Rattle.pv_run.specs.Run.{started_from};
 ghost use Rattle.pv_streams.specs.Sources.{FailsToGive};
 
 use crate::question::{Question, RunQuestion};
+use crate::reasons::audited_node;
 use crate::schedules::{cut_turns, text_of_turns};
 use crate::starting::{ready_by, ready_on_manifest, ready_on_manifest_by};
 use crate::stop::AskStop;
 use crate::writers::{
-    report_audit, report_needs, report_reach, report_reach_of, report_restraints, report_state,
-    report_steps, report_trace, report_verdict,
+    report_audit, report_needs, report_reach, report_reach_of, report_reasons, report_reasons_of,
+    report_restraints, report_state, report_steps, report_trace, report_verdict,
 };
 use pv_explain::Explainer;
 use pv_model::RunFault;
@@ -43,12 +44,7 @@ fn answer_state<W: Sink>(
     turns: &[(u32, u32)],
     out: &mut W,
 ) -> Result<(), AskStop>
-    ensures answered { OnOk result (WritesAnswer (run_answer Question.State (started_from session.old turns.now)) (W.written out.old) (W.written out.new)) }
-    ensures empty { OnOk result (W.buffered out.new ≡ 0) }
-    ensures refused { IfErr result (AppearsInAnswer (run_answer Question.State (started_from session.old turns.now)) (W.written out.old) (W.written out.new)) }
-    ensures kind { IfErr result IsAnswerStop }
-    ensures stopped { IfErr result (λ stop. W.buffered out.old ≡ 0 → BufferedOnlyIfUnwritten stop (W.buffered out.new)) }
-    ensures failed { result ≡ Err AskStop.Write → Rose (W.failures out.old) (W.failures out.new) }
+    ensures { Answers W.Sink (run_answer Question.State (started_from session.old turns.now)) IsAnswerStop out.old out.new result }
 {
     leave(alloc, session, turns)?;
     report_state(session.parts(), out)
@@ -62,12 +58,7 @@ fn answer_reach<W: Sink>(
     turns: &[(u32, u32)],
     out: &mut W,
 ) -> Result<(), AskStop>
-    ensures answered { OnOk result (WritesAnswer (run_answer (Question.Reach pid) (started_from session.old turns.now)) (W.written out.old) (W.written out.new)) }
-    ensures empty { OnOk result (W.buffered out.new ≡ 0) }
-    ensures refused { IfErr result (AppearsInAnswer (run_answer (Question.Reach pid) (started_from session.old turns.now)) (W.written out.old) (W.written out.new)) }
-    ensures kind { IfErr result IsAnswerStop }
-    ensures stopped { IfErr result (λ stop. W.buffered out.old ≡ 0 → BufferedOnlyIfUnwritten stop (W.buffered out.new)) }
-    ensures failed { result ≡ Err AskStop.Write → Rose (W.failures out.old) (W.failures out.new) }
+    ensures { Answers W.Sink (run_answer (Question.Reach pid) (started_from session.old turns.now)) IsAnswerStop out.old out.new result }
 {
     leave(alloc, session, turns)?;
     let parts = session.parts();
@@ -88,12 +79,7 @@ fn answer_audit<W: Sink>(
     turns: &[(u32, u32)],
     out: &mut W,
 ) -> Result<(), AskStop>
-    ensures answered { OnOk result (WritesAnswer (run_answer (Question.Audit path.entry) (started_from session.old turns.now)) (W.written out.old) (W.written out.new)) }
-    ensures empty { OnOk result (W.buffered out.new ≡ 0) }
-    ensures refused { IfErr result (AppearsInAnswer (run_answer (Question.Audit path.entry) (started_from session.old turns.now)) (W.written out.old) (W.written out.new)) }
-    ensures kind { IfErr result IsAnswerStop }
-    ensures stopped { IfErr result (λ stop. W.buffered out.old ≡ 0 → BufferedOnlyIfUnwritten stop (W.buffered out.new)) }
-    ensures failed { result ≡ Err AskStop.Write → Rose (W.failures out.old) (W.failures out.new) }
+    ensures { Answers W.Sink (run_answer (Question.Audit path.entry) (started_from session.old turns.now)) IsAnswerStop out.old out.new result }
 {
     leave(alloc, session, turns)?;
     let Some(path) = path else {
@@ -101,6 +87,25 @@ fn answer_audit<W: Sink>(
     };
     let found = session.audit(path)?;
     report_verdict(&found, out)
+}
+
+// Writes the verdict on a file after the run, or on all files, with every reason.
+fn answer_reasons<W: Sink>(
+    alloc: Global,
+    path: Option<&[u8]>,
+    session: &mut Session,
+    turns: &[(u32, u32)],
+    out: &mut W,
+) -> Result<(), AskStop>
+    ensures { Answers W.Sink (run_answer (Question.Reasons path.entry) (started_from session.old turns.now)) IsAnswerStop out.old out.new result }
+{
+    leave(alloc, session, turns)?;
+    let Some(path) = path else {
+        return report_reasons(alloc, session, out);
+    };
+    let node = audited_node(session.tree(), path)?;
+    let found = session.audit_node(node)?;
+    report_reasons_of(session.parts(), node, &found, out)
 }
 
 // Writes the explained trace of the run, with the reasons of errors if `errors`.
@@ -112,12 +117,7 @@ fn answer_steps<W: Sink>(
     out: &mut W,
 ) -> Result<(), AskStop>
     requires { length turns.now ≤ SCHEDULE_LINES }
-    ensures answered { OnOk result (WritesAnswer (run_answer (Question.Explain errors) (started_from session.old turns.now)) (W.written out.old) (W.written out.new)) }
-    ensures empty { OnOk result (W.buffered out.new ≡ 0) }
-    ensures refused { IfErr result (AppearsInAnswer (run_answer (Question.Explain errors) (started_from session.old turns.now)) (W.written out.old) (W.written out.new)) }
-    ensures kind { IfErr result IsAnswerStop }
-    ensures stopped { IfErr result (λ stop. W.buffered out.old ≡ 0 → BufferedOnlyIfUnwritten stop (W.buffered out.new)) }
-    ensures failed { result ≡ Err AskStop.Write → Rose (W.failures out.old) (W.failures out.new) }
+    ensures { Answers W.Sink (run_answer (Question.Explain errors) (started_from session.old turns.now)) IsAnswerStop out.old out.new result }
 {
     let mut explainer = Explainer::new(alloc)?;
     report_steps(alloc, &mut explainer, session, turns, errors, out)
@@ -133,12 +133,7 @@ fn answer_needs<W: Sink>(
     out: &mut W,
 ) -> Result<(), AskStop>
     requires { length turns.now ≤ SCHEDULE_LINES }
-    ensures answered { OnOk result (WritesAnswer (run_answer (Question.Needs granted lines) (started_from session.old turns.now)) (W.written out.old) (W.written out.new)) }
-    ensures empty { OnOk result (W.buffered out.new ≡ 0) }
-    ensures refused { IfErr result (AppearsInAnswer (run_answer (Question.Needs granted lines) (started_from session.old turns.now)) (W.written out.old) (W.written out.new)) }
-    ensures kind { IfErr result IsAnswerStop }
-    ensures stopped { IfErr result (λ stop. W.buffered out.old ≡ 0 → BufferedOnlyIfUnwritten stop (W.buffered out.new)) }
-    ensures failed { result ≡ Err AskStop.Write → Rose (W.failures out.old) (W.failures out.new) }
+    ensures { Answers W.Sink (run_answer (Question.Needs granted lines) (started_from session.old turns.now)) IsAnswerStop out.old out.new result }
 {
     if lines {
         report_restraints(alloc, granted, session, turns, out)
@@ -156,12 +151,7 @@ fn answer<W: Sink>(
     out: &mut W,
 ) -> Result<(), AskStop>
     requires { length turns.now ≤ SCHEDULE_LINES }
-    ensures answered { OnOk result (WritesAnswer (run_answer question.entry (started_from session.old turns.now)) (W.written out.old) (W.written out.new)) }
-    ensures empty { OnOk result (W.buffered out.new ≡ 0) }
-    ensures refused { IfErr result (AppearsInAnswer (run_answer question.entry (started_from session.old turns.now)) (W.written out.old) (W.written out.new)) }
-    ensures kind { IfErr result IsAnswerStop }
-    ensures stopped { IfErr result (λ stop. W.buffered out.old ≡ 0 → BufferedOnlyIfUnwritten stop (W.buffered out.new)) }
-    ensures failed { result ≡ Err AskStop.Write → Rose (W.failures out.old) (W.failures out.new) }
+    ensures { Answers W.Sink (run_answer question.entry (started_from session.old turns.now)) IsAnswerStop out.old out.new result }
 {
     match question {
         Question::Trace => report_trace(alloc, session, turns, out),
@@ -172,6 +162,7 @@ fn answer<W: Sink>(
             answer_needs(alloc, granted, lines, session, turns, out)
         }
         Question::Audit(path) => answer_audit(alloc, path, session, turns, out),
+        Question::Reasons(path) => answer_reasons(alloc, path, session, turns, out),
     }
 }
 
@@ -185,12 +176,7 @@ fn answer_first<W: Sink>(
     out: &mut W,
 ) -> Result<(), AskStop>
     requires { length turns.now ≤ SCHEDULE_LINES }
-    ensures answered { OnOk result (WritesAnswer (run_answer question.entry (started_from session.old (first_steps steps turns.now))) (W.written out.old) (W.written out.new)) }
-    ensures empty { OnOk result (W.buffered out.new ≡ 0) }
-    ensures refused { IfErr result (AppearsInAnswer (run_answer question.entry (started_from session.old (first_steps steps turns.now))) (W.written out.old) (W.written out.new)) }
-    ensures kind { IfErr result IsAnswerStop }
-    ensures stopped { IfErr result (λ stop. W.buffered out.old ≡ 0 → BufferedOnlyIfUnwritten stop (W.buffered out.new)) }
-    ensures failed { result ≡ Err AskStop.Write → Rose (W.failures out.old) (W.failures out.new) }
+    ensures { Answers W.Sink (run_answer question.entry (started_from session.old (first_steps steps turns.now))) IsAnswerStop out.old out.new result }
 {
     let first = cut_turns(alloc, turns, steps)?;
     answer(alloc, question, session, first.as_slice(), out)
@@ -205,12 +191,7 @@ fn answer_asked<W: Sink>(
     out: &mut W,
 ) -> Result<(), AskStop>
     requires { length turns.now ≤ SCHEDULE_LINES }
-    ensures answered { OnOk result (WritesAnswer (answer_of asked.entry (started_from session.old turns.now)) (W.written out.old) (W.written out.new)) }
-    ensures empty { OnOk result (W.buffered out.new ≡ 0) }
-    ensures refused { IfErr result (AppearsInAnswer (answer_of asked.entry (started_from session.old turns.now)) (W.written out.old) (W.written out.new)) }
-    ensures kind { IfErr result IsAnswerStop }
-    ensures stopped { IfErr result (λ stop. W.buffered out.old ≡ 0 → BufferedOnlyIfUnwritten stop (W.buffered out.new)) }
-    ensures failed { result ≡ Err AskStop.Write → Rose (W.failures out.old) (W.failures out.new) }
+    ensures { Answers W.Sink (answer_of asked.entry (started_from session.old turns.now)) IsAnswerStop out.old out.new result }
 {
     match asked.steps {
         Some(steps) => answer_first(alloc, asked.question, session, turns, steps, out),
@@ -225,12 +206,7 @@ fn answer_ready<W: Sink>(
     ready: &mut Ready,
     out: &mut W,
 ) -> Result<(), AskStop>
-    ensures answered { OnOk result (WritesAnswer (answer_of asked.entry (started_from ready.old.session ready.old.schedule)) (W.written out.old) (W.written out.new)) }
-    ensures empty { OnOk result (W.buffered out.new ≡ 0) }
-    ensures refused { IfErr result (AppearsInAnswer (answer_of asked.entry (started_from ready.old.session ready.old.schedule)) (W.written out.old) (W.written out.new)) }
-    ensures kind { IfErr result IsAnswerStop }
-    ensures stopped { IfErr result (λ stop. W.buffered out.old ≡ 0 → BufferedOnlyIfUnwritten stop (W.buffered out.new)) }
-    ensures failed { result ≡ Err AskStop.Write → Rose (W.failures out.old) (W.failures out.new) }
+    ensures { Answers W.Sink (answer_of asked.entry (started_from ready.old.session ready.old.schedule)) IsAnswerStop out.old out.new result }
 {
     let turns = ready.schedule.turns();
     answer_asked(alloc, asked, &mut ready.session, turns, out)
@@ -238,7 +214,10 @@ fn answer_ready<W: Sink>(
 
 // Returns whether the answer to a question lists all files of an image.
 fn lists_all(question: Question<'_>) -> bool {
-    matches!(question, Question::Reach(_) | Question::Audit(None))
+    matches!(
+        question,
+        Question::Reach(_) | Question::Audit(None) | Question::Reasons(None)
+    )
 }
 
 /// Answers a question about the run of a schedule on an image. No image is written.
@@ -254,7 +233,7 @@ fn lists_all(question: Question<'_>) -> bool {
 ///   the schedule or the program of `init`. Nothing was written. If there is no memory (`Memory`), a prefix of the text
 ///   may have been written.
 /// - `NoProcess`: the process that `Reach` names is not live after the run. Nothing was written.
-/// - `Audited`: the path of `Audit` does not name a file after the run. Nothing was written.
+/// - `Audited`: the path of `Audit` or `Reasons` does not name a file after the run. Nothing was written.
 /// - `Write`: a write failed. `out` received a prefix of the text.
 ///
 /// Except after `Write`, everything that was written is flushed.

@@ -1,18 +1,16 @@
 //! Questions about a tree.
 ghost use Rattle.std.specs.Prelude.{◌≡◌, ◌⊎◌, ◌≤◌, length, Ok, Err, IfOk, IfErr, IfSome, OnOk};
 ghost use Rattle.pv_model.specs.Stream.{Rose};
-ghost use Rattle.pv_questions.specs.Asking.{BufferedOnlyIfUnwritten, IsImageTreeStop, IsManifestTreeStop, IsTreeStop, AppearsInAnswer, ReportsComplete, WritesAnswer, WritesNothingUnlessStopped};
+ghost use Rattle.pv_questions.specs.Asking.{Answers, BufferedOnlyIfUnwritten, IsImageTreeStop, IsManifestTreeStop, IsTreeStop, AppearsInAnswer, ReportsComplete, WritesAnswer, WritesNothingUnlessStopped};
 ghost use Rattle.pv_questions.specs.Trees.{image_tree, image_tree_answer, image_tree_is_complete, manifest_tree, manifest_tree_answer, manifest_tree_is_complete, read_manifest_of, tree_answer, tree_is_complete, GivesManifestOf};
 ghost use Rattle.pv_run.specs.Machines.{IsBundleMachineFault, IsMachineFault, RefusesMachine};
 ghost use Rattle.pv_run.specs.Run.{IsStartFault, RefusesStart};
 ghost use Rattle.pv_streams.specs.Sources.{FailsToGive};
 
 use crate::file::file_at;
-use crate::question::TreeQuestion;
+use crate::question::{Search, TreeQuestion};
 use crate::stop::AskStop;
-use crate::writers::{
-    report_access, report_explore, report_file, report_graph, report_listing, report_turns,
-};
+use crate::writers::{report_file, report_listing, report_search, report_turns};
 use pv_explore::{FirstMachine, Progress};
 use pv_image_manifest::{Bundle, Manifest, build};
 use pv_image_mount::mount;
@@ -80,12 +78,7 @@ fn answer_turns<W: Sink>(
     steps: u32,
     out: &mut W,
 ) -> Result<(), AskStop>
-    ensures answered { OnOk result (WritesAnswer (tree_answer (TreeQuestion.Turns slice steps) store) (W.written out.old) (W.written out.new)) }
-    ensures empty { OnOk result (W.buffered out.new ≡ 0) }
-    ensures refused { IfErr result (AppearsInAnswer (tree_answer (TreeQuestion.Turns slice steps) store) (W.written out.old) (W.written out.new)) }
-    ensures kind { IfErr result (IsTreeStop (TreeQuestion.Turns slice steps)) }
-    ensures stopped { IfErr result (λ stop. W.buffered out.old ≡ 0 → BufferedOnlyIfUnwritten stop (W.buffered out.new)) }
-    ensures failed { result ≡ Err AskStop.Write → Rose (W.failures out.old) (W.failures out.new) }
+    ensures answered { Answers W.Sink (tree_answer (TreeQuestion.Turns slice steps) store) (IsTreeStop (TreeQuestion.Turns slice steps)) out.old out.new result }
 {
     store.invariant();
     let mut session = match Session::new(alloc, store) {
@@ -95,85 +88,24 @@ fn answer_turns<W: Sink>(
     report_turns(alloc, &mut session, slice.max(1), steps, out)
 }
 
-// Writes what can happen under any schedule of the machine that boots on a tree.
-fn answer_explore<W: Sink, P: Progress>(
+// Writes the answer of a search of the states of the machine that boots on a tree.
+fn answer_search<W: Sink, P: Progress>(
     alloc: Global,
     store: Store,
+    search: Search,
     states: u32,
     progress: &mut P,
     out: &mut W,
 ) -> Result<(), AskStop>
-    ensures answered { OnOk result (WritesAnswer (tree_answer (TreeQuestion.Explore states) store) (W.written out.old) (W.written out.new)) }
-    ensures empty { OnOk result (W.buffered out.new ≡ 0) }
-    ensures refused { IfErr result (AppearsInAnswer (tree_answer (TreeQuestion.Explore states) store) (W.written out.old) (W.written out.new)) }
-    ensures kind { IfErr result (IsTreeStop (TreeQuestion.Explore states)) }
-    ensures stopped { IfErr result (λ stop. W.buffered out.old ≡ 0 → BufferedOnlyIfUnwritten stop (W.buffered out.new)) }
-    ensures failed { result ≡ Err AskStop.Write → Rose (W.failures out.old) (W.failures out.new) }
-    ensures complete { ReportsComplete result (tree_is_complete (TreeQuestion.Explore states) store) }
+    ensures answered { Answers W.Sink (tree_answer (TreeQuestion.Search search states) store) (IsTreeStop (TreeQuestion.Search search states)) out.old out.new result }
+    ensures complete { ReportsComplete result (tree_is_complete (TreeQuestion.Search search states) store) }
 {
     store.invariant();
     let first_machine = match FirstMachine::new(alloc, store) {
         Ok(first_machine) => first_machine,
         Err(fault) => return Err(AskStop::Machine(RunFault::from(fault))),
     };
-    match report_explore(alloc, &first_machine, states.max(1), progress, out) {
-        Ok(true) => Ok(()),
-        Ok(false) => Err(AskStop::Incomplete),
-        Err(stop) => Err(stop),
-    }
-}
-
-// Writes which process can access what under any schedule of that machine.
-fn answer_access<W: Sink, P: Progress>(
-    alloc: Global,
-    store: Store,
-    states: u32,
-    progress: &mut P,
-    out: &mut W,
-) -> Result<(), AskStop>
-    ensures answered { OnOk result (WritesAnswer (tree_answer (TreeQuestion.Access states) store) (W.written out.old) (W.written out.new)) }
-    ensures empty { OnOk result (W.buffered out.new ≡ 0) }
-    ensures refused { IfErr result (AppearsInAnswer (tree_answer (TreeQuestion.Access states) store) (W.written out.old) (W.written out.new)) }
-    ensures kind { IfErr result (IsTreeStop (TreeQuestion.Access states)) }
-    ensures stopped { IfErr result (λ stop. W.buffered out.old ≡ 0 → BufferedOnlyIfUnwritten stop (W.buffered out.new)) }
-    ensures failed { result ≡ Err AskStop.Write → Rose (W.failures out.old) (W.failures out.new) }
-    ensures complete { ReportsComplete result (tree_is_complete (TreeQuestion.Access states) store) }
-{
-    store.invariant();
-    let first_machine = match FirstMachine::new(alloc, store) {
-        Ok(first_machine) => first_machine,
-        Err(fault) => return Err(AskStop::Machine(RunFault::from(fault))),
-    };
-    match report_access(alloc, &first_machine, states.max(1), progress, out) {
-        Ok(true) => Ok(()),
-        Ok(false) => Err(AskStop::Incomplete),
-        Err(stop) => Err(stop),
-    }
-}
-
-// Writes the state graph of that machine.
-fn answer_graph<W: Sink, P: Progress>(
-    alloc: Global,
-    store: Store,
-    states: u32,
-    tree: bool,
-    progress: &mut P,
-    out: &mut W,
-) -> Result<(), AskStop>
-    ensures answered { OnOk result (WritesAnswer (tree_answer (TreeQuestion.Graph states tree) store) (W.written out.old) (W.written out.new)) }
-    ensures empty { OnOk result (W.buffered out.new ≡ 0) }
-    ensures refused { IfErr result (AppearsInAnswer (tree_answer (TreeQuestion.Graph states tree) store) (W.written out.old) (W.written out.new)) }
-    ensures kind { IfErr result (IsTreeStop (TreeQuestion.Graph states tree)) }
-    ensures stopped { IfErr result (λ stop. W.buffered out.old ≡ 0 → BufferedOnlyIfUnwritten stop (W.buffered out.new)) }
-    ensures failed { result ≡ Err AskStop.Write → Rose (W.failures out.old) (W.failures out.new) }
-    ensures complete { ReportsComplete result (tree_is_complete (TreeQuestion.Graph states tree) store) }
-{
-    store.invariant();
-    let first_machine = match FirstMachine::new(alloc, store) {
-        Ok(first_machine) => first_machine,
-        Err(fault) => return Err(AskStop::Machine(RunFault::from(fault))),
-    };
-    match report_graph(alloc, &first_machine, states.max(1), tree, progress, out) {
+    match report_search(alloc, search, &first_machine, states.max(1), progress, out) {
         Ok(true) => Ok(()),
         Ok(false) => Err(AskStop::Incomplete),
         Err(stop) => Err(stop),
@@ -182,12 +114,7 @@ fn answer_graph<W: Sink, P: Progress>(
 
 // Writes the bytes of the file at a path.
 fn answer_file<W: Sink>(tree: &Tree, path: &[u8], out: &mut W) -> Result<(), AskStop>
-    ensures answered { OnOk result (WritesAnswer (tree_answer (TreeQuestion.File path.entry) tree.now.tree) (W.written out.old) (W.written out.new)) }
-    ensures empty { OnOk result (W.buffered out.new ≡ 0) }
-    ensures refused { IfErr result (AppearsInAnswer (tree_answer (TreeQuestion.File path.entry) tree.now.tree) (W.written out.old) (W.written out.new)) }
-    ensures kind { IfErr result (IsTreeStop (TreeQuestion.File path.entry)) }
-    ensures stopped { IfErr result (λ stop. W.buffered out.old ≡ 0 → BufferedOnlyIfUnwritten stop (W.buffered out.new)) }
-    ensures failed { result ≡ Err AskStop.Write → Rose (W.failures out.old) (W.failures out.new) }
+    ensures answered { Answers W.Sink (tree_answer (TreeQuestion.File path.entry) tree.now.tree) (IsTreeStop (TreeQuestion.File path.entry)) out.old out.new result }
 {
     match file_at(tree, path) {
         Ok(node) => report_file(tree, node, out),
@@ -203,40 +130,33 @@ fn answer<W: Sink, P: Progress>(
     progress: &mut P,
     out: &mut W,
 ) -> Result<(), AskStop>
-    ensures answered { OnOk result (WritesAnswer (tree_answer question.entry store) (W.written out.old) (W.written out.new)) }
-    ensures empty { OnOk result (W.buffered out.new ≡ 0) }
-    ensures refused { IfErr result (AppearsInAnswer (tree_answer question.entry store) (W.written out.old) (W.written out.new)) }
-    ensures kind { IfErr result (IsTreeStop question.entry) }
-    ensures stopped { IfErr result (λ stop. W.buffered out.old ≡ 0 → BufferedOnlyIfUnwritten stop (W.buffered out.new)) }
-    ensures failed { result ≡ Err AskStop.Write → Rose (W.failures out.old) (W.failures out.new) }
+    ensures answered { Answers W.Sink (tree_answer question.entry store) (IsTreeStop question.entry) out.old out.new result }
     ensures complete { ReportsComplete result (tree_is_complete question.entry store) }
 {
     match question {
         TreeQuestion::Listing => report_listing(alloc, store.tree(), out),
         TreeQuestion::File(path) => answer_file(store.tree(), path, out),
         TreeQuestion::Turns { slice, steps } => answer_turns(alloc, store, slice, steps, out),
-        TreeQuestion::Explore { states } => answer_explore(alloc, store, states, progress, out),
-        TreeQuestion::Access { states } => answer_access(alloc, store, states, progress, out),
-        TreeQuestion::Graph { states, tree } => {
-            answer_graph(alloc, store, states, tree, progress, out)
+        TreeQuestion::Search { search, states } => {
+            answer_search(alloc, store, search, states, progress, out)
         }
     }
 }
 
 /// Answers a question about the tree of an image.
 ///
-/// The image is read to its end, and it is checked before anything is written. For `Turns`, `Explore`, `Access` and
-/// `Graph` the program of `init` is checked next. On success, `out` received exactly the text of the answer, all of it
-/// flushed. The searches of `Explore`, `Access` and `Graph` report their progress to `progress`.
+/// The image is read to its end, and it is checked before anything is written. For `Turns` and `Search` the
+/// program of `init` is checked next. On success, `out` received exactly the text of the answer, all of it
+/// flushed. A search reports its progress to `progress`.
 ///
 /// # Errors
 ///
 /// - `Machine`: a read failed, or the source gave more than 67,108,864 bytes (`Read`); or the first error of the image
-///   or, for `Turns`, `Explore`, `Access` and `Graph`, of the program of `init`. Nothing was written. If there is no
+///   or, for `Turns` and `Search`, of the program of `init`. Nothing was written. If there is no
 ///   memory (`Memory`), a prefix of the text may have been written.
 /// - `File`: the path of `File` does not name a file. Nothing was written.
 /// - `Write`: a write failed. `out` received a prefix of the text.
-/// - `Incomplete`: the search of `Explore`, `Access` or `Graph` left a state out, because `states` states were visited.
+/// - `Incomplete`: a search left a state out, because `states` states were visited.
 ///   `out` received exactly the text.
 ///
 /// Except after `Write`, everything that was written is flushed.

@@ -1,10 +1,8 @@
 //! Answers, written and flushed.
-ghost use Rattle.std.specs.Prelude.{◌≡◌, ◌⊎◌, ◌≤◌, [], length, Ok, Err, IfErr, IfOk, OnOk, OnErr};
+ghost use Rattle.std.specs.Prelude.{◌≡◌, ◌≤◌, [], length, IfOk, None};
 ghost use Rattle.pv_answers.specs.Reaching.{reached_by};
 ghost use Rattle.pv_explain.specs.Errors.{explained_lines};
-ghost use Rattle.pv_model.specs.Answers.Access.{access_lines};
-ghost use Rattle.pv_model.specs.Answers.Explore.{explore_lines, is_complete};
-ghost use Rattle.pv_model.specs.Answers.Graph.{graph_lines};
+ghost use Rattle.pv_model.specs.Answers.Explore.{is_complete};
 ghost use Rattle.pv_model.specs.Answers.Lines.{answer_bytes};
 ghost use Rattle.pv_model.specs.Answers.ProcessRecord.{state_lines};
 ghost use Rattle.pv_model.specs.Answers.Reach.{reach_lines};
@@ -13,27 +11,32 @@ ghost use Rattle.pv_model.specs.Grammar.Programs.{program_of};
 ghost use Rattle.pv_model.specs.Listing.{listing, report};
 ghost use Rattle.pv_model.specs.Sealed.{verdict_line};
 ghost use Rattle.pv_model.specs.Step.{steps_of};
-ghost use Rattle.pv_model.specs.Stream.{Rose};
 ghost use Rattle.pv_model.specs.Trace.{trace_bytes};
 ghost use Rattle.pv_model.specs.declared.limits.TheConstants.{SCHEDULE_LINES};
 ghost use Rattle.pv_dirs.specs.Trees.{bytes_at};
 ghost use Rattle.pv_needs.specs.Granted.{lines_of_demands};
 ghost use Rattle.pv_needs.specs.Restraints.{restraints};
 ghost use Rattle.pv_questions.specs.Files.{IsFileAt};
-ghost use Rattle.pv_questions.specs.Asking.{BufferedOnlyIfUnwritten, IsWritingStop};
+ghost use Rattle.pv_questions.specs.Asking.{Flushes, Reports};
+ghost use Rattle.pv_questions.specs.Reasons.{reasons_report, with_reasons};
+ghost use Rattle.pv_questions.specs.Trees.{search_lines};
 ghost use Rattle.pv_session.specs.Running.{FailsBy, run_of};
-ghost use Rattle.pv_streams.specs.Sinks.{and_all, WritesPrefix};
+ghost use Rattle.pv_streams.specs.Sinks.{WritesOr};
 
 use crate::file::write_file;
+use crate::question::Search;
+use crate::reasons::{write_reasons, write_reasons_report};
 use crate::stop::AskStop;
 use pv_access::write_access;
 use pv_answers::{write_reach, write_reach_of, write_state};
 use pv_calls_state::Parts;
 use pv_explain::{Explainer, explain_schedule};
 use pv_explore::{FirstMachine, Progress, write_explore, write_graph};
+use pv_exposure::write_exposure;
 use pv_listing::{ListStop, write_listing};
 use pv_model::{RunFault, Verdict};
 use pv_needs::{write_demands, write_restraints, write_turns};
+use pv_policy::write_policy;
 use pv_run::{write_report, write_verdict};
 use pv_session::{Session, Stop, run_schedule};
 use pv_streams::Sink;
@@ -42,14 +45,7 @@ use std::alloc::Global;
 
 // Flushes the text of an answer: all of it, or a prefix if there is no memory. Returns the value of a complete text.
 fn flush_buffer<T: Drop, W: Sink>(end: Result<T, Stop>, out: &mut W) -> Result<T, AskStop>
-    ensures preserved { W.written out.new ≡ W.written out.old }
-    ensures done { OnOk result (OnErr end ⊥) }
-    ensures value { IfOk result (λ value. end ≡ Ok value) }
-    ensures empty { OnOk result (W.buffered out.new ≡ 0) }
-    ensures kind { IfErr result IsWritingStop }
-    ensures stopped { IfErr result (λ stop. BufferedOnlyIfUnwritten stop (W.buffered out.new)) }
-    ensures failed { result ≡ Err AskStop.Write → (end ≡ Err Stop.Write) ⊎ Rose (W.failures out.old) (W.failures out.new) }
-    ensures counted { end ≡ Err Stop.Write → W.failures out.new ≡ W.failures out.old }
+    ensures { Flushes W.Sink end out.old out.new result }
 {
     match end {
         Ok(value) => {
@@ -72,10 +68,7 @@ fn trace_run<W: Sink>(
     out: &mut W,
 ) -> Result<(), Stop>
     requires { length turns.now ≤ SCHEDULE_LINES }
-    ensures whole { OnOk result (W.written out.new ≡ and_all (W.written out.old) (trace_bytes (run_of session.old turns.now).lines)) }
-    ensures prefix { OnErr result (WritesPrefix (trace_bytes (run_of session.old turns.now).lines) (W.written out.old) (W.written out.new)) }
-    ensures failed { IfErr result (λ stop. FailsBy stop (W.failures out.old) (W.failures out.new)) }
-    ensures quiet { OnOk result (W.failures out.new ≡ W.failures out.old) }
+    ensures { WritesOr W.Sink FailsBy (trace_bytes (run_of session.old turns.now).lines) out.old out.new result }
 {
     run_schedule(alloc, session, turns, out)?;
     Ok(())
@@ -84,12 +77,7 @@ fn trace_run<W: Sink>(
 // Writes the state of each process.
 #[tactic(auto, using(pv_streams::proofs::Sinks::begins_whole))]
 pub(crate) fn report_state<W: Sink>(parts: &Parts, out: &mut W) -> Result<(), AskStop>
-    ensures whole { OnOk result (W.written out.new ≡ and_all (W.written out.old) (answer_bytes (state_lines parts.now))) }
-    ensures prefix { OnErr result (WritesPrefix (answer_bytes (state_lines parts.now)) (W.written out.old) (W.written out.new)) }
-    ensures empty { OnOk result (W.buffered out.new ≡ 0) }
-    ensures kind { IfErr result IsWritingStop }
-    ensures stopped { IfErr result (λ stop. BufferedOnlyIfUnwritten stop (W.buffered out.new)) }
-    ensures failed { result ≡ Err AskStop.Write → Rose (W.failures out.old) (W.failures out.new) }
+    ensures { Reports W.Sink (answer_bytes (state_lines parts.now)) out.old out.new result }
 {
     write_state(out, parts)?;
     out.flush()?;
@@ -99,12 +87,7 @@ pub(crate) fn report_state<W: Sink>(parts: &Parts, out: &mut W) -> Result<(), As
 // Writes the permissions of each live process.
 #[tactic(auto, using(pv_streams::proofs::Sinks::begins_whole))]
 pub(crate) fn report_reach<W: Sink>(parts: &Parts, out: &mut W) -> Result<(), AskStop>
-    ensures whole { OnOk result (W.written out.new ≡ and_all (W.written out.old) (answer_bytes (reach_lines parts.now))) }
-    ensures prefix { OnErr result (WritesPrefix (answer_bytes (reach_lines parts.now)) (W.written out.old) (W.written out.new)) }
-    ensures empty { OnOk result (W.buffered out.new ≡ 0) }
-    ensures kind { IfErr result IsWritingStop }
-    ensures stopped { IfErr result (λ stop. BufferedOnlyIfUnwritten stop (W.buffered out.new)) }
-    ensures failed { result ≡ Err AskStop.Write → Rose (W.failures out.old) (W.failures out.new) }
+    ensures { Reports W.Sink (answer_bytes (reach_lines parts.now)) out.old out.new result }
 {
     write_reach(out, parts)?;
     out.flush()?;
@@ -114,12 +97,7 @@ pub(crate) fn report_reach<W: Sink>(parts: &Parts, out: &mut W) -> Result<(), As
 // Writes the permissions of a process, if it is live.
 #[tactic(auto, using(pv_streams::proofs::Sinks::begins_whole))]
 pub(crate) fn report_reach_of<W: Sink>(parts: &Parts, pid: u32, out: &mut W) -> Result<(), AskStop>
-    ensures whole { OnOk result (W.written out.new ≡ and_all (W.written out.old) (answer_bytes (reached_by parts.now pid))) }
-    ensures prefix { OnErr result (WritesPrefix (answer_bytes (reached_by parts.now pid)) (W.written out.old) (W.written out.new)) }
-    ensures empty { OnOk result (W.buffered out.new ≡ 0) }
-    ensures kind { IfErr result IsWritingStop }
-    ensures stopped { IfErr result (λ stop. BufferedOnlyIfUnwritten stop (W.buffered out.new)) }
-    ensures failed { result ≡ Err AskStop.Write → Rose (W.failures out.old) (W.failures out.new) }
+    ensures { Reports W.Sink (answer_bytes (reached_by parts.now pid)) out.old out.new result }
 {
     write_reach_of(out, parts, pid)?;
     out.flush()?;
@@ -129,12 +107,7 @@ pub(crate) fn report_reach_of<W: Sink>(parts: &Parts, pid: u32, out: &mut W) -> 
 // Writes the line of a verdict.
 #[tactic(auto, using(pv_streams::proofs::Sinks::begins_whole))]
 pub(crate) fn report_verdict<W: Sink>(verdict: &Verdict, out: &mut W) -> Result<(), AskStop>
-    ensures whole { OnOk result (W.written out.new ≡ and_all (W.written out.old) (verdict_line verdict.now)) }
-    ensures prefix { OnErr result (WritesPrefix (verdict_line verdict.now) (W.written out.old) (W.written out.new)) }
-    ensures empty { OnOk result (W.buffered out.new ≡ 0) }
-    ensures kind { IfErr result IsWritingStop }
-    ensures stopped { IfErr result (λ stop. BufferedOnlyIfUnwritten stop (W.buffered out.new)) }
-    ensures failed { result ≡ Err AskStop.Write → Rose (W.failures out.old) (W.failures out.new) }
+    ensures { Reports W.Sink (verdict_line verdict.now) out.old out.new result }
 {
     write_verdict(out, verdict)?;
     out.flush()?;
@@ -148,14 +121,46 @@ pub(crate) fn report_audit<W: Sink>(
     session: &Session,
     out: &mut W,
 ) -> Result<(), AskStop>
-    ensures whole { OnOk result (W.written out.new ≡ and_all (W.written out.old) (report session.now)) }
-    ensures prefix { OnErr result (WritesPrefix (report session.now) (W.written out.old) (W.written out.new)) }
-    ensures empty { OnOk result (W.buffered out.new ≡ 0) }
-    ensures kind { IfErr result IsWritingStop }
-    ensures stopped { IfErr result (λ stop. BufferedOnlyIfUnwritten stop (W.buffered out.new)) }
-    ensures failed { result ≡ Err AskStop.Write → Rose (W.failures out.old) (W.failures out.new) }
+    ensures { Reports W.Sink (report session.now) out.old out.new result }
 {
     match write_report(alloc, session, out) {
+        Ok(()) => {
+            out.flush()?;
+            Ok(())
+        }
+        Err(ListStop::Memory) => {
+            out.flush()?;
+            Err(AskStop::Machine(RunFault::Memory))
+        }
+        Err(ListStop::Write) => Err(AskStop::Write),
+    }
+}
+
+// Writes the verdict on a file, with every reason.
+#[tactic(auto, using(pv_streams::proofs::Sinks::begins_whole))]
+pub(crate) fn report_reasons_of<W: Sink>(
+    parts: &Parts,
+    node: u16,
+    found: &Verdict,
+    out: &mut W,
+) -> Result<(), AskStop>
+    ensures { Reports W.Sink (with_reasons None parts.now node found.now) out.old out.new result }
+{
+    write_reasons(out, parts, None, node, found)?;
+    out.flush()?;
+    Ok(())
+}
+
+// Writes the verdicts on all files of a machine, with every reason.
+#[tactic(auto, using(pv_streams::proofs::Sinks::begins_whole))]
+pub(crate) fn report_reasons<W: Sink>(
+    alloc: Global,
+    session: &Session,
+    out: &mut W,
+) -> Result<(), AskStop>
+    ensures { Reports W.Sink (reasons_report session.now) out.old out.new result }
+{
+    match write_reasons_report(alloc, session, out) {
         Ok(()) => {
             out.flush()?;
             Ok(())
@@ -177,12 +182,7 @@ pub(crate) fn report_trace<W: Sink>(
     out: &mut W,
 ) -> Result<(), AskStop>
     requires { length turns.now ≤ SCHEDULE_LINES }
-    ensures whole { OnOk result (W.written out.new ≡ and_all (W.written out.old) (trace_bytes (run_of session.old turns.now).lines)) }
-    ensures prefix { OnErr result (WritesPrefix (trace_bytes (run_of session.old turns.now).lines) (W.written out.old) (W.written out.new)) }
-    ensures empty { OnOk result (W.buffered out.new ≡ 0) }
-    ensures kind { IfErr result IsWritingStop }
-    ensures stopped { IfErr result (λ stop. BufferedOnlyIfUnwritten stop (W.buffered out.new)) }
-    ensures failed { result ≡ Err AskStop.Write → Rose (W.failures out.old) (W.failures out.new) }
+    ensures { Reports W.Sink (trace_bytes (run_of session.old turns.now).lines) out.old out.new result }
 {
     let end = trace_run(alloc, session, turns, out);
     flush_buffer(end, out)
@@ -200,12 +200,7 @@ pub(crate) fn report_steps<W: Sink>(
 ) -> Result<(), AskStop>
     requires lines { length turns.now ≤ SCHEDULE_LINES }
     requires fresh { explainer.old ≡ [] }
-    ensures whole { OnOk result (W.written out.new ≡ and_all (W.written out.old) (answer_bytes (explained_lines errors (steps_of turns.now) session.old))) }
-    ensures prefix { OnErr result (WritesPrefix (answer_bytes (explained_lines errors (steps_of turns.now) session.old)) (W.written out.old) (W.written out.new)) }
-    ensures empty { OnOk result (W.buffered out.new ≡ 0) }
-    ensures kind { IfErr result IsWritingStop }
-    ensures stopped { IfErr result (λ stop. BufferedOnlyIfUnwritten stop (W.buffered out.new)) }
-    ensures failed { result ≡ Err AskStop.Write → Rose (W.failures out.old) (W.failures out.new) }
+    ensures { Reports W.Sink (answer_bytes (explained_lines errors (steps_of turns.now) session.old)) out.old out.new result }
 {
     let end = explain_schedule(alloc, session, explainer, turns, errors, out);
     flush_buffer(end, out)
@@ -221,12 +216,7 @@ pub(crate) fn report_needs<W: Sink>(
     out: &mut W,
 ) -> Result<(), AskStop>
     requires { length turns.now ≤ SCHEDULE_LINES }
-    ensures whole { OnOk result (W.written out.new ≡ and_all (W.written out.old) (answer_bytes (lines_of_demands program_of granted (steps_of turns.now) session.old))) }
-    ensures prefix { OnErr result (WritesPrefix (answer_bytes (lines_of_demands program_of granted (steps_of turns.now) session.old)) (W.written out.old) (W.written out.new)) }
-    ensures empty { OnOk result (W.buffered out.new ≡ 0) }
-    ensures kind { IfErr result IsWritingStop }
-    ensures stopped { IfErr result (λ stop. BufferedOnlyIfUnwritten stop (W.buffered out.new)) }
-    ensures failed { result ≡ Err AskStop.Write → Rose (W.failures out.old) (W.failures out.new) }
+    ensures { Reports W.Sink (answer_bytes (lines_of_demands program_of granted (steps_of turns.now) session.old)) out.old out.new result }
 {
     let end = write_demands(alloc, session, turns, granted, out);
     flush_buffer(end, out)
@@ -243,12 +233,7 @@ pub(crate) fn report_restraints<W: Sink>(
     out: &mut W,
 ) -> Result<(), AskStop>
     requires { length turns.now ≤ SCHEDULE_LINES }
-    ensures whole { OnOk result (W.written out.new ≡ and_all (W.written out.old) (restraints program_of granted (steps_of turns.now) session.old)) }
-    ensures prefix { OnErr result (WritesPrefix (restraints program_of granted (steps_of turns.now) session.old) (W.written out.old) (W.written out.new)) }
-    ensures empty { OnOk result (W.buffered out.new ≡ 0) }
-    ensures kind { IfErr result IsWritingStop }
-    ensures stopped { IfErr result (λ stop. BufferedOnlyIfUnwritten stop (W.buffered out.new)) }
-    ensures failed { result ≡ Err AskStop.Write → Rose (W.failures out.old) (W.failures out.new) }
+    ensures { Reports W.Sink (restraints program_of granted (steps_of turns.now) session.old) out.old out.new result }
 {
     let end = write_restraints(alloc, session, turns, granted, out);
     flush_buffer(end, out)
@@ -261,12 +246,7 @@ pub(crate) fn report_listing<W: Sink>(
     tree: &Tree,
     out: &mut W,
 ) -> Result<(), AskStop>
-    ensures whole { OnOk result (W.written out.new ≡ and_all (W.written out.old) (listing tree.now.tree)) }
-    ensures prefix { OnErr result (WritesPrefix (listing tree.now.tree) (W.written out.old) (W.written out.new)) }
-    ensures empty { OnOk result (W.buffered out.new ≡ 0) }
-    ensures kind { IfErr result IsWritingStop }
-    ensures stopped { IfErr result (λ stop. BufferedOnlyIfUnwritten stop (W.buffered out.new)) }
-    ensures failed { result ≡ Err AskStop.Write → Rose (W.failures out.old) (W.failures out.new) }
+    ensures { Reports W.Sink (listing tree.now.tree) out.old out.new result }
 {
     match write_listing(alloc, tree, out) {
         Ok(()) => {
@@ -291,81 +271,48 @@ pub(crate) fn report_turns<W: Sink>(
     out: &mut W,
 ) -> Result<(), AskStop>
     requires { 1 ≤ slice }
-    ensures whole { OnOk result (W.written out.new ≡ and_all (W.written out.old) (schedule_text (turns program_of slice steps session.old))) }
-    ensures prefix { OnErr result (WritesPrefix (schedule_text (turns program_of slice steps session.old)) (W.written out.old) (W.written out.new)) }
-    ensures empty { OnOk result (W.buffered out.new ≡ 0) }
-    ensures kind { IfErr result IsWritingStop }
-    ensures stopped { IfErr result (λ stop. BufferedOnlyIfUnwritten stop (W.buffered out.new)) }
-    ensures failed { result ≡ Err AskStop.Write → Rose (W.failures out.old) (W.failures out.new) }
+    ensures { Reports W.Sink (schedule_text (turns program_of slice steps session.old)) out.old out.new result }
 {
     let end = write_turns(alloc, session, slice, steps, out);
     flush_buffer(end, out)
 }
 
-// Writes what can happen under any schedule of a machine.
-#[tactic(auto, using(pv_streams::proofs::Sinks::begins_whole))]
-pub(crate) fn report_explore<W: Sink, P: Progress>(
+// Writes the answer of a search, and leaves its last lines buffered.
+fn write_search<W: Sink, P: Progress>(
     alloc: Global,
+    search: Search,
     first_machine: &FirstMachine,
     states: u32,
     progress: &mut P,
     out: &mut W,
-) -> Result<bool, AskStop>
+) -> Result<bool, Stop>
     requires { 1 ≤ states }
-    ensures whole { OnOk result (W.written out.new ≡ and_all (W.written out.old) (answer_bytes (explore_lines program_of states first_machine.now))) }
-    ensures prefix { OnErr result (WritesPrefix (answer_bytes (explore_lines program_of states first_machine.now)) (W.written out.old) (W.written out.new)) }
-    ensures empty { OnOk result (W.buffered out.new ≡ 0) }
-    ensures kind { IfErr result IsWritingStop }
-    ensures stopped { IfErr result (λ stop. BufferedOnlyIfUnwritten stop (W.buffered out.new)) }
-    ensures failed { result ≡ Err AskStop.Write → Rose (W.failures out.old) (W.failures out.new) }
+    ensures written { WritesOr W.Sink FailsBy (answer_bytes (search_lines search states first_machine.now)) out.old out.new result }
     ensures complete { IfOk result (λ complete. complete ≡ is_complete program_of states first_machine.now) }
 {
-    let end = write_explore(alloc, first_machine, states, progress, out);
-    flush_buffer(end, out)
+    match search {
+        Search::Explore => write_explore(alloc, first_machine, states, progress, out),
+        Search::Access => write_access(alloc, first_machine, states, progress, out),
+        Search::Exposure => write_exposure(alloc, first_machine, states, progress, out),
+        Search::Policy => write_policy(alloc, first_machine, states, progress, out),
+        Search::Graph { tree } => write_graph(alloc, first_machine, states, tree, progress, out),
+    }
 }
 
-// Writes which process can access what under any schedule of a machine.
-#[tactic(auto, using(pv_streams::proofs::Sinks::begins_whole))]
-pub(crate) fn report_access<W: Sink, P: Progress>(
+// Writes the answer of a search. Returns whether the visited states are all.
+pub(crate) fn report_search<W: Sink, P: Progress>(
     alloc: Global,
+    search: Search,
     first_machine: &FirstMachine,
     states: u32,
     progress: &mut P,
     out: &mut W,
 ) -> Result<bool, AskStop>
     requires { 1 ≤ states }
-    ensures whole { OnOk result (W.written out.new ≡ and_all (W.written out.old) (answer_bytes (access_lines program_of states first_machine.now))) }
-    ensures prefix { OnErr result (WritesPrefix (answer_bytes (access_lines program_of states first_machine.now)) (W.written out.old) (W.written out.new)) }
-    ensures empty { OnOk result (W.buffered out.new ≡ 0) }
-    ensures kind { IfErr result IsWritingStop }
-    ensures stopped { IfErr result (λ stop. BufferedOnlyIfUnwritten stop (W.buffered out.new)) }
-    ensures failed { result ≡ Err AskStop.Write → Rose (W.failures out.old) (W.failures out.new) }
+    ensures written { Reports W.Sink (answer_bytes (search_lines search states first_machine.now)) out.old out.new result }
     ensures complete { IfOk result (λ complete. complete ≡ is_complete program_of states first_machine.now) }
 {
-    let end = write_access(alloc, first_machine, states, progress, out);
-    flush_buffer(end, out)
-}
-
-// Writes the state graph of a machine.
-#[tactic(auto, using(pv_streams::proofs::Sinks::begins_whole))]
-pub(crate) fn report_graph<W: Sink, P: Progress>(
-    alloc: Global,
-    first_machine: &FirstMachine,
-    states: u32,
-    tree: bool,
-    progress: &mut P,
-    out: &mut W,
-) -> Result<bool, AskStop>
-    requires { 1 ≤ states }
-    ensures whole { OnOk result (W.written out.new ≡ and_all (W.written out.old) (answer_bytes (graph_lines program_of states tree first_machine.now))) }
-    ensures prefix { OnErr result (WritesPrefix (answer_bytes (graph_lines program_of states tree first_machine.now)) (W.written out.old) (W.written out.new)) }
-    ensures empty { OnOk result (W.buffered out.new ≡ 0) }
-    ensures kind { IfErr result IsWritingStop }
-    ensures stopped { IfErr result (λ stop. BufferedOnlyIfUnwritten stop (W.buffered out.new)) }
-    ensures failed { result ≡ Err AskStop.Write → Rose (W.failures out.old) (W.failures out.new) }
-    ensures complete { IfOk result (λ complete. complete ≡ is_complete program_of states first_machine.now) }
-{
-    let end = write_graph(alloc, first_machine, states, tree, progress, out);
+    let end = write_search(alloc, search, first_machine, states, progress, out);
     flush_buffer(end, out)
 }
 
@@ -373,12 +320,7 @@ pub(crate) fn report_graph<W: Sink, P: Progress>(
 #[tactic(auto, using(pv_streams::proofs::Sinks::begins_whole))]
 pub(crate) fn report_file<W: Sink>(tree: &Tree, node: u16, out: &mut W) -> Result<(), AskStop>
     requires { IsFileAt tree.now.tree node }
-    ensures whole { OnOk result (W.written out.new ≡ and_all (W.written out.old) (bytes_at tree.now.tree node)) }
-    ensures prefix { OnErr result (WritesPrefix (bytes_at tree.now.tree node) (W.written out.old) (W.written out.new)) }
-    ensures empty { OnOk result (W.buffered out.new ≡ 0) }
-    ensures kind { IfErr result IsWritingStop }
-    ensures stopped { IfErr result (λ stop. BufferedOnlyIfUnwritten stop (W.buffered out.new)) }
-    ensures failed { result ≡ Err AskStop.Write → Rose (W.failures out.old) (W.failures out.new) }
+    ensures { Reports W.Sink (bytes_at tree.now.tree node) out.old out.new result }
 {
     write_file(out, tree, node)?;
     out.flush()?;

@@ -29,5 +29,5 @@ pub use making::make_image;
 pub use migrating::{MigrateStop, migrate_image};
 pub use pv_listing::write_verdict;
 pub use pv_session::Session;
-pub use report::write_report;
+pub use report::{write_found, write_report};
 pub use turns::{Ready, Summary, start_on};

@@ -11,8 +11,12 @@ use pv_session::Session;
 use pv_streams::{Failed, Sink, write_whole};
 use std::alloc::Global;
 
-// Writes the line of a file at a path.
-fn write_found<W: Sink>(out: &mut W, path: &[u8], found: &Verdict) -> Result<(), Failed>
+/// Writes the line of a file at a path in a report: the path as a quoted text, a space, and the verdict.
+///
+/// # Errors
+///
+/// `Failed`, if a write failed. The sink received a prefix of the line.
+pub fn write_found<W: Sink>(out: &mut W, path: &[u8], found: &Verdict) -> Result<(), Failed>
     ensures { Writes W.Sink (found_line path.now (Ok found.now)) out.old out.new result }
 {
     write_path(out, path)?;

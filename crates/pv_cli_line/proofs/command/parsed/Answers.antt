@@ -1,5 +1,5 @@
 use Rattle.std.proofs.Common.{◌≡◌, ◌∙◌, ap, map, refl, true, subst, inl, List}
-use Rattle.clap.specs.Words.{App, HasKind, HasMatchesOf, Row, Text, app_of, fault_of, is_simple_and_free, kind_of, subcommand_of, subcommand_rows_of, takes}
+use Rattle.clap.specs.Words.{App, HasKind, HasMatchesOf, Text, app_of, fault_of, found_of, is_simple_and_free, kind_of, matches_of, rows_of, subcommand_of, subcommand_rows_of, takes}
 use Rattle.clap.specs.declared.builder.command.Command.{Command as Parser}
 use Rattle.clap.specs.declared.parser.matches.ArgMatches.{ArgMatches}
 use Rattle.clap.specs.declared.error.kind.ErrorKind.TheVariants.{OutOfMemory}
@@ -23,6 +23,10 @@ returns-in_err-matches-clause-refused g c =
 appears : (parser : Parser) (words : List Text) (m : ArgMatches) → app_of parser ≡ pvsim_app → HasMatchesOf (app_of parser) words m → subcommand_rows_of m ≡ subcommand_of pvsim_app words
 appears parser words m app_is has = (subst (λ (app : App). HasMatchesOf app words m) app_is has pvsim_has_matches).1
 
+-- so are the arguments before its name
+above : (parser : Parser) (words : List Text) (m : ArgMatches) → app_of parser ≡ pvsim_app → HasMatchesOf (app_of parser) words m → rows_of (found_of m) ≡ matches_of pvsim_app words
+above parser words m app_is has = (subst (λ (app : App). HasMatchesOf app words m) app_is has pvsim_has_matches).0
+
 pub returns-in-Some-Command-clause-asked : goal.returns-in-Some-Command-clause-asked
 returns-in-Some-Command-clause-asked g c =
     let words = map g.S.AsStr.text c.args.words.now in
@@ -32,8 +36,12 @@ returns-in-Some-Command-clause-asked g c =
 
 pub returns-in-Some-Command-clause-verbose : goal.returns-in-Some-Command-clause-verbose
 returns-in-Some-Command-clause-verbose g c =
-    let e = appears c.in_ok-parser.parser (map g.S.AsStr.text c.args.words.now) c.in_ok-matches.matches c.in_ok-parser.ensures c.in_ok-matches.ensures.ok.2 in
-    verbose_by c.checked.result c.in-Some-Command.command c.is_verbose.result _ c.checked.ensures.value (c.is_verbose.ensures ∙ ap is_verbose_in e)
+    let words = map g.S.AsStr.text c.args.words.now in
+    let m = c.in_ok-matches.matches in
+    let rows = above c.in_ok-parser.parser words m c.in_ok-parser.ensures c.in_ok-matches.ensures.ok.2 in
+    let entered = appears c.in_ok-parser.parser words m c.in_ok-parser.ensures c.in_ok-matches.ensures.ok.2 in
+    verbose_by c.checked.result c.in-Some-Command.command c.is_verbose.result _ c.checked.ensures.value
+    (c.is_verbose.ensures ∙ ap (λ rs. is_verbose_in c.args.by_default rs (subcommand_rows_of m)) rows ∙ ap (is_verbose_in c.args.by_default (matches_of pvsim_app words)) entered)
 
 pub returns-in-Some-Command-clause-refused : goal.returns-in-Some-Command-clause-refused
 returns-in-Some-Command-clause-refused g c =
@@ -51,4 +59,4 @@ pub returns-clause-refused : goal.returns-clause-refused
 returns-clause-refused g c =
     let words = map g.S.AsStr.text c.args.words.now in
     let e = appears c.in_ok-parser.parser words c.in_ok-matches.matches c.in_ok-parser.ensures c.in_ok-matches.ensures.ok.2 in
-    inl (nothing-asked words (subcommand_rows_of c.in_ok-matches.matches) e c.in_ok-error-in-None.field-0 c.in_ok-error-in-None.ensures.kind (c.in-None.ensures.none refl))
+    inl (nothing-asked words (subcommand_rows_of c.in_ok-matches.matches) e c.in_ok-no_command-in-None.field-0 c.in_ok-no_command-in-None.ensures (c.in-None.ensures.none refl))

@@ -9,7 +9,5 @@ returns-clause-none c is =
     (c.migrate_in.ensures.none (none_by c.migrate_in.result c.in_default-migrate_in.not-Some))
     (c.import_in.ensures.none (none_by c.import_in.result c.in_default-import_in.not-Some))
     (c.turns_in.ensures.none (none_by c.turns_in.result c.in_default-turns_in.not-Some))
-    (c.explore_in.ensures.none (none_by c.explore_in.result c.in_default-explore_in.not-Some))
-    (c.access_in.ensures.none (none_by c.access_in.result c.in_default-access_in.not-Some))
-    (c.graph_in.ensures.none (none_by c.graph_in.result c.in_default-graph_in.not-Some))
+    (c.search_in.ensures.none (none_by c.search_in.result c.in_default-search_in.not-Some))
     (c.question_in.ensures.none is)

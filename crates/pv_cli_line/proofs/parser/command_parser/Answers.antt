@@ -1,17 +1,15 @@
 use Rattle.std.proofs.Common.{rules, ◌+◌, ◌∙◌, sym, ap, drop}
 use Rattle.std.proofs.lemmas.List.{at_drop_all, at_drop_more}
-use Rattle.clap.specs.Words.{app_of, new_app, rule_of, with_rule}
+use Rattle.clap.specs.Words.{app_of, with_rule}
 use Rattle.clap.specs.Simple.{app_of_fields}
-use Rattle.pv_cli_line.specs.Parser.{with_arguments}
+use Rattle.pv_cli_line.specs.Parser.{with_arguments, with_flags}
 use Rattle.pv_cli_line.proofs.parser.command_parser.Goals as goal
 
--- the flag that each command takes comes first
+-- the flags that each command takes come first
 pub loop-argument-init : goal.loop-argument-init
 loop-argument-init c =
-    let added = c.in_ok-parser.ensures.shape c.argument_of.ensures.local in
-    let bare = ap app_of_fields c.about.ensures ∙ c.new.ensures.app in
-    let command = added ∙ ap (λ app. with_rule app (rule_of c.argument_of.result)) bare
-    ∙ ap (with_rule (new_app c.args.row.now.name.now)) c.argument_of.ensures.rule in
+    let bare = ap app_of_fields c.about-bare.ensures ∙ c.new.ensures.app in
+    let command = c.in_ok-parser.ensures.app ∙ ap with_flags bare in
     record {
       rest = ap (λ app. with_arguments app c.args.row.now.arguments.now) command;
       no_globals = search rules;
@@ -19,9 +17,9 @@ loop-argument-init c =
 
 pub loop-argument-preserved : goal.loop-argument-preserved
 loop-argument-preserved c =
-    let added = c.in_ok-parser-2.ensures.shape c.argument_of-in-loop-argument.ensures.local in
+    let added = c.in_ok-parser-2.ensures.shape c.in_ok-argument_of.ensures.local in
     let app = app_of c.loop-argument.parser in
-    let more = added ∙ ap (with_rule app) c.argument_of-in-loop-argument.ensures.rule in
+    let more = added ∙ ap (with_rule app) c.in_ok-argument_of.ensures.rule in
     let arguments = c.args.row.now.arguments.now in
     let index = c.loop-argument.argument-index in
     record {

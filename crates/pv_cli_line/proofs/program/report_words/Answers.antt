@@ -2,8 +2,8 @@ use Rattle.std.proofs.Common.{◌∙◌, refl, sym}
 use Rattle.pv_cli_line.proofs.Reported.{reported_alone, reported_more}
 use Rattle.pv_cli_line.proofs.program.report_words.Goals as goal
 
-pub returns-then-asks_for_more-clause-reports : goal.returns-then-asks_for_more-clause-reports
-returns-then-asks_for_more-clause-reports g c =
+pub returns-then-is_number-clause-reports : goal.returns-then-is_number-clause-reports
+returns-then-is_number-clause-reports g c =
     reported_more g.O.Sink g.E.Sink _ _ _ _ _ c.report-status.new.system c.report-status.ensures.reports refl c.explain_number.ensures
     (sym c.is_number-is_number.ensures ∙ c.if-is_number.true)
 

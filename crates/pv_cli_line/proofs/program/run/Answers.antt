@@ -1,9 +1,8 @@
 use Rattle.std.proofs.Common.{◌∙◌, Ok, Err, Bool, ap, refl, subst}
-use Rattle.std.specs.Prelude.{◌&&◌, not}
+use Rattle.std.specs.Prelude.{◌&&◌}
 use Rattle.pv_cli_commands.proofs.Outcomes.{flushed_by_status}
-use Rattle.pv_cli_commands.specs.Status.{is_reported}
 use Rattle.pv_cli_line.specs.declared.fault.Fault.TheVariants.{Command as OfCommand, Line as OfLine}
-use Rattle.pv_cli_line.specs.Program.{ReportsAll}
+use Rattle.pv_cli_line.specs.Program.{ReportsAll, is_explained}
 use Rattle.pv_cli_line.proofs.program.run.Goals as goal
 
 pub returns-in-Err-clause-ends : goal.returns-in-Err-clause-ends
@@ -44,7 +43,7 @@ returns-in-Err-perform-clause-ends g c =
           unreported = ended.unreported;
         },
         subst
-            (λ (v : Bool). ReportsAll g.O.Sink g.E.Sink (OfCommand fault) (v && not (is_reported fault)) c.perform.new.system c.report_all.new.system c.report_all.result)
+            (λ (v : Bool). ReportsAll g.O.Sink g.E.Sink (OfCommand fault) (v && is_explained fault) c.perform.new.system c.report_all.new.system c.report_all.result)
             c.in-Ok.ensures.verbose c.report_all.ensures.reports,
       ),
     )

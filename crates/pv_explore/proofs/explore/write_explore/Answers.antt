@@ -1,7 +1,6 @@
-use Rattle.std.proofs.Common.{◌∙◌, ap, subst, sym}
+use Rattle.std.proofs.Common.{◌∙◌, ap, subst}
 use Rattle.pv_explore.proofs.Reported.{explore-bytes, last-bytes, last_lines}
 use Rattle.pv_explore.specs.Observing.{observed_bytes, trace_text}
-use Rattle.pv_explore.specs.Plan.{result_lines}
 use Rattle.pv_model.specs.Answers.Lines.{answer_bytes}
 use Rattle.pv_model.specs.Bytes.{Bytes}
 use Rattle.pv_streams.specs.Sinks.{and_all, WritesPrefix}

@@ -1,8 +1,8 @@
-use Rattle.std.proofs.Common.{◌≡◌, ◌∙◌, ap, get_or, refl, subst, ℕ}
+use Rattle.std.proofs.Common.{◌∙◌, ap, get_or, refl, subst, ℕ}
 use Rattle.std.specs.Global.{Vec}
 use Rattle.pv_explore.specs.Plan.{added_to, new_bytes}
 use Rattle.pv_explore.specs.Witnesses.{longer}
-use Rattle.pv_explore.proofs.Finding.{after-next, texts-next, texts_left}
+use Rattle.pv_explore.proofs.Finding.{after-next, texts-next}
 use Rattle.pv_listing.proofs.Rests.{rest_after, rest_all, rest_begins}
 use Rattle.pv_model.specs.Bytes.{Bytes}
 use Rattle.pv_streams.specs.Sinks.{and_all, WritesPrefix}

@@ -1,5 +1,4 @@
-use Rattle.std.proofs.Common.{◌∙◌, ap, sym, subst, ◌++◌, ◌∷◌, []}
-use Rattle.pv_explore.specs.Plan.{new_bytes}
+use Rattle.std.proofs.Common.{◌∙◌, ap, sym, subst}
 use Rattle.pv_explore.specs.Witnesses.{longer}
 use Rattle.pv_explore.proofs.Finding.{added-known, reported-known, reported-new}
 use Rattle.pv_model.specs.Bytes.{Bytes}

@@ -1,5 +1,4 @@
 use Rattle.std.proofs.Common.{subst, sym}
-use Rattle.pv_explore.specs.Plan.{Visited}
 use Rattle.pv_explore.specs.Searches.{AreAt}
 use Rattle.pv_explore.proofs.Followed.{first-at}
 use Rattle.pv_explore.proofs.searched.search_all.Goals as goal

@@ -10,7 +10,7 @@ use Rattle.pv_explore.specs.Plan.{first_visited, reported_from}
 use Rattle.pv_model.specs.Bytes.{Bytes}
 use Rattle.pv_model.specs.Grammar.Programs.{program_of}
 use Rattle.pv_streams.specs.Sinks.{and_all, WritesPrefix}
-use Rattle.pv_streams.proofs.Sinks.{begins_whole, written_nothing}
+use Rattle.pv_streams.proofs.Sinks.{written_nothing}
 use Rattle.pv_streams.proofs.Reporting.{on_err}
 use Rattle.pv_explore.proofs.searched.search_observed.Goals as goal
 

@@ -1,17 +1,5 @@
-use Rattle.pv_model.specs.Answers.Lines.{answer_bytes}
-use Rattle.pv_model.specs.Grammar.Programs.{program_of}
-use Rattle.pv_model.specs.Step.{steps_of}
-use Rattle.pv_needs.specs.Granted.{lines_of_demands}
-use Rattle.pv_questions.proofs.Handed.{failed, began}
+use Rattle.pv_questions.proofs.Handed.{reported}
 use Rattle.pv_questions.proofs.writers.report_needs.Goals as goal
 
-pub returns-clause-failed : goal.returns-clause-failed
-returns-clause-failed g c =
-    failed (g.W.Sink.failures c.args.out.now) (g.W.Sink.failures c.write_demands-end.new.out) (g.W.Sink.failures c.flush_buffer.new.out) c.write_demands-end.result c.flush_buffer.result
-    c.write_demands-end.ensures.written.failed c.write_demands-end.ensures.written.quiet c.flush_buffer.ensures.failed c.flush_buffer.ensures.counted
-
-pub returns-clause-prefix : goal.returns-clause-prefix
-returns-clause-prefix g c =
-    began (answer_bytes (lines_of_demands program_of c.args.granted (steps_of c.args.turns.now) c.args.session.now))
-    (g.W.Sink.written c.args.out.now) (g.W.Sink.written c.write_demands-end.new.out) (g.W.Sink.written c.flush_buffer.new.out) c.write_demands-end.result c.flush_buffer.result
-    c.write_demands-end.ensures.written.whole c.write_demands-end.ensures.written.prefix c.flush_buffer.ensures.preserved
+pub returns : goal.returns
+returns g c = reported g.W.Sink _ _ _ _ _ _ c.write_demands-end.ensures.written c.flush_buffer.ensures

@@ -1,4 +1,4 @@
-use Rattle.std.proofs.Common.{◌∙◌, ap, List, Option, refl, subst, ℕ}
+use Rattle.std.proofs.Common.{◌∙◌, ap, List, Option, subst, ℕ}
 use Rattle.std.specs.Global.{Vec}
 use Rattle.pv_explore.specs.declared.states.Followed.{Followed}
 use Rattle.pv_explore.specs.VisitedStates.{MayFollow}

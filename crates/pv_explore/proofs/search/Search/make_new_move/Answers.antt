@@ -5,32 +5,34 @@ use Rattle.pv_explore.specs.Searches.{visited_of}
 use Rattle.pv_explore.specs.VisitedStates.{HasNumber}
 use Rattle.pv_explore.specs.Witnesses.{longer}
 use Rattle.pv_explore.proofs.Finding.{visited-is}
+use Rattle.pv_explore.proofs.VisitedStates.{number-new}
 use Rattle.pv_model.specs.Bytes.{Bytes}
 use Rattle.pv_session.specs.Running.{stepped}
-use Rattle.pv_state_encoding.specs.Encoded.{encoded, encoded_all}
+use Rattle.pv_state_encoding.specs.Encoded.{encoded}
 use Rattle.pv_step_cache.specs.Steps.{texts_in}
 use Rattle.pv_streams.specs.Sinks.{and_all, WritesPrefix}
 use Rattle.pv_streams.proofs.Sinks.{begins_whole, written_nothing}
 use Rattle.pv_streams.proofs.Reporting.{on_err}
 use Rattle.pv_explore.proofs.search.Search.make_new_move.Goals as goal
 
-pub keep_step-requires : goal.keep_step-requires
-keep_step-requires g c = record {
+pub visit-requires-clause-made : goal.visit-requires-clause-made
+visit-requires-clause-made g c = record {
   state = c.args.from;
   whole = c.parts.ensures.whole;
   number_is = subst (λ (keys : List Bytes). HasNumber keys c.args.number c.args.from) (sym c.observe.ensures.unchanged) c.requires.there;
   texts_are = c.in_ok-position.ensures.texts;
-  after_is = ap encoded_all c.deref-2.ensures.value ∙ c.in_ok-encoded.ensures ∙ ap encoded c.in_ok-position.ensures.after;
+  after_is = ap encoded c.in_ok-position.ensures.after;
 }
+
+pub go_ahead-requires : goal.go_ahead-requires
+go_ahead-requires g c = λ new.
+    let position = c.in_ok-position.position in
+    subst (λ (n : ℕ). HasNumber c.visit.new.self.states n c.in_ok-position.position) (sym c.len-next.ensures)
+    (number-new c.args.limit c.observe.new.self c.visit.new.self.states position c.in_ok-found.found c.in_ok-found.ensures.found new)
 
 pub returns-in_err-position-clause-prefix : goal.returns-in_err-position-clause-prefix
 returns-in_err-position-clause-prefix g c =
     on_err c.from_residual.result
-    (0, sym (written_nothing (reported_bytes c.args.self.now.reported c.args.pid (longer (visited_of c.args.self.now).witnesses c.args.number c.args.pid) (g.O.Observer.observe c.args.from c.args.pid (stepped c.args.from c.args.pid))) (g.W.Sink.written c.args.out.now)))
-
-pub returns-in_err-encoded-clause-prefix : goal.returns-in_err-encoded-clause-prefix
-returns-in_err-encoded-clause-prefix g c =
-    on_err c.from_residual-in_err-encoded.result
     (0, sym (written_nothing (reported_bytes c.args.self.now.reported c.args.pid (longer (visited_of c.args.self.now).witnesses c.args.number c.args.pid) (g.O.Observer.observe c.args.from c.args.pid (stepped c.args.from c.args.pid))) (g.W.Sink.written c.args.out.now)))
 
 pub returns-in_err-report-clause-prefix : goal.returns-in_err-report-clause-prefix
@@ -40,17 +42,11 @@ returns-in_err-report-clause-prefix g c =
     on_err c.from_residual-in_err-report.result
     (subst (λ (bs : Bytes). WritesPrefix bs (g.W.Sink.written c.args.out.now) (g.W.Sink.written c.report.new.out)) is c.in_err-report.ensures.prefix)
 
-pub returns-in_err-keep_step-clause-prefix : goal.returns-in_err-keep_step-clause-prefix
-returns-in_err-keep_step-clause-prefix g c =
+pub returns-in_err-found-clause-prefix : goal.returns-in_err-found-clause-prefix
+returns-in_err-found-clause-prefix g c =
     let texts_are = ap (λ (ts : List (Vec ℕ)). texts_in ts) c.deref.ensures.value ∙ c.in_ok-position.ensures.texts in
     let is = ap (reported_bytes c.args.self.now.reported c.args.pid (longer (visited_of c.args.self.now).witnesses c.args.number c.args.pid)) texts_are in
-    on_err c.from_residual-in_err-keep_step.result (begins_whole _ _ _ (c.in_ok-report.ensures.whole ∙ ap (and_all (g.W.Sink.written c.args.out.now)) is))
-
-pub returns-in_err-find-clause-prefix : goal.returns-in_err-find-clause-prefix
-returns-in_err-find-clause-prefix g c =
-    let texts_are = ap (λ (ts : List (Vec ℕ)). texts_in ts) c.deref.ensures.value ∙ c.in_ok-position.ensures.texts in
-    let is = ap (reported_bytes c.args.self.now.reported c.args.pid (longer (visited_of c.args.self.now).witnesses c.args.number c.args.pid)) texts_are in
-    on_err c.from_residual-in_err-find.result (begins_whole _ _ _ (c.in_ok-report.ensures.whole ∙ ap (and_all (g.W.Sink.written c.args.out.now)) is))
+    on_err c.from_residual-in_err-found.result (begins_whole _ _ _ (c.in_ok-report.ensures.whole ∙ ap (and_all (g.W.Sink.written c.args.out.now)) is))
 
 pub returns-in_err-go_ahead-clause-prefix : goal.returns-in_err-go_ahead-clause-prefix
 returns-in_err-go_ahead-clause-prefix g c =
@@ -69,8 +65,8 @@ returns-clause-visited g c =
     let old = visited_of c.args.self.now in
     let texts = g.O.Observer.observe c.args.from c.args.pid (stepped c.args.from c.args.pid) in
     let texts_are = ap (λ (ts : List (Vec ℕ)). texts_in ts) c.deref.ensures.value ∙ c.in_ok-position.ensures.texts in
-    let now : Visited = record old { keys = c.keep_step.new.self; reported = c.report.new.reported } in
-    let is : now ≡ record old { reported = c.report.new.reported } = ap (λ (keys : List Bytes). record old { keys = keys; reported = c.report.new.reported }) (c.in_ok-keep_step.ensures ∙ c.observe.ensures.unchanged) in
-    ap (λ (keys : List Bytes). record (visited_of c.find.new.self) { keys = keys }) c.in_ok-go_ahead.ensures
-    ∙ visited-is c.args.limit old now (visited_of c.find.new.self) (longer (visited_of c.args.self.now).witnesses c.args.number c.args.pid) c.args.pid c.args.from texts c.report.new.reported c.in_ok-position.position
-    c.in_ok-position.ensures.after (c.in_ok-report.ensures.reported ∙ ap (reported_after c.args.self.now.reported) texts_are) is c.in_ok-find.ensures
+    let now : Visited = record old { keys = c.observe.new.self; reported = c.report.new.reported } in
+    let is : now ≡ record old { reported = c.report.new.reported } = ap (λ (keys : List Bytes). record old { keys = keys; reported = c.report.new.reported }) c.observe.ensures.unchanged in
+    c.in_ok-go_ahead.ensures
+    ∙ visited-is c.args.limit old now (visited_of c.visit.new.self) (longer (visited_of c.args.self.now).witnesses c.args.number c.args.pid) c.args.pid c.args.from texts c.report.new.reported c.in_ok-position.position
+    c.in_ok-position.ensures.after (c.in_ok-report.ensures.reported ∙ ap (reported_after c.args.self.now.reported) texts_are) is c.in_ok-found.ensures.visited

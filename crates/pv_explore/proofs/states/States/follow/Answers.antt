@@ -1,4 +1,4 @@
-use Rattle.std.proofs.Common.{◌∙◌, ap, IfSome, List, map, Option, subst, sym}
+use Rattle.std.proofs.Common.{IfSome, List, map, Option, subst, sym}
 use Rattle.std.specs.Global.{Vec}
 use Rattle.pv_explore.specs.VisitedStates.{HasNumber, IsFoundIn, IsRecalled}
 use Rattle.pv_explore.specs.Plan.{state_key}
@@ -6,14 +6,12 @@ use Rattle.pv_explore.specs.Rows.{state_bytes}
 use Rattle.pv_explore.proofs.VisitedStates.{fine-placed, found-bytes, recalled-at, some-live}
 use Rattle.pv_step_cache.specs.declared.cells.Cell.{Cell}
 use Rattle.pv_step_cache.specs.declared.steps.Recalled.{Recalled}
-use Rattle.pv_step_cache.specs.Edits.{number_of_cell}
 use Rattle.pv_step_cache.specs.Steps.{texts_in}
 use Rattle.pv_laws_runs.proofs.Ranges.{program_of-encodes}
 use Rattle.pv_laws_states.proofs.BySteps.{step-keeps_whole}
 use Rattle.pv_model.specs.Bytes.{Bytes}
 use Rattle.pv_model.specs.Grammar.Programs.{program_of}
 use Rattle.pv_session.specs.Running.{stepped}
-use Rattle.pv_state_encoding.specs.Packed.{packed_all}
 use Rattle.pv_explore.proofs.states.States.follow.Goals as goal
 
 pub invariant_of-self : goal.invariant_of-self
@@ -32,8 +30,7 @@ invariant_of-self g c =
     let recalled = subst (λ (all : List (Vec Cell)). IsRecalled all steps c.args.number pid (texts_in c.in-Some.made.texts.value.items) cs.items) c.deref.ensures.value was in
     let there = subst (λ (keys : List Bytes). HasNumber keys c.args.number t) (sym c.self.view_is) number in
     let again = recalled-at parts groups rows cells steps c.self.invariant g.met.O.Observer.depends_on_seen c.args.number pid (texts_in c.in-Some.made.texts.value.items) cs.items recalled t whole there in
-    let row_is = c.in_ok-row.ensures ∙ ap (λ (all : List Cell). packed_all (map number_of_cell all)) c.deref-2.ensures.value in
-    fine-placed parts groups rows cells steps c.self.invariant (stepped t pid).after cs again.cells_are c.in_ok-row.row.items row_is c.place.new.rows c.place.new.all.items c.place.ensures.placed
+    fine-placed parts groups rows cells steps c.self.invariant (stepped t pid).after cs again.cells_are c.place.new.rows c.place.new.all.items c.place.ensures.placed
 
 pub invariant_of-self-2 : goal.invariant_of-self-2
 invariant_of-self-2 g c =
@@ -51,8 +48,7 @@ invariant_of-self-2 g c =
     let recalled = subst (λ (all : List (Vec Cell)). IsRecalled all steps c.args.number pid (texts_in c.in-Some.made.texts.value.items) cs.items) c.deref.ensures.value was in
     let there = subst (λ (keys : List Bytes). HasNumber keys c.args.number t) (sym c.self.view_is) number in
     let again = recalled-at parts groups rows cells steps c.self.invariant g.met.O.Observer.depends_on_seen c.args.number pid (texts_in c.in-Some.made.texts.value.items) cs.items recalled t whole there in
-    let row_is = c.in_ok-row.ensures ∙ ap (λ (all : List Cell). packed_all (map number_of_cell all)) c.deref-2.ensures.value in
-    fine-placed parts groups rows cells steps c.self.invariant (stepped t pid).after cs again.cells_are c.in_ok-row.row.items row_is c.place.new.rows c.place.new.all.items c.place.ensures.placed
+    fine-placed parts groups rows cells steps c.self.invariant (stepped t pid).after cs again.cells_are c.place.new.rows c.place.new.all.items c.place.ensures.placed
 
 pub returns : goal.returns
 returns g c = λ t whole number.
@@ -67,9 +63,8 @@ returns g c = λ t whole number.
     let recalled = subst (λ (all : List (Vec Cell)). IsRecalled all steps c.args.number pid (texts_in c.in-Some.made.texts.value.items) cs.items) c.deref.ensures.value was in
     let there = subst (λ (keys : List Bytes). HasNumber keys c.args.number t) (sym c.self.view_is) number in
     let again = recalled-at parts groups rows cells steps c.self.invariant g.met.O.Observer.depends_on_seen c.args.number pid (texts_in c.in-Some.made.texts.value.items) cs.items recalled t whole there in
-    let row_is = c.in_ok-row.ensures ∙ ap (λ (all : List Cell). packed_all (map number_of_cell all)) c.deref-2.ensures.value in
     let u = (stepped t pid).after in
-    let found = found-bytes parts groups rows cells steps c.self.invariant u cs again.cells_are c.in_ok-row.row.items row_is c.args.limit c.place.new.rows c.in_ok-found.found c.in_ok-found.ensures.found in
+    let found = found-bytes parts groups rows cells steps c.self.invariant u cs again.cells_are c.args.limit c.place.new.rows c.in_ok-found.found c.in_ok-found.ensures.found in
     record {
       texts_are = again.texts_are;
       live = some-live parts groups u cs.items again.cells_are (step-keeps_whole program_of program_of-encodes t pid whole) recalled.live;

@@ -1,0 +1,42 @@
+//! The lines of an explanation, each of which begins with two spaces.
+use std::alloc::{AllocError, Global};
+
+// Appends a line.
+pub(crate) fn push_line(out: &mut Vec<u8>, words: &str) -> Result<(), AllocError> {
+    out.extend_from_slice(b"  ")?;
+    out.extend_from_slice(words.as_bytes())?;
+    out.extend_from_slice(b"\n")
+}
+
+// Appends bytes of the input. A byte that is not from 20 to 7E is shown by its number.
+pub(crate) fn push_bytes(alloc: Global, out: &mut Vec<u8>, bytes: &[u8]) -> Result<(), AllocError> {
+    for byte in bytes {
+        let byte = *byte;
+        if matches!(byte, b' '..=b'~') {
+            out.push(byte)?;
+        } else {
+            out.extend_from_slice(format!(in alloc; "\\x{byte:02x}")?.as_bytes())?;
+        }
+    }
+    Ok(())
+}
+
+// Appends a line of a text.
+pub(crate) fn push_shown(alloc: Global, out: &mut Vec<u8>, line: &[u8]) -> Result<(), AllocError> {
+    out.extend_from_slice(b"  ")?;
+    push_bytes(alloc, out, line)?;
+    out.extend_from_slice(b"\n")
+}
+
+// Appends the name of a file and the reason of the operating system.
+pub(crate) fn push_reason(
+    alloc: Global,
+    out: &mut Vec<u8>,
+    name: &str,
+    reason: Option<String>,
+) -> Result<(), AllocError> {
+    match reason {
+        Some(reason) => push_line(out, format!(in alloc; "{name}: {reason}")?.as_str()),
+        None => push_line(out, name),
+    }
+}

@@ -1,0 +1,105 @@
+//! The states that a search visited, one at a time.
+ghost use Rattle.std.specs.Prelude.{◌≡◌, ◌≤◌, length, option_map, slice_get, IfOk};
+ghost use Rattle.pv_explore.specs.Visiting.{found_of, visited_states};
+
+use crate::checkpoints::Checkpoints;
+use crate::first_machine::FirstMachine;
+use crate::graph::search_states;
+use crate::observer::Unobserved;
+use crate::position::Position;
+use crate::progress::Progress;
+use crate::search::Search;
+use pv_model::StepFault;
+use std::alloc::Global;
+use std::marker::Model;
+
+/// A visited state, and a shortest schedule that leads to it.
+#[derive(Drop)]
+pub struct VisitedState {
+    /// A machine in this state.
+    pub machine: Position,
+    /// The process numbers of the schedule, in order.
+    pub witness: Vec<u32>,
+}
+
+/// The states that a search visited, in the order of the search. A contract sees the list of them, and whether these
+/// are all.
+#[derive(Drop)]
+pub struct SearchedStates<'a> {
+    search: Search<Unobserved>,
+    checkpoints: Checkpoints<'a>,
+}
+
+impl<'a> Model for SearchedStates<'a> {
+    ghost use Rattle.std.specs.Prelude.{◌≡◌, length};
+    ghost use Rattle.pv_explore.specs.Searches.{visited_of};
+    ghost use Rattle.pv_explore.specs.Visiting.{Visits, visits_of};
+
+    ghost Value = { Visits };
+
+    ghost view = { λ v. visits_of v.checkpoints (visited_of v.search) };
+
+    ghost invariant = { λ v. length (visited_of v.search).witnesses ≡ length v.search.states };
+}
+
+impl<'a> SearchedStates<'a> {
+    /// Searches all schedules of a machine. The search visits at most `states` states, in breadth-first order from the
+    /// first state. `progress` shows the state of the search, and ends with it, also if the search fails.
+    ///
+    /// # Errors
+    ///
+    /// `NoMemory`, if there is no memory.
+    pub fn search<P: Progress>(
+        alloc: Global,
+        first_machine: &'a FirstMachine,
+        states: u32,
+        progress: &mut P,
+    ) -> Result<SearchedStates<'a>, StepFault>
+        requires { 1 ≤ states }
+        ensures { IfOk result (λ visits. visits ≡ visited_states states first_machine.now) }
+    {
+        let search = search_states(alloc, first_machine, states, progress)?;
+        let checkpoints = Checkpoints::new(alloc, first_machine);
+        Ok(SearchedStates {
+            search,
+            checkpoints,
+        })
+    }
+
+    /// Returns the number of visited states.
+    pub fn len(&self) -> usize
+        ensures { result ≡ length self.now.found }
+    {
+        self.search.states.len()
+    }
+
+    /// Returns whether no state was left out.
+    pub fn is_complete(&self) -> bool
+        ensures { result ≡ self.now.complete }
+    {
+        self.search.complete
+    }
+
+    /// Returns visited state `number`, from 0 in the order of the search, or `None` if there is no such state.
+    ///
+    /// # Errors
+    ///
+    /// `NoMemory`, if there is no memory.
+    pub fn at(&mut self, alloc: Global, number: usize) -> Result<Option<VisitedState>, StepFault>
+        ensures unchanged { self.new ≡ self.old }
+        ensures at { IfOk result (λ made. option_map found_of made ≡ slice_get self.old.found number) }
+    {
+        let Some(witness) = self.search.witness(alloc, number)? else {
+            return Ok(None);
+        };
+        let machine = self.checkpoints.position(alloc, &witness)?;
+        Ok(Some(VisitedState { machine, witness }))
+    }
+
+    /// Takes a machine back, to be reused for another state.
+    pub fn release(&mut self, machine: Position)
+        ensures { self.new ≡ self.old }
+    {
+        self.checkpoints.release(machine);
+    }
+}

@@ -1,0 +1,315 @@
+-- The lines of leaks of which only the first of each line and file text is stored.
+use Rattle.std.proofs.Common.{◌≡◌, ◌∙◌, sym, ap, ap₂, ℕ, ◌/◌, ◌%◌, ◌≤◌, Bool, true, false, cond, ◌||◌, if◌then◌else◌, ◌==◌, bytes_eq, List, [], ◌∷◌, ◌++◌, map, flat_map, filter, fold, append_assoc, codes, Option, None, Some, refl, arith}
+use Rattle.std.specs.Prelude.{max, option_map}
+use Rattle.std.specs.List.{join_by, list_any, range_with_len}
+use Rattle.std.proofs.lemmas.Bool.{eq-eqb}
+use Rattle.std.proofs.lemmas.Bool.Decides.{nat_tests}
+use Rattle.std.proofs.lemmas.List.{map-append}
+use Rattle.std.proofs.lemmas.List.Elements.{filter-append}
+use Rattle.std.proofs.lemmas.List.Folds.{list_any-append}
+use Rattle.std.proofs.lemmas.List.Sums.{fold-append}
+use Rattle.pv_model.specs.Answers.Explore.{new_ones}
+use Rattle.pv_model.specs.Answers.Exposure.{Leak, Located, greatest_line, in_ranges, last_leak, leak_lines, leaks_at, line_of, lines_leaking, range_text}
+use Rattle.pv_model.specs.Answers.Nodes.{first_of}
+use Rattle.pv_model.specs.Answers.Numbers.{Numbers}
+use Rattle.pv_model.specs.Answers.Observed.{groups, with_alike}
+use Rattle.pv_model.specs.Bytes.{Bytes}
+use Rattle.pv_model.specs.Held.{among}
+use Rattle.pv_laws_trees.proofs.Entries.{bytes_eq-same, bytes_eq-itself}
+use Rattle.pv_exposure.specs.Collected.{Kept, all_kept_lines, greatest, has_key, kept_at, kept_lines, kept_lines_by, kept_of, key_of, last_kept, ranges_kept, with_all}
+use Rattle.pv_exposure.proofs.Firsts.{keyed}
+
+-- ---- lists
+
+map-both : {X Y Z : Type 0} (f : X → Y) (g : Y → Z) (xs : List X) → map g (map f xs) ≡ map (λ x. g (f x)) xs
+map-both f g [] = refl
+map-both {Z = Z} f g (x ∷ xs) = ap (λ (zs : List Z). g (f x) ∷ zs) (map-both f g xs)
+
+filter-same : {X : Type 0} (p q : X → Bool) → ((x : X) → p x ≡ q x) → (xs : List X) → filter p xs ≡ filter q xs
+filter-same p q same [] = refl
+filter-same {X = X} p q same (x ∷ xs) = ap₂ (λ b (ys : List X). cond b (x ∷ ys) ys) (same x) (filter-same p q same xs)
+
+filter-map : {X Y : Type 0} (f : X → Y) (p : Y → Bool) (xs : List X) → filter p (map f xs) ≡ map f (filter (λ x. p (f x)) xs)
+filter-map f p [] = refl
+filter-map {Y = Y} f p (x ∷ xs) = by (p (f x)) (filter-map f p xs)
+  where
+    by : (b : Bool) → filter p (map f xs) ≡ map f (filter (λ z. p (f z)) xs)
+        → cond b (f x ∷ filter p (map f xs)) (filter p (map f xs)) ≡ map f (cond b (x ∷ filter (λ z. p (f z)) xs) (filter (λ z. p (f z)) xs))
+    by true is = ap (λ (ys : List Y). f x ∷ ys) is
+    by false is = is
+
+first-map : {X Y : Type 0} (f : X → Y) (xs : List X) → first_of (map f xs) ≡ option_map f (first_of xs)
+first-map f [] = refl
+first-map f (x ∷ xs) = refl
+
+flat-both : {X Y Z : Type 0} (f : X → Y) (g : Y → List Z) (xs : List X) → flat_map g (map f xs) ≡ flat_map (λ x. g (f x)) xs
+flat-both f g [] = refl
+flat-both {Z = Z} f g (x ∷ xs) = ap (λ (zs : List Z). g (f x) ++ zs) (flat-both f g xs)
+
+flat-same : {X Y : Type 0} (f g : X → List Y) → ((x : X) → f x ≡ g x) → (xs : List X) → flat_map f xs ≡ flat_map g xs
+flat-same f g same [] = refl
+flat-same {Y = Y} f g same (x ∷ xs) = ap₂ (λ (a b : List Y). a ++ b) (same x) (flat-same f g same xs)
+
+new-map : {X Y : Type 0} (f : X → Y) (key : Y → Numbers) (had : List Numbers) (xs : List X) → new_ones key had (map f xs) ≡ map f (new_ones (λ x. key (f x)) had xs)
+new-map f key had [] = refl
+new-map {Y = Y} f key had (x ∷ xs) = by (list_any (bytes_eq (key (f x))) had) (new-map f key had xs) (new-map f key (key (f x) ∷ had) xs)
+  where
+    by : (b : Bool) → new_ones key had (map f xs) ≡ map f (new_ones (λ z. key (f z)) had xs) → new_ones key (key (f x) ∷ had) (map f xs) ≡ map f (new_ones (λ z. key (f z)) (key (f x) ∷ had) xs)
+        → (if b then new_ones key had (map f xs) else f x ∷ new_ones key (key (f x) ∷ had) (map f xs))
+        ≡ map f (if b then new_ones (λ z. key (f z)) had xs else x ∷ new_ones (λ z. key (f z)) (key (f x) ∷ had) xs)
+    by true was now = was
+    by false was now = ap (λ (ys : List Y). f x ∷ ys) now
+
+-- an element whose key an earlier one has is not new
+new-again : {X : Type 0} (key : X → Numbers) (x : X) (ys : List X) (had : List Numbers) (xs : List X) → (list_any (bytes_eq (key x)) had || keyed key (key x) xs) ≡ true
+    → new_ones key had (xs ++ x ∷ ys) ≡ new_ones key had (xs ++ ys)
+new-again key x ys had [] known = ap (λ b. if b then new_ones key had ys else x ∷ new_ones key (key x ∷ had) ys) (sym (or-false (list_any (bytes_eq (key x)) had)) ∙ known)
+  where
+    or-false : (b : Bool) → (b || false) ≡ b
+    or-false true = refl
+    or-false false = refl
+new-again {X = X} key x ys had (z ∷ xs) known =
+    by (list_any (bytes_eq (key z)) had) refl (new-again key x ys had xs) (new-again key x ys (key z ∷ had) xs)
+  where
+    later : (a b c : Bool) → (a || (b || c)) ≡ true → ((b || a) || c) ≡ true
+    later true true c is = refl
+    later true false c is = refl
+    later false true c is = refl
+    later false false c is = is
+
+    earlier : (a b c : Bool) → (b ≡ true → a ≡ true) → (a || (b || c)) ≡ true → (a || c) ≡ true
+    earlier true b c same is = refl
+    earlier false true c same is = absurd (let no : false ≡ true = same refl in cc)
+    earlier false false c same is = is
+
+    by : (b : Bool) → list_any (bytes_eq (key z)) had ≡ b
+        → ((list_any (bytes_eq (key x)) had || keyed key (key x) xs) ≡ true → new_ones key had (xs ++ x ∷ ys) ≡ new_ones key had (xs ++ ys))
+        → ((list_any (bytes_eq (key x)) (key z ∷ had) || keyed key (key x) xs) ≡ true → new_ones key (key z ∷ had) (xs ++ x ∷ ys) ≡ new_ones key (key z ∷ had) (xs ++ ys))
+        → (if b then new_ones key had (xs ++ x ∷ ys) else z ∷ new_ones key (key z ∷ had) (xs ++ x ∷ ys))
+        ≡ (if b then new_ones key had (xs ++ ys) else z ∷ new_ones key (key z ∷ had) (xs ++ ys))
+    by true is was now =
+        was (earlier (list_any (bytes_eq (key x)) had) (bytes_eq (key x) (key z)) (keyed key (key x) xs)
+        (λ same. ap (λ k. list_any (bytes_eq k) had) (bytes_eq-same (key x) (key z) same) ∙ is) known)
+    by false is was now = ap (λ (zs : List X). z ∷ zs) (now (later (list_any (bytes_eq (key x)) had) (bytes_eq (key x) (key z)) (keyed key (key x) xs) known))
+
+-- ---- the greatest number
+
+fold-least : (n : ℕ) (ns : List ℕ) → n ≤ fold max n ns
+fold-least n [] = omega arith
+fold-least n (m ∷ ns) = let more = fold-least (max n m) ns in omega (arith, more)
+
+fold-above : (n m : ℕ) (ns : List ℕ) → list_any (λ k. k == m) ns ≡ true → m ≤ fold max n ns
+fold-above n m [] is = absurd (let no : false ≡ true = is in cc)
+fold-above n m (k ∷ ns) is = by (k == m) refl is (fold-above (max n k) m ns)
+  where
+    by : (b : Bool) → (k == m) ≡ b → (b || list_any (λ j. j == m) ns) ≡ true → (list_any (λ j. j == m) ns ≡ true → m ≤ fold max (max n k) ns) → m ≤ fold max (max n k) ns
+    by true same is rest =
+        let least = fold-least (max n k) ns in
+        let equal : k ≡ m = grind (arith, nat_tests, same) in
+        omega (arith, least, equal)
+    by false other is rest = rest is
+
+-- a number that an earlier one equals does not change the greatest one
+greatest-again : (m : ℕ) (ms ns : List ℕ) → among ms m ≡ true → fold max 0 (ms ++ m ∷ ns) ≡ fold max 0 (ms ++ ns)
+greatest-again m ms ns is =
+    let least = fold-above 0 m ms is in
+    let same : max (fold max 0 ms) m ≡ fold max 0 ms = omega (arith, least) in
+    fold-append max 0 ms (m ∷ ns) ∙ ap (λ k. fold max k ns) same ∙ sym (fold-append max 0 ms ns)
+
+-- ---- the lines of a file text
+
+abbrev line_in : Kept → ℕ
+line_in k = k.line
+
+abbrev file_in : Kept → Bytes
+file_in k = k.file
+
+module _ (x : Kept) (A B : List Kept) (known : among (map line_in A) x.line ≡ true) where
+  lines-with : map line_in (A ++ x ∷ B) ≡ map line_in A ++ x.line ∷ map line_in B
+  lines-with = map-append line_in A (x ∷ B)
+
+  greatest-with : greatest (A ++ x ∷ B) ≡ greatest (A ++ B)
+  greatest-with =
+      ap (fold max 0) lines-with ∙ greatest-again x.line (map line_in A) (map line_in B) known ∙ ap (fold max 0) (sym (map-append line_in A B))
+
+  among-with : (n : ℕ) → among (map line_in (A ++ x ∷ B)) n ≡ among (map line_in (A ++ B)) n
+  among-with n =
+      ap (λ ms. among ms n) lines-with ∙ list_any-append (λ m. m == n) (map line_in A) (x.line ∷ map line_in B)
+      ∙ absorbed (among (map line_in A) n) (x.line == n) (among (map line_in B) n) there
+      ∙ sym (ap (λ ms. among ms n) (map-append line_in A B) ∙ list_any-append (λ m. m == n) (map line_in A) (map line_in B))
+    where
+      absorbed : (a b c : Bool) → (b ≡ true → a ≡ true) → (a || (b || c)) ≡ (a || c)
+      absorbed true b c same = refl
+      absorbed false true c same = absurd (let no : false ≡ true = same refl in cc)
+      absorbed false false c same = refl
+
+      there : (x.line == n) ≡ true → among (map line_in A) n ≡ true
+      there same = let equal : x.line ≡ n = grind (arith, nat_tests, same) in ap (among (map line_in A)) (sym equal) ∙ known
+
+  ranges-with : ranges_kept (A ++ x ∷ B) ≡ ranges_kept (A ++ B)
+  ranges-with =
+      ap (λ ns. join_by range_text (codes ", ") (in_ranges ns))
+      (ap (λ g. filter (among (map line_in (A ++ x ∷ B))) (range_with_len 1 g)) greatest-with
+      ∙ filter-same (among (map line_in (A ++ x ∷ B))) (among (map line_in (A ++ B))) among-with (range_with_len 1 (greatest (A ++ B))))
+
+  -- the first leak at a line is not x
+  first-with : (g : ℕ) → first_of (filter (λ k. k.line == g) (A ++ x ∷ B)) ≡ first_of (filter (λ k. k.line == g) (A ++ B))
+  first-with g =
+      ap first_of (filter-append (λ k. k.line == g) A (x ∷ B)) ∙ by (x.line == g) refl
+      ∙ sym (ap first_of (filter-append (λ k. k.line == g) A B))
+    where
+      some-first : (ks : List Kept) → among (map line_in ks) g ≡ true → (ys zs : List Kept) → first_of (filter (λ k. k.line == g) ks ++ ys) ≡ first_of (filter (λ k. k.line == g) ks ++ zs)
+      some-first [] is ys zs = absurd (let no : false ≡ true = is in cc)
+      some-first (k ∷ ks) is ys zs = at (k.line == g) is (some-first ks)
+        where
+          at : (b : Bool) → (b || among (map line_in ks) g) ≡ true
+              → (among (map line_in ks) g ≡ true → (ys zs : List Kept) → first_of (filter (λ k. k.line == g) ks ++ ys) ≡ first_of (filter (λ k. k.line == g) ks ++ zs))
+              → first_of (cond b (k ∷ filter (λ k. k.line == g) ks) (filter (λ k. k.line == g) ks) ++ ys) ≡ first_of (cond b (k ∷ filter (λ k. k.line == g) ks) (filter (λ k. k.line == g) ks) ++ zs)
+          at true is rest = refl
+          at false is rest = rest is ys zs
+
+      by : (b : Bool) → (x.line == g) ≡ b
+          → first_of (filter (λ k. k.line == g) A ++ cond b (x ∷ filter (λ k. k.line == g) B) (filter (λ k. k.line == g) B)) ≡ first_of (filter (λ k. k.line == g) A ++ filter (λ k. k.line == g) B)
+      by true same =
+          let equal : x.line ≡ g = grind (arith, nat_tests, same) in
+          some-first A (ap (among (map line_in A)) (sym equal) ∙ known) (x ∷ filter (λ k. k.line == g) B) (filter (λ k. k.line == g) B)
+      by false other = refl
+
+  last-with : last_kept (A ++ x ∷ B) ≡ last_kept (A ++ B)
+  last-with = ap (λ g. first_of (filter (λ k. k.line == g) (A ++ x ∷ B))) greatest-with ∙ first-with (greatest (A ++ B))
+
+  pub lines-again : kept_lines_by (ranges_kept (A ++ x ∷ B)) (last_kept (A ++ x ∷ B)) ≡ kept_lines_by (ranges_kept (A ++ B)) (last_kept (A ++ B))
+  lines-again = ap₂ kept_lines_by ranges-with last-with
+
+-- ---- all file texts
+
+same-line : (a b : ℕ) → a / 256 ≡ b / 256 → a % 256 ≡ b % 256 → a ≡ b
+same-line a b high low = omega (arith, high, low)
+
+module _ (x : Kept) (P X : List Kept) (known : has_key P (key_of x) ≡ true) where
+  abbrev alike : Kept → Kept → Bool
+  alike f k = bytes_eq k.file f.file
+
+  -- an earlier leak has the file text and the line
+  key-same : (k : Kept) → bytes_eq (key_of x) (key_of k) ≡ true → (x.file ≡ k.file) × (x.line ≡ k.line)
+  key-same k is =
+      let same = bytes_eq-same (key_of x) (key_of k) is in
+      (tail-of same, same-line x.line k.line (ap first-number same) (ap second-number same))
+    where
+      first-number : Bytes → ℕ
+      first-number [] = 0
+      first-number (b ∷ bs) = b
+
+      rest : Bytes → Bytes
+      rest [] = []
+      rest (b ∷ bs) = bs
+
+      second-number : Bytes → ℕ
+      second-number bs = first-number (rest bs)
+
+      tail-of : key_of x ≡ key_of k → x.file ≡ k.file
+      tail-of same = ap (λ bs. rest (rest bs)) same
+
+  file-known : (ks : List Kept) → has_key ks (key_of x) ≡ true → keyed file_in x.file ks ≡ true
+  file-known [] is = is
+  file-known (k ∷ ks) is = by (bytes_eq (key_of x) (key_of k)) refl is (file-known ks)
+    where
+      by : (b : Bool) → bytes_eq (key_of x) (key_of k) ≡ b → (b || has_key ks (key_of x)) ≡ true → (has_key ks (key_of x) ≡ true → keyed file_in x.file ks ≡ true)
+          → (bytes_eq x.file k.file || keyed file_in x.file ks) ≡ true
+      by true same is rest = ap (λ b. b || keyed file_in x.file ks) (ap (λ bs. bytes_eq bs k.file) (key-same k same).0 ∙ bytes_eq-itself k.file)
+      by false other is rest = either (bytes_eq x.file k.file) (keyed file_in x.file ks) (rest is)
+        where
+          either : (a b : Bool) → b ≡ true → (a || b) ≡ true
+          either true b is = refl
+          either false b is = is
+
+  line-known : (f : Kept) → bytes_eq x.file f.file ≡ true → (ks : List Kept) → has_key ks (key_of x) ≡ true → among (map line_in (filter (alike f) ks)) x.line ≡ true
+  line-known f same [] is = is
+  line-known f same (k ∷ ks) is = by (bytes_eq (key_of x) (key_of k)) refl is (line-known f same ks)
+    where
+      onto : (b : Bool) → among (map line_in (filter (alike f) ks)) x.line ≡ true → among (map line_in (cond b (k ∷ filter (alike f) ks) (filter (alike f) ks))) x.line ≡ true
+      onto true is = either (k.line == x.line) (among (map line_in (filter (alike f) ks)) x.line) is
+        where
+          either : (a b : Bool) → b ≡ true → (a || b) ≡ true
+          either true b is = refl
+          either false b is = is
+      onto false is = is
+
+      by : (b : Bool) → bytes_eq (key_of x) (key_of k) ≡ b → (b || has_key ks (key_of x)) ≡ true → (has_key ks (key_of x) ≡ true → among (map line_in (filter (alike f) ks)) x.line ≡ true)
+          → among (map line_in (cond (alike f k) (k ∷ filter (alike f) ks) (filter (alike f) ks))) x.line ≡ true
+      by true here is rest =
+          let both = key-same k here in
+          let own : alike f k ≡ true = ap (λ bs. bytes_eq bs f.file) (sym both.0) ∙ same in
+          let equal : (k.line == x.line) ≡ true = eq-eqb k.line x.line (sym both.1) in
+          ap (λ b. among (map line_in (cond b (k ∷ filter (alike f) ks) (filter (alike f) ks))) x.line) own
+          ∙ ap (λ b. b || among (map line_in (filter (alike f) ks)) x.line) equal
+      by false other is rest = onto (alike f k) (rest is)
+
+  group-again : (f : Kept) → kept_lines (f, filter (alike f) (P ++ x ∷ X)) ≡ kept_lines (f, filter (alike f) (P ++ X))
+  group-again f =
+      ap (λ (ks : List Kept). kept_lines (f, ks)) (filter-append (alike f) P (x ∷ X)) ∙ by (alike f x) refl
+      ∙ ap (λ (ks : List Kept). kept_lines (f, ks)) (sym (filter-append (alike f) P X))
+    where
+      by : (b : Bool) → alike f x ≡ b
+          → kept_lines (f, filter (alike f) P ++ cond b (x ∷ filter (alike f) X) (filter (alike f) X)) ≡ kept_lines (f, filter (alike f) P ++ filter (alike f) X)
+      by true is = lines-again x (filter (alike f) P) (filter (alike f) X) (line-known f is P known)
+      by false is = refl
+
+  all-again : all_kept_lines (P ++ x ∷ X) ≡ all_kept_lines (P ++ X)
+  all-again =
+      flat-both (with_alike file_in (P ++ x ∷ X)) kept_lines (new_ones file_in [] (P ++ x ∷ X))
+      ∙ ap (flat_map (λ f. kept_lines (with_alike file_in (P ++ x ∷ X) f))) (new-again file_in x X [] P (file-known P known))
+      ∙ flat-same (λ f. kept_lines (with_alike file_in (P ++ x ∷ X) f)) (λ f. kept_lines (with_alike file_in (P ++ X) f)) group-again (new_ones file_in [] (P ++ X))
+      ∙ sym (flat-both (with_alike file_in (P ++ X)) kept_lines (new_ones file_in [] (P ++ X)))
+
+-- the leaks that are stored have the lines of all
+lines-stored : (P X : List Kept) → all_kept_lines (with_all P X) ≡ all_kept_lines (P ++ X)
+lines-stored P [] = ap all_kept_lines (sym (nothing P))
+  where
+    nothing : (ks : List Kept) → ks ++ [] ≡ ks
+    nothing [] = refl
+    nothing (k ∷ ks) = ap (λ (zs : List Kept). k ∷ zs) (nothing ks)
+lines-stored P (x ∷ X) = by (has_key P (key_of x)) refl (lines-stored P X) (lines-stored (P ++ x ∷ []) X)
+  where
+    by : (b : Bool) → has_key P (key_of x) ≡ b → all_kept_lines (with_all P X) ≡ all_kept_lines (P ++ X) → all_kept_lines (with_all (P ++ x ∷ []) X) ≡ all_kept_lines ((P ++ x ∷ []) ++ X)
+        → all_kept_lines (with_all (if b then P else P ++ x ∷ []) X) ≡ all_kept_lines (P ++ x ∷ X)
+    by true known was now = was ∙ sym (all-again x P X known)
+    by false new was now = now ∙ ap all_kept_lines (append_assoc P (x ∷ []) X)
+
+-- ---- the definition's lines
+
+lines-are : (ls : List Leak) → map line_in (map kept_of ls) ≡ map line_of ls
+lines-are ls = map-both kept_of line_in ls
+
+leak-lines : (first : Leak) (ls : List Leak) → kept_lines (kept_of first, map kept_of ls) ≡ leak_lines (first, ls)
+leak-lines first ls =
+    ap₂ kept_lines_by
+    (ap (λ ns. join_by range_text (codes ", ") (in_ranges (filter (among ns) (range_with_len 1 (fold max 0 ns))))) (lines-are ls))
+    (ap (λ ns. first_of (filter (λ k. k.line == fold max 0 ns) (map kept_of ls))) (lines-are ls)
+    ∙ ap first_of (filter-map kept_of (λ k. k.line == greatest_line ls) ls) ∙ first-map kept_of (filter (λ leak. line_of leak == greatest_line ls) ls))
+    ∙ by (last_leak ls)
+  where
+    by : (o : Option Leak) → kept_lines_by (join_by range_text (codes ", ") (in_ranges (lines_leaking ls))) (option_map kept_of o) ≡ Rattle.pv_model.specs.Answers.Exposure.leak_lines_by ls o
+    by None = refl
+    by (Some leak) = refl
+
+abbrev leak_file : Leak → Bytes
+leak_file leak = leak.file
+
+groups-are : (ls : List Leak) → all_kept_lines (map kept_of ls) ≡ flat_map leak_lines (groups leak_file ls)
+groups-are ls =
+    flat-both (with_alike file_in (map kept_of ls)) kept_lines (new_ones file_in [] (map kept_of ls))
+    ∙ ap (flat_map (λ f. kept_lines (with_alike file_in (map kept_of ls) f))) (new-map kept_of file_in [] ls)
+    ∙ flat-both kept_of (λ f. kept_lines (with_alike file_in (map kept_of ls) f)) (new_ones leak_file [] ls)
+    ∙ flat-same (λ f. kept_lines (with_alike file_in (map kept_of ls) (kept_of f))) (λ f. leak_lines (with_alike leak_file ls f))
+    (λ f. ap (λ (ks : List Kept). kept_lines (kept_of f, ks)) (filter-map kept_of (λ k. bytes_eq k.file f.file) ls) ∙ leak-lines f (filter (λ leak. bytes_eq leak.file f.file) ls))
+    (new_ones leak_file [] ls)
+    ∙ sym (flat-both (with_alike leak_file ls) leak_lines (new_ones leak_file [] ls))
+
+leaks-mapped : (ls : List Located) → flat_map kept_at ls ≡ map kept_of (flat_map leaks_at ls)
+leaks-mapped [] = refl
+leaks-mapped (l ∷ ls) = ap (λ (ks : List Kept). kept_at l ++ ks) (leaks-mapped ls) ∙ sym (map-append kept_of (leaks_at l) (flat_map leaks_at ls))
+
+-- the lines of the stored leaks are those of all leaks
+pub leaks-written : (ls : List Located) → all_kept_lines (with_all [] (flat_map kept_at ls)) ≡ flat_map leak_lines (groups leak_file (flat_map leaks_at ls))
+leaks-written ls = lines-stored [] (flat_map kept_at ls) ∙ ap all_kept_lines (leaks-mapped ls) ∙ groups-are (flat_map leaks_at ls)

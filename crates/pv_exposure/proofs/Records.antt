@@ -1,0 +1,142 @@
+-- The records of programs are those of their groups.
+use Rattle.std.proofs.Common.{◌≡◌, ◌∙◌, sym, ap, ap₂, ℕ, Bool, true, false, cond, ◌&&◌, ◌||◌, if◌then◌else◌, bytes_eq, List, [], ◌∷◌, ◌++◌, map, flat_map, filter, append_assoc, append-nil, refl}
+use Rattle.std.specs.List.{list_all}
+use Rattle.std.proofs.lemmas.Bool.{or_parts}
+use Rattle.std.proofs.lemmas.Grind.{flat_map-append}
+use Rattle.std.proofs.lemmas.List.Elements.{filter-append}
+use Rattle.std.proofs.lemmas.List.Folds.{list_all-append}
+use Rattle.pv_model.specs.Answers.Explore.{new_ones}
+use Rattle.pv_model.specs.Answers.Exposure.{Located, is_closed_to, program_key}
+use Rattle.pv_model.specs.Answers.Numbers.{Numbers}
+use Rattle.pv_model.specs.Answers.Observed.{groups, with_alike}
+use Rattle.pv_model.specs.State.{Program}
+use Rattle.pv_laws_trees.proofs.Entries.{bytes_eq-same, bytes_eq-itself}
+use Rattle.pv_exposure.specs.Collected.{Exposed, Kept, exposed_after, exposed_more, exposed_none, exposed_with, kept_at, with_all, with_one}
+use Rattle.pv_exposure.proofs.Firsts.{AreApart, firsts-apart, firsts-more, keyed, none-alike, unless_known}
+
+-- ---- one more process of a program
+
+pub with-both : (ks xs ys : List Kept) → with_all ks (xs ++ ys) ≡ with_all (with_all ks xs) ys
+with-both ks [] ys = refl
+with-both ks (x ∷ xs) ys = with-both (with_one ks x) xs ys
+
+both-filters : (p q : ℕ → Bool) (ns : List ℕ) → filter (λ n. p n && q n) ns ≡ filter q (filter p ns)
+both-filters p q [] = refl
+both-filters p q (n ∷ ns) = by (p n) (q n) refl (both-filters p q ns)
+  where
+    by : (a b : Bool) → q n ≡ b → filter (λ n. p n && q n) ns ≡ filter q (filter p ns)
+        → cond (a && b) (n ∷ filter (λ n. p n && q n) ns) (filter (λ n. p n && q n) ns) ≡ filter q (cond a (n ∷ filter p ns) (filter p ns))
+    by true true is rest = sym (ap (λ c. cond c (n ∷ filter q (filter p ns)) (filter q (filter p ns))) is ∙ ap (λ (ms : List ℕ). n ∷ ms) (sym rest))
+    by true false is rest = sym (ap (λ c. cond c (n ∷ filter q (filter p ns)) (filter q (filter p ns))) is ∙ sym rest)
+    by false true is rest = rest
+    by false false is rest = rest
+
+same-filters : (p q : ℕ → Bool) → ((n : ℕ) → p n ≡ q n) → (ns : List ℕ) → filter p ns ≡ filter q ns
+same-filters p q same [] = refl
+same-filters p q same (n ∷ ns) = ap₂ (λ b (ms : List ℕ). cond b (n ∷ ms) ms) (same n) (same-filters p q same ns)
+
+and-true : (b : Bool) → (b && true) ≡ b
+and-true true = refl
+and-true false = refl
+
+module _ (named : List ℕ) where
+  -- the record of a program from its processes
+  abbrev pub summary : Program → List Located → Exposed
+  summary program ls = record {
+    program = program;
+    kept = with_all [] (flat_map kept_at ls);
+    safe = filter (λ f. list_all (is_closed_to f) ls) named;
+  }
+
+  abbrev pub summary_of : Located × List Located → Exposed
+  summary_of (first, ls) = summary first.process.program ls
+
+  summary-more : (program : Program) (ls : List Located) (l : Located) → exposed_more (summary program ls) l ≡ summary program (ls ++ l ∷ [])
+  summary-more program ls l =
+      let kept : with_all (with_all [] (flat_map kept_at ls)) (kept_at l) ≡ with_all [] (flat_map kept_at (ls ++ l ∷ [])) =
+      sym (with-both [] (flat_map kept_at ls) (kept_at l))
+      ∙ ap (with_all []) (sym (flat_map-append kept_at ls (l ∷ []) ∙ ap (λ (ks : List Kept). flat_map kept_at ls ++ ks) (append-nil (kept_at l)))) in
+      let safe : filter (λ f. is_closed_to f l) (filter (λ f. list_all (is_closed_to f) ls) named) ≡ filter (λ f. list_all (is_closed_to f) (ls ++ l ∷ [])) named =
+      sym (both-filters (λ f. list_all (is_closed_to f) ls) (λ f. is_closed_to f l) named)
+      ∙ same-filters (λ f. list_all (is_closed_to f) ls && is_closed_to f l) (λ f. list_all (is_closed_to f) (ls ++ l ∷ []))
+      (λ f. sym (list_all-append (is_closed_to f) ls (l ∷ []) ∙ ap (λ b. list_all (is_closed_to f) ls && b) (and-true (is_closed_to f l)))) named in
+      λ i. record { program = program; kept = kept i; safe = safe i }
+
+  summary-none : (program : Program) → exposed_none named program ≡ summary program []
+  summary-none program = λ i. record { program = program; kept = []; safe = sym (all-kept named) i }
+    where
+      all-kept : (ns : List ℕ) → filter (λ f. true) ns ≡ ns
+      all-kept [] = refl
+      all-kept (n ∷ ns) = ap (λ (ms : List ℕ). n ∷ ms) (all-kept ns)
+
+  module _ (ls : List Located) (l : Located) where
+    abbrev later : List Located
+    later = ls ++ l ∷ []
+
+    -- the record of the program of a process
+    abbrev record_in : List Located → Located → Exposed
+    record_in all f = summary_of (with_alike program_key all f)
+
+    abbrev alike : Located → Located → Bool
+    alike f x = bytes_eq (program_key x) (program_key f)
+
+    alike-more : (f : Located) (b : Bool) → alike f l ≡ b → filter (alike f) later ≡ filter (alike f) ls ++ cond b (l ∷ []) []
+    alike-more f b is = filter-append (alike f) ls (l ∷ []) ∙ ap (λ c. filter (alike f) ls ++ cond c (l ∷ []) []) is
+
+    moved : (f : Located) → alike f l ≡ true → exposed_more (record_in ls f) l ≡ record_in later f
+    moved f is = summary-more f.process.program (filter (alike f) ls) l ∙ ap (summary f.process.program) (sym (alike-more f true is))
+
+    unmoved : (f : Located) → alike f l ≡ false → record_in ls f ≡ record_in later f
+    unmoved f is = ap (summary f.process.program) (sym (alike-more f false is ∙ append-nil (filter (alike f) ls)))
+
+    first : filter (alike l) ls ≡ [] → exposed_more (exposed_none named l.process.program) l ≡ record_in later l
+    first none =
+        ap (λ e. exposed_more e l) (summary-none l.process.program) ∙ summary-more l.process.program [] l
+        ∙ ap (summary l.process.program) (sym (alike-more l true (bytes_eq-itself (program_key l)) ∙ ap (λ (xs : List Located). xs ++ l ∷ []) none))
+
+    others : (k : Numbers) → k ≡ program_key l → (fs : List Located) → keyed program_key k fs ≡ false → map (record_in ls) fs ≡ map (record_in later) fs
+    others k same [] apart = refl
+    others k same (f ∷ fs) apart =
+        let parts = or_parts (bytes_eq k (program_key f)) (keyed program_key k fs) apart in
+        ap₂ (λ (x : Exposed) (xs : List Exposed). x ∷ xs) (unmoved f (ap (λ j. bytes_eq j (program_key f)) (sym same) ∙ parts.0)) (others k same fs parts.1)
+
+    records-in : (fs : List Located) → AreApart program_key fs → (keyed program_key (program_key l) fs ≡ false → filter (alike l) ls ≡ [])
+        → exposed_with named (map (record_in ls) fs) l ≡ map (record_in later) (unless_known program_key (keyed program_key (program_key l) fs) fs l)
+    records-in [] apart none = ap (λ (e : Exposed). e ∷ []) (first (none refl))
+    records-in (f ∷ fs) apart none = by (alike f l) refl (records-in fs apart.1)
+      where
+        onto : (b : Bool) → f ∷ unless_known program_key b fs l ≡ unless_known program_key b (f ∷ fs) l
+        onto true = refl
+        onto false = refl
+
+        by : (b : Bool) → alike f l ≡ b
+            → ((keyed program_key (program_key l) fs ≡ false → filter (alike l) ls ≡ []) → exposed_with named (map (record_in ls) fs) l ≡ map (record_in later) (unless_known program_key (keyed program_key (program_key l) fs) fs l))
+            → (if b then exposed_more (record_in ls f) l ∷ map (record_in ls) fs else record_in ls f ∷ exposed_with named (map (record_in ls) fs) l)
+            ≡ map (record_in later) (unless_known program_key (b || keyed program_key (program_key l) fs) (f ∷ fs) l)
+        by true is rest =
+            ap₂ (λ (x : Exposed) (xs : List Exposed). x ∷ xs) (moved f is) (others (program_key f) (sym (bytes_eq-same (program_key l) (program_key f) is)) fs apart.0)
+        by false is rest =
+            ap₂ (λ (x : Exposed) (xs : List Exposed). x ∷ xs) (unmoved f is)
+            (rest (λ absent. none (ap (λ (b : Bool). b || keyed program_key (program_key l) fs) is ∙ absent)))
+            ∙ ap (map (record_in later)) (onto (keyed program_key (program_key l) fs))
+
+    records-more : exposed_with named (map (record_in ls) (new_ones program_key [] ls)) l ≡ map (record_in later) (new_ones program_key [] later)
+    records-more =
+        records-in (new_ones program_key [] ls) (firsts-apart program_key ls) (none-alike program_key l ls)
+        ∙ ap (map (record_in later)) (sym (firsts-more program_key ls l))
+
+  -- the records of processes, by their programs
+  abbrev pub records_in : List Located → List Exposed
+  records_in ls = map (λ f. summary_of (with_alike program_key ls f)) (new_ones program_key [] ls)
+
+  -- the records of processes in sequence
+  records-from : (ls more : List Located) → exposed_after named (records_in ls) more ≡ records_in (ls ++ more)
+  records-from ls [] = ap records_in (sym (append-nil ls))
+  records-from ls (l ∷ more) = ap (λ (es : List Exposed). exposed_after named es more) (records-more ls l) ∙ records-from (ls ++ l ∷ []) more ∙ ap records_in (append_assoc ls (l ∷ []) more)
+
+  map-both : {X Y Z : Type 0} (f : X → Y) (g : Y → Z) (xs : List X) → map (λ x. g (f x)) xs ≡ map g (map f xs)
+  map-both f g [] = refl
+  map-both {Z = Z} f g (x ∷ xs) = ap (λ (zs : List Z). g (f x) ∷ zs) (map-both f g xs)
+
+  pub records-are : (ls : List Located) → exposed_after named [] ls ≡ map summary_of (groups program_key ls)
+  records-are ls = records-from [] ls ∙ map-both (with_alike program_key ls) summary_of (new_ones program_key [] ls)

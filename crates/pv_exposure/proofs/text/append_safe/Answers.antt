@@ -1,0 +1,13 @@
+use Rattle.std.proofs.Common.{◌∙◌, ◌++◌, ap}
+use Rattle.pv_model.specs.Answers.Lines.{answer_line_bytes}
+use Rattle.pv_model.specs.Bytes.{Bytes}
+use Rattle.pv_exposure.specs.Collected.{safe_line}
+use Rattle.pv_exposure.proofs.Texts.{all-done, safe-flat}
+use Rattle.pv_exposure.proofs.text.append_safe.Goals as goal
+
+pub returns : goal.returns
+returns c =
+    let t = c.args.tree.now.tree in
+    let old = c.args.out.now.bytes.items in
+    all-done (λ n. answer_line_bytes (safe_line t n)) c.args.files.now old c.loop-node.node-index c.loop-node.out.bytes.items c.loop-node-test.false c.loop-node.invariant
+    ∙ ap (λ (bs : Bytes). old ++ bs) (safe-flat t c.args.files.now)

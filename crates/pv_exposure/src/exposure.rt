@@ -1,0 +1,148 @@
+//! The exposure of the programs under all schedules.
+ghost use Rattle.std.specs.Prelude.{◌≡◌, ◌≤◌, [], flat_map, length, slice_get, IfOk, OnOk, Some};
+ghost use Rattle.pv_exposure.specs.Collected.{exposed_after, lines_of_all};
+ghost use Rattle.pv_model.specs.Answers.Explore.{Found, is_complete};
+ghost use Rattle.pv_model.specs.Answers.Exposure.{exposure_lines, located_at};
+ghost use Rattle.pv_model.specs.Answers.Files.{named_files};
+ghost use Rattle.pv_model.specs.Answers.Lines.{answer_bytes};
+ghost use Rattle.pv_model.specs.Grammar.Programs.{program_of};
+ghost use Rattle.pv_session.specs.Running.{FailsBy};
+ghost use Rattle.pv_streams.specs.Sinks.{WritesOr};
+
+use crate::files::files_of_tree;
+use crate::programs::{ProgramRecord, add_state};
+use crate::text::text_of_all;
+use pv_access::named_files;
+use pv_explore::{FirstMachine, Progress, SearchedStates, VisitedState};
+use pv_model::StepFault;
+use pv_session::Stop;
+use pv_streams::{Sink, write_whole};
+use pv_tree::Tree;
+use std::alloc::{AllocError, Global};
+
+// Adds the live processes of a visited state.
+fn add_visited(
+    alloc: Global,
+    records: &mut Vec<ProgramRecord>,
+    named: &[u16],
+    visited: &VisitedState,
+) -> Result<(), AllocError>
+    ensures { OnOk result (records.new.items ≡ exposed_after named.now records.old.items (located_at (record { witness = visited.now.witness.items; state = visited.now.machine }))) }
+{
+    let parts = visited.machine.parts();
+    let files = files_of_tree(alloc, parts.tree())?;
+    add_state(alloc, records, named, parts, &visited.witness, &files)
+}
+
+// Adds the live processes of visited state `number`.
+fn add_at(
+    alloc: Global,
+    records: &mut Vec<ProgramRecord>,
+    named: &[u16],
+    states: &mut SearchedStates<'_>,
+    number: usize,
+) -> Result<(), AllocError>
+    ensures unchanged { states.new ≡ states.old }
+    ensures added { OnOk result ((f : Found) → slice_get states.old.found number ≡ Some f → records.new.items ≡ exposed_after named.now records.old.items (located_at f)) }
+{
+    let Ok(found) = states.at(alloc, number) else {
+        return Err(AllocError);
+    };
+    let Some(visited) = found else {
+        return Ok(());
+    };
+    let added = add_visited(alloc, records, named, &visited);
+    let VisitedState { machine, .. } = visited;
+    states.release(machine);
+    added
+}
+
+// Returns the records of the programs of all visited states.
+fn records_of(
+    alloc: Global,
+    named: &[u16],
+    states: &mut SearchedStates<'_>,
+) -> Result<Vec<ProgramRecord>, AllocError>
+    ensures unchanged { states.new ≡ states.old }
+    ensures records { IfOk result (λ records. records.items ≡ exposed_after named.now [] (flat_map located_at states.old.found)) }
+{
+    let mut records = Vec::new(alloc);
+    for number in 0..states.len() {
+        add_at(alloc, &mut records, named, states, number)?;
+    }
+    Ok(records)
+}
+
+// Returns the lines of the visited states.
+fn text_of_states(
+    alloc: Global,
+    tree: &Tree,
+    states: &mut SearchedStates<'_>,
+) -> Result<Vec<u8>, AllocError>
+    ensures unchanged { states.new ≡ states.old }
+    ensures text { IfOk result (λ text. text.items ≡ answer_bytes (lines_of_all tree.now.tree states.old.complete (length states.old.found) (exposed_after (named_files tree.now.tree) [] (flat_map located_at states.old.found)))) }
+{
+    let named = named_files(alloc, tree)?;
+    let records = records_of(alloc, &named, states)?;
+    text_of_all(alloc, tree, states.is_complete(), states.len(), &records)
+}
+
+// The lines of a search, and whether the visited states are all.
+#[derive(Drop)]
+struct ExposureText {
+    lines: Vec<u8>,
+    complete: bool,
+}
+
+// Returns the lines of the search of a machine.
+fn exposure_text<P: Progress>(
+    alloc: Global,
+    first_machine: &FirstMachine,
+    states: u32,
+    progress: &mut P,
+) -> Result<ExposureText, StepFault>
+    requires { 1 ≤ states }
+    ensures lines { IfOk result (λ text. text.lines.items ≡ answer_bytes (exposure_lines program_of states first_machine.now)) }
+    ensures complete { IfOk result (λ text. text.complete ≡ is_complete program_of states first_machine.now) }
+{
+    let mut visits = SearchedStates::search(alloc, first_machine, states, progress)?;
+    let lines = text_of_states(alloc, first_machine.tree(), &mut visits)?;
+    let complete = visits.is_complete();
+    Ok(ExposureText { lines, complete })
+}
+
+/// Writes what an attacker gains who takes over a process, at each line of its program. The search visits at most
+/// `states` states, in breadth-first order from the first state of a machine. For each program that a live process of a
+/// visited state has, it writes a line PROG, and for each file text to which a process of this program is not closed:
+///
+/// - a line BY with the schedule that leads to the first visited state in which a process of this program at the greatest
+///   such line is not closed to the file;
+/// - a line LEAK with all such lines, and the first reason in that state.
+///
+/// Then, if the visited states are all states, it writes a line SAFE for each file of the first tree to which each process
+/// of this program is closed in each visited state. The last line, DONE, has the number of visited states, and whether
+/// these are all. Returns whether the visited states are all.
+///
+/// If they are, a process of a program at another line is closed to each file with such a text: see `pv_laws_schedules`.
+///
+/// `progress` shows the state of the search, and ends with it.
+///
+/// # Errors
+///
+/// - `Memory`, if there is no memory. Nothing was written.
+/// - `Write`, if a write failed. The sink received a prefix of the lines.
+pub fn write_exposure<W: Sink, P: Progress>(
+    alloc: Global,
+    first_machine: &FirstMachine,
+    states: u32,
+    progress: &mut P,
+    out: &mut W,
+) -> Result<bool, Stop>
+    requires { 1 ≤ states }
+    ensures written { WritesOr W.Sink FailsBy (answer_bytes (exposure_lines program_of states first_machine.now)) out.old out.new result }
+    ensures complete { IfOk result (λ complete. complete ≡ is_complete program_of states first_machine.now) }
+{
+    let text = exposure_text(alloc, first_machine, states, progress)?;
+    write_whole(out, &text.lines)?;
+    Ok(text.complete)
+}

@@ -1,0 +1,44 @@
+use Rattle.std.proofs.Common.{◌≡◌, ◌∙◌, ap, inl, inr, is_some, refl, subst}
+use Rattle.pv_model.specs.Answers.Explore.{Found}
+use Rattle.pv_model.specs.CallRef.{call_of}
+use Rattle.pv_procs.specs.ProcessTable.{ProcessTable, process_in}
+use Rattle.pv_procs.specs.Turns.{CallsNext, IsFetched}
+use Rattle.pv_policy.specs.Usage.{and_call, and_calls, noted_by, request_of}
+use Rattle.pv_policy.proofs.Collecting.{calls-called, calls-none}
+use Rattle.pv_policy.proofs.policy.collect_process.Goals as goal
+
+pub returns-in-Register : goal.returns-in-Register
+returns-in-Register c =
+    let pid = c.args.pid in
+    let f : Found = record { witness = c.args.witness.now; state = c.args.parts.now } in
+    let fetched = subst (λ (ps : ProcessTable). IsFetched c.fetch.result (process_in ps pid)) c.processes.ensures c.fetch.ensures in
+    record { unchanged = refl; collected = ap (and_calls c.args.programs.now.items) (calls-none f pid c.fetch.result (inl c.in-Register.is) fetched) }
+
+pub returns-in-Gone : goal.returns-in-Gone
+returns-in-Gone c =
+    let pid = c.args.pid in
+    let f : Found = record { witness = c.args.witness.now; state = c.args.parts.now } in
+    let fetched = subst (λ (ps : ProcessTable). IsFetched c.fetch.result (process_in ps pid)) c.processes.ensures c.fetch.ensures in
+    record { unchanged = refl; collected = ap (and_calls c.args.programs.now.items) (calls-none f pid c.fetch.result (inr c.in-Gone.is) fetched) }
+
+pub note_call-requires-clause-live : goal.note_call-requires-clause-live
+note_call-requires-clause-live c =
+    let comes = subst (λ (ps : ProcessTable). CallsNext c.in-Call.call (process_in ps c.args.pid)) c.processes.ensures c.in-Call.ensures in
+    ap is_some comes.1
+
+pub returns-in_ok-note_call-in-Call : goal.returns-in_ok-note_call-in-Call
+returns-in_ok-note_call-in-Call c =
+    let s = c.args.parts.now in
+    let pid = c.args.pid in
+    let programs = c.args.programs.now.items in
+    let f : Found = record { witness = c.args.witness.now; state = s } in
+    let call = call_of c.in-Call.call in
+    let comes = subst (λ (ps : ProcessTable). CallsNext c.in-Call.call (process_in ps pid)) c.processes.ensures c.in-Call.ensures in
+    let counted = c.in_ok-walks-in-Call.ensures.walks f comes.0 call c.requires.at comes.1 comes.2 in
+    record {
+      unchanged = c.walks_at.ensures.unchanged;
+      collected =
+          c.in_ok-note_call-in-Call.ensures comes.0 comes.1 counted
+          ∙ ap (λ by. and_call programs (noted_by by pid (request_of s pid comes.0 call))) (c.deref.ensures.value ∙ c.in_ok-by-in-Call.ensures)
+          ∙ ap (and_calls programs) (calls-called f pid comes.0 call comes.1 comes.2);
+    }

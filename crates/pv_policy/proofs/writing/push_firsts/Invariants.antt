@@ -1,0 +1,7 @@
+use Rattle.std.proofs.Common.{◌≡◌, ◌++◌, take}
+use Rattle.std.specs.List.{flat_map}
+use Rattle.pv_policy.specs.Usage.{promise_bytes}
+use Rattle.pv_policy.proofs.writing.push_firsts.Given as goal
+
+abbrev pub invariant-loop-used : goal.invariant-loop-used
+invariant-loop-used l = l.lines.items ≡ l.initial.lines.items ++ flat_map promise_bytes (take l.used-index l.uses)

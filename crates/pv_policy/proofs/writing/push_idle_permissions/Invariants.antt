@@ -1,0 +1,8 @@
+use Rattle.std.proofs.Common.{◌≡◌, ◌++◌, take}
+use Rattle.std.specs.List.{flat_map}
+use Rattle.pv_model.specs.Answers.Lines.{answer_bytes}
+use Rattle.pv_policy.specs.Usage.{idle_granted}
+use Rattle.pv_policy.proofs.writing.push_idle_permissions.Given as goal
+
+abbrev pub invariant-loop-row : goal.invariant-loop-row
+invariant-loop-row l = l.lines.items ≡ l.initial.lines.items ++ answer_bytes (flat_map (idle_granted l.used) (take l.row-index l.granted))

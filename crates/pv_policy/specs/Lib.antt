@@ -1,0 +1,5 @@
+pub mod Asked
+pub mod Collecting
+pub mod Groups
+pub mod Noting
+pub mod Usage

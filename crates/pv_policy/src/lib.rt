@@ -1,0 +1,23 @@
+//! What each program needs of its sandbox under all schedules, and what it holds and never uses.
+//!
+//! `policy` goes over the visited states of a search of `pv_explore`, and writes the lines at the end. `walks` finds how
+//! many walks a call begins, and `note` records the call: `asked` finds the walks that were checked and the permissions
+//! that they used, and `noted` has the record. `program_use` keeps the calls of each program, in tables of `promises`,
+//! `targets` and `granted`, which have only what the lines need. `writing` gives the lines of the programs, and `text`
+//! those of a call. `specs/Usage` specifies the tables, call by call, and `proofs/Collected` proves that they give the
+//! lines of the definition.
+#![tactic(auto)]
+
+mod asked;
+mod granted;
+mod note;
+mod noted;
+mod policy;
+mod program_use;
+mod promises;
+mod targets;
+mod text;
+mod walks;
+mod writing;
+
+pub use policy::write_policy;

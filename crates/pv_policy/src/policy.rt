@@ -1,0 +1,255 @@
+//! The policy of each program under all schedules.
+ghost use Rattle.std.specs.Prelude.{◌≡◌, ◌≤◌, ◌++◌, [], ◌∷◌, codes, flat_map, slice_get, IfOk, OnOk, Some};
+ghost use Rattle.pv_explore.specs.Visiting.{found_of};
+ghost use Rattle.pv_laws_states.specs.States.{IsValid};
+ghost use Rattle.pv_model.specs.declared.call.Call.{Call};
+ghost use Rattle.pv_model.specs.Answer.{answer};
+ghost use Rattle.pv_model.specs.Answers.Explore.{Found, is_complete, states_line, witness_text};
+ghost use Rattle.pv_model.specs.Answers.Lines.{answer_bytes, answer_line, answer_line_bytes};
+ghost use Rattle.pv_model.specs.Answers.Policy.{policy_lines};
+ghost use Rattle.pv_model.specs.Grammar.Programs.{program_of};
+ghost use Rattle.pv_model.specs.Program.{calls_for, next};
+ghost use Rattle.pv_model.specs.State.{Process, process_at};
+ghost use Rattle.pv_policy.specs.Collecting.{calls_at, calls_of, calls_of_process, visited_bytes};
+ghost use Rattle.pv_policy.specs.Usage.{and_calls};
+ghost use Rattle.pv_session.specs.Running.{FailsBy};
+ghost use Rattle.pv_streams.specs.Sinks.{WritesOr};
+
+use crate::note::note_call;
+use crate::program_use::ProgramUse;
+use crate::walks::walks_of_call;
+use crate::writing::push_programs;
+use pv_calls_state::Parts;
+use pv_explore::{FirstMachine, Progress, SearchedStates, VisitedState, write_by, write_states};
+use pv_model::StepFault;
+use pv_procs::Fetched;
+use pv_script::CallTexts;
+use pv_session::Stop;
+use pv_streams::{Gathered, Sink, write_whole};
+use pv_tree::Tree;
+use std::alloc::{AllocError, Global};
+
+// Returns the line BY of a step of a process, given the schedule that leads to the state before it.
+fn by_bytes(alloc: Global, witness: &[u32], pid: u32) -> Result<Vec<u8>, AllocError>
+    ensures { IfOk result (λ bytes. bytes.items ≡ answer_line_bytes (answer_line pid (codes "BY") (witness_text (witness.now ++ pid ∷ [])))) }
+{
+    let mut steps = witness.to_vec(alloc)?;
+    steps.push(pid)?;
+    let mut text = Gathered::new(alloc);
+    match write_by(&mut text, pid, &steps) {
+        Ok(()) => Ok(text.bytes),
+        Err(_) => Err(AllocError),
+    }
+}
+
+// Returns the number of walks that the next call of a process in a visited state begins.
+fn walks_from(alloc: Global, visited: VisitedState, pid: u32) -> Result<u8, StepFault>
+    ensures { IfOk result (λ walks. (me : Process) (call : Call) → process_at visited.machine pid ≡ Some me → next me ≡ calls_for call → walks ≡ (answer program_of visited.machine pid call).walks) }
+{
+    let VisitedState { machine, .. } = visited;
+    walks_of_call(alloc, &mut machine.into_session(), pid)
+}
+
+// Returns the number of walks that the next call of a process in visited state `number` begins.
+fn walks_at(
+    alloc: Global,
+    visits: &mut SearchedStates<'_>,
+    number: usize,
+    pid: u32,
+) -> Result<u8, StepFault>
+    ensures unchanged { visits.new ≡ visits.old }
+    ensures walks { IfOk result (λ walks. (f : Found) (me : Process) (call : Call) → slice_get visits.old.found number ≡ Some f → process_at f.state pid ≡ Some me → next me ≡ calls_for call → walks ≡ (answer program_of f.state pid call).walks) }
+{
+    match visits.at(alloc, number)? {
+        Some(visited) => walks_from(alloc, visited, pid),
+        None => Ok(0),
+    }
+}
+
+// Adds the next call of a process in a visited state, if its next step is a call.
+fn collect_process(
+    alloc: Global,
+    visits: &mut SearchedStates<'_>,
+    programs: &mut Vec<ProgramUse>,
+    number: usize,
+    parts: &Parts,
+    witness: &[u32],
+    pid: u32,
+) -> Result<(), StepFault>
+    requires whole { IsValid parts.now }
+    requires at { slice_get visits.old.found number ≡ Some (record { witness = witness.now; state = parts.now }) }
+    ensures unchanged { visits.new ≡ visits.old }
+    ensures collected { OnOk result (programs.new.items ≡ and_calls programs.old.items (calls_of_process (record { witness = witness.now; state = parts.now }) pid)) }
+{
+    let mut texts = CallTexts::new();
+    match parts.processes().fetch(pid, &mut texts) {
+        Fetched::Call(call) => {
+            let walks = walks_at(alloc, visits, number, pid)?;
+            let by = by_bytes(alloc, witness, pid)?;
+            Ok(note_call(alloc, programs, parts, pid, call, walks, &by)?)
+        }
+        Fetched::Register => Ok(()),
+        Fetched::Gone => Ok(()),
+    }
+}
+
+// Adds the next calls of some live processes in a visited state.
+#[tactic(auto, using(crate::proofs::Collecting::calls_next, crate::proofs::Collecting::calls_all))]
+fn collect_processes(
+    alloc: Global,
+    visits: &mut SearchedStates<'_>,
+    programs: &mut Vec<ProgramUse>,
+    number: usize,
+    parts: &Parts,
+    witness: &[u32],
+    pids: &[u32],
+) -> Result<(), StepFault>
+    requires whole { IsValid parts.now }
+    requires at { slice_get visits.old.found number ≡ Some (record { witness = witness.now; state = parts.now }) }
+    ensures unchanged { visits.new ≡ visits.old }
+    ensures collected { OnOk result (programs.new.items ≡ and_calls programs.old.items (flat_map (calls_of_process (record { witness = witness.now; state = parts.now })) pids.now)) }
+{
+    for pid in pids {
+        collect_process(alloc, visits, programs, number, parts, witness, *pid)?;
+    }
+    Ok(())
+}
+
+// Adds the calls of a visited state.
+fn collect_visited(
+    alloc: Global,
+    visits: &mut SearchedStates<'_>,
+    programs: &mut Vec<ProgramUse>,
+    number: usize,
+    visited: VisitedState,
+) -> Result<(), StepFault>
+    requires { slice_get visits.old.found number ≡ Some (found_of visited) }
+    ensures unchanged { visits.new ≡ visits.old }
+    ensures collected { OnOk result (programs.new.items ≡ and_calls programs.old.items (calls_of (found_of visited))) }
+{
+    let VisitedState { machine, witness } = visited;
+    let pids = machine.live(alloc)?;
+    let parts = machine.parts();
+    collect_processes(alloc, visits, programs, number, parts, &witness, &pids)?;
+    visits.release(machine);
+    Ok(())
+}
+
+// Adds the calls of visited state `number`.
+fn collect_state(
+    alloc: Global,
+    visits: &mut SearchedStates<'_>,
+    programs: &mut Vec<ProgramUse>,
+    number: usize,
+) -> Result<(), StepFault>
+    ensures unchanged { visits.new ≡ visits.old }
+    ensures collected { OnOk result (programs.new.items ≡ and_calls programs.old.items (calls_at (slice_get visits.old.found number))) }
+{
+    match visits.at(alloc, number)? {
+        Some(visited) => collect_visited(alloc, visits, programs, number, visited),
+        None => Ok(()),
+    }
+}
+
+// Returns the uses of all programs by the calls of the visited states.
+#[tactic(auto, using(crate::proofs::Collecting::states_next, crate::proofs::Collecting::states_all))]
+fn collect(alloc: Global, visits: &mut SearchedStates<'_>) -> Result<Vec<ProgramUse>, StepFault>
+    ensures unchanged { visits.new ≡ visits.old }
+    ensures collected { IfOk result (λ programs. programs.items ≡ and_calls [] (flat_map calls_of visits.old.found)) }
+{
+    let mut programs = Vec::new(alloc);
+    for number in 0..visits.len() {
+        collect_state(alloc, visits, &mut programs, number)?;
+    }
+    Ok(programs)
+}
+
+// Returns the line DONE.
+fn done_bytes(alloc: Global, count: usize, complete: bool) -> Result<Vec<u8>, AllocError>
+    ensures { IfOk result (λ bytes. bytes.items ≡ answer_line_bytes (states_line count complete)) }
+{
+    let mut text = Gathered::new(alloc);
+    match write_states(&mut text, count, complete) {
+        Ok(()) => Ok(text.bytes),
+        Err(_) => Err(AllocError),
+    }
+}
+
+// Returns the lines of a search.
+fn bytes_of(
+    alloc: Global,
+    tree: &Tree,
+    visits: &mut SearchedStates<'_>,
+) -> Result<Vec<u8>, StepFault>
+    ensures unchanged { visits.new ≡ visits.old }
+    ensures bytes { IfOk result (λ bytes. bytes.items ≡ visited_bytes tree.now.tree visits.old) }
+{
+    let programs = collect(alloc, visits)?;
+    let complete = visits.is_complete();
+    let mut lines = Vec::new(alloc);
+    push_programs(alloc, &mut lines, tree, complete, &programs)?;
+    let done = done_bytes(alloc, visits.len(), complete)?;
+    lines.extend_from_slice(&done)?;
+    Ok(lines)
+}
+
+// The lines of a search, and whether the visited states are all.
+#[derive(Drop)]
+struct PolicyText {
+    lines: Vec<u8>,
+    complete: bool,
+}
+
+// Returns the lines of the search of a machine.
+fn policy_text<P: Progress>(
+    alloc: Global,
+    first_machine: &FirstMachine,
+    states: u32,
+    progress: &mut P,
+) -> Result<PolicyText, StepFault>
+    requires { 1 ≤ states }
+    ensures lines { IfOk result (λ text. text.lines.items ≡ answer_bytes (policy_lines program_of states first_machine.now)) }
+    ensures complete { IfOk result (λ text. text.complete ≡ is_complete program_of states first_machine.now) }
+{
+    let mut visits = SearchedStates::search(alloc, first_machine, states, progress)?;
+    let lines = bytes_of(alloc, first_machine.tree(), &mut visits)?;
+    let complete = visits.is_complete();
+    Ok(PolicyText { lines, complete })
+}
+
+/// Writes what each program needs of its sandbox under any schedule, and what it holds and never uses. The search visits
+/// at most `states` states, in breadth-first order from the first state of a machine. For each program of which a step
+/// is a call, in the order of its first call, it writes a line PROG, and then:
+///
+/// - PLDG, for each promise that a call needs: the promise and the line of the first such call;
+/// - UNVL, for each walk that asked for permissions at a target in words for which no earlier walk had asked: those
+///   permissions and the target;
+/// - IDLE, only if the visited states are all: the promises that a process holds at a call other than pledge(2) and that
+///   no call needs, and the permissions that the entries of a table give at a call other than unveil(2) and that no
+///   walk uses.
+///
+/// Before each PLDG and UNVL line there is a BY line with a shortest witness, that is, a schedule that leads to the
+/// call. The last line, DONE, has the number of visited states, and whether these are all. Returns whether the visited
+/// states are all.
+///
+/// `progress` shows the state of the search, and ends with it, also if the search fails.
+///
+/// # Errors
+///
+/// - `Memory`, if there is no memory. Nothing was written.
+/// - `Write`, if a write failed. The sink received a prefix of the lines.
+pub fn write_policy<W: Sink, P: Progress>(
+    alloc: Global,
+    first_machine: &FirstMachine,
+    states: u32,
+    progress: &mut P,
+    out: &mut W,
+) -> Result<bool, Stop>
+    requires { 1 ≤ states }
+    ensures written { WritesOr W.Sink FailsBy (answer_bytes (policy_lines program_of states first_machine.now)) out.old out.new result }
+    ensures complete { IfOk result (λ complete. complete ≡ is_complete program_of states first_machine.now) }
+{
+    let text = policy_text(alloc, first_machine, states, progress)?;
+    write_whole(out, &text.lines)?;
+    Ok(text.complete)
+}

@@ -1,0 +1,3 @@
+-- Lemmas about programs: Appending (numbers in sequence), Named (the first name of a program).
+pub mod Appending
+pub mod Named

@@ -1,0 +1,7 @@
+-- Lists of numbers, appended to.
+use Rattle.std.specs.Prelude.{◌≡◌, ◌++◌}
+use Rattle.pv_model.specs.Answers.Numbers.{Numbers}
+
+-- numbers are appended
+pub record Appends (ns old new : Numbers) : Type 0 where
+  pub is : new ≡ old ++ ns
