@@ -1,5 +1,4 @@
-//! Runs of the whole program over an output that takes nothing, even before it is flushed, and over files that do not
-//! exist.
+//! Runs of the whole program over an output that takes nothing, even before it is flushed.
 ghost use Rattle.std.specs.Prelude.{[], None};
 
 use pv_cli_commands::{Directories, Files, HostSystem, Unshown};
@@ -156,56 +155,5 @@ fn an_output_that_takes_nothing_is_a_failed_write(rt: HostRuntime) {
         };
         assert!(rt; run(rt.alloc(), *words, false, &mut system, &mut Unshown) == 4);
         assert!(rt; system.errors.bytes.as_slice() == b"pvsim: write\n".as_slice());
-    }
-}
-
-// A run that fails: its words, whether errors are explained by default, and the text on the standard error.
-struct Failing {
-    words: &'static [&'static str],
-    by_default: bool,
-    errors: &'static [u8],
-}
-
-const FAILING: &[Failing] = &[
-    Failing {
-        words: &["pvsim", "ls", "no"],
-        by_default: true,
-        errors: b"pvsim: read\n  no\n",
-    },
-    Failing {
-        words: &["pvsim", "-q", "ls", "no"],
-        by_default: true,
-        errors: b"pvsim: read\n",
-    },
-    Failing {
-        words: &["pvsim", "ls", "no", "--quiet"],
-        by_default: true,
-        errors: b"pvsim: read\n",
-    },
-    Failing {
-        words: &["pvsim", "turns", "no", "--slice", "0"],
-        by_default: true,
-        errors: b"pvsim: number\n  --slice '0': expected 1 to 65536, in decimal without leading zeros\n",
-    },
-];
-
-#[test]
-fn errors_are_explained_by_default_unless_quiet(rt: HostRuntime) {
-    for run_of in FAILING {
-        let mut system = HostSystem {
-            files: NoFiles,
-            input: Bytes::new(b""),
-            output: Gathered::new(rt.alloc()),
-            errors: Gathered::new(rt.alloc()),
-        };
-        let status = run(
-            rt.alloc(),
-            run_of.words,
-            run_of.by_default,
-            &mut system,
-            &mut Unshown,
-        );
-        assert!(rt; status != 0);
-        assert!(rt; system.errors.bytes.as_slice() == run_of.errors);
     }
 }
