@@ -1,2 +1,5 @@
-pub mod Stopping
+pub mod Answering
+pub mod Observing
+pub mod Pairs
 pub mod Plan
+pub mod Stopping

@@ -1,3 +1,17 @@
-//! The comparison of two images under every schedule: the search of pairs of states, made step by step, gives the
-//! comparison of the definition. No command uses it yet.
+//! The comparison of two images under all schedules.
+//!
+//! `search` visits pairs of states, one state of each image, and makes the steps of both: `pairs` stores each pair as the
+//! numbers of its two states. `observer` observes the trace lines of each step, and whether it is a call of pledge(2) or
+//! unveil(2). `differences` compares the texts of two steps, and `compare` writes the result. No command uses it yet.
 #![tactic(auto)]
+
+mod compare;
+mod differences;
+mod either;
+mod observer;
+mod pairs;
+mod search;
+
+pub use compare::{Compared, write_result};
+pub use differences::Difference;
+pub use pairs::Pairs;

@@ -5,7 +5,8 @@
 -- Explained (the lines of its steps), Reported (the bytes of texts, and of `explore`), Rows (states as rows of small
 -- numbers), VisitedStates (the data stored with visited states), Visiting (the visited states, one at a time),
 -- Followed (steps from the cache, and the states at the ends of witnesses), LastSteps (witnesses stored as their last
--- steps), Sizes (of images, which runs leave unchanged).
+-- steps), Sizes (of images, which runs leave unchanged), Sides (the states of one side of a search of pairs),
+-- SeenProcess (the process that makes a step), Ranges (the numbers from 1 on).
 pub mod Planned
 pub mod Turns
 pub mod LastNumbers
@@ -22,3 +23,6 @@ pub mod VisitedStates
 pub mod Visiting
 pub mod LastSteps
 pub mod Sizes
+pub mod Sides
+pub mod SeenProcess
+pub mod Ranges

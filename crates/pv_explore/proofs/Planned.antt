@@ -39,7 +39,7 @@ bytes_eq-turn a b =
     (λ is. subst (λ (c : Bytes). bytes_eq c b ≡ true) (bytes_eq-same b a is) (bytes_eq-itself b))
 
 -- numbers are equal exactly if their encodings are
-packed-test : (ns ms : Numbers) → bytes_eq (packed_all ns) (packed_all ms) ≡ bytes_eq ns ms
+pub packed-test : (ns ms : Numbers) → bytes_eq (packed_all ns) (packed_all ms) ≡ bytes_eq ns ms
 packed-test ns ms =
     same-tests (bytes_eq (packed_all ns) (packed_all ms)) (bytes_eq ns ms)
     (λ is. subst (λ (k : Numbers). bytes_eq ns k ≡ true) (packed-apart ns ms (bytes_eq-same (packed_all ns) (packed_all ms) is)) (bytes_eq-itself ns))

@@ -69,7 +69,7 @@ number-step b x table a is = ap (λ c. cond (not c) (1 + number_in table b) 0) i
 among-step : (b x : Bytes) (table : List Bytes) → bytes_eq b x ≡ false → IsAmong (x ∷ table) b → IsAmong table b
 among-step b x table other among = record { is = ap (λ c. c || list_any (bytes_eq b) table) (sym other) ∙ among.is }
 
-number-later : (old more : List Bytes) (b : Bytes) → IsAmong old b → number_in (old ++ more) b ≡ number_in old b
+pub number-later : (old more : List Bytes) (b : Bytes) → IsAmong old b → number_in (old ++ more) b ≡ number_in old b
 number-later [] more b among = let is : false ≡ true = among.is in cc
 number-later (x ∷ old) more b among = by (λ rest. number-later old more b rest) (bytes_eq b x) refl
   where
@@ -77,7 +77,7 @@ number-later (x ∷ old) more b among = by (λ rest. number-later old more b res
     by rest true is = number-step b x (old ++ more) true is ∙ sym (number-step b x old true is)
     by rest false is = number-step b x (old ++ more) false is ∙ ap (λ n. 1 + n) (rest (among-step b x old is among)) ∙ sym (number-step b x old false is)
 
-among-later : (old more : List Bytes) (b : Bytes) → IsAmong old b → IsAmong (old ++ more) b
+pub among-later : (old more : List Bytes) (b : Bytes) → IsAmong old b → IsAmong (old ++ more) b
 among-later [] more b among = let is : false ≡ true = among.is in cc
 among-later (x ∷ old) more b among = by (λ rest. among-later old more b rest) (bytes_eq b x) refl
   where
@@ -93,7 +93,26 @@ among-last (x ∷ old) b = record { is = by (bytes_eq b x) (among-last old b).is
     by true is = refl
     by false is = is
 
-get-number : (table : List Bytes) (b : Bytes) → IsAmong table b → get_or table (number_in table b) [] ≡ b
+-- the index is that of an entry
+pub number-within : (table : List Bytes) (b : Bytes) → IsAmong table b → number_in table b < length table
+number-within [] b among = let is : false ≡ true = among.is in cc
+number-within (x ∷ table) b among = by (number-within table b) (bytes_eq b x) refl
+  where
+    by : (IsAmong table b → number_in table b < length table) → (a : Bool) → bytes_eq b x ≡ a → number_in (x ∷ table) b < length (x ∷ table)
+    by rest true is = let zero = number-step b x table true is in omega (arith, zero)
+    by rest false is = let more = number-step b x table false is in let less = rest (among-step b x table is among) in omega (arith, more, less)
+
+-- the index of a byte string that was appended
+pub number-last : (old : List Bytes) (b : Bytes) → list_any (bytes_eq b) old ≡ false → number_in (old ++ b ∷ []) b ≡ length old
+number-last [] b new = number-step b b [] true (bytes_eq-itself b)
+number-last (x ∷ old) b new = by (number-last old b) (bytes_eq b x) refl new
+  where
+    by : (list_any (bytes_eq b) old ≡ false → number_in (old ++ b ∷ []) b ≡ length old) → (a : Bool) → bytes_eq b x ≡ a → (a || list_any (bytes_eq b) old) ≡ false
+        → number_in (x ∷ (old ++ b ∷ [])) b ≡ length (x ∷ old)
+    by rest true is none = cc
+    by rest false is none = let later = rest none in number-step b x (old ++ b ∷ []) false is ∙ ap (λ n. 1 + n) later ∙ omega arith
+
+pub get-number : (table : List Bytes) (b : Bytes) → IsAmong table b → get_or table (number_in table b) [] ≡ b
 get-number [] b among = let is : false ≡ true = among.is in cc
 get-number (x ∷ table) b among = by (λ rest. get-number table b rest) (bytes_eq b x) refl
   where
@@ -103,7 +122,7 @@ get-number (x ∷ table) b among = by (λ rest. get-number table b rest) (bytes_
         let more : 1 + number_in table b ≡ suc (number_in table b) = omega arith in
         ap (λ n. get_or (x ∷ table) n []) (number-step b x table false is ∙ more) ∙ rest (among-step b x table is among)
 
-same-number : (table : List Bytes) (b c : Bytes) → IsAmong table c → number_in table b ≡ number_in table c → b ≡ c
+pub same-number : (table : List Bytes) (b c : Bytes) → IsAmong table c → number_in table b ≡ number_in table c → b ≡ c
 same-number [] b c among same = let is : false ≡ true = among.is in cc
 same-number (x ∷ table) b c among same = by (λ there equal. same-number table b c there equal) (bytes_eq b x) refl (bytes_eq c x) refl
   where

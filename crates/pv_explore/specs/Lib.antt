@@ -4,6 +4,7 @@ pub mod Observing
 pub mod Plan
 pub mod Rows
 pub mod Searches
+pub mod Sides
 pub mod Vertices
 pub mod VisitedStates
 pub mod Visiting

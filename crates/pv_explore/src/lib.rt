@@ -8,8 +8,8 @@
 //!
 //! `observer` has the trait of what is observed of the steps, and `searched` the search with an observer: each text
 //! observed is written with a witness. `explore` observes the trace lines of each step, and `graph` writes each state
-//! with its transitions. `visited` gives the visited states one at a time. `witness` writes a schedule, `unheard` is a sink that discards, and `progress` is the trait for
-//! progress reports. `specs/Plan` specifies the search, and `proofs/Planned` proves that it visits the states and writes
+//! with its transitions. `visited` gives the visited states one at a time, and `side` the states of one machine for a search of
+//! pairs. `witness` writes a schedule, `unheard` is a sink that discards, and `progress` is the trait for progress reports. `specs/Plan` specifies the search, and `proofs/Planned` proves that it visits the states and writes
 //! the texts of the definitions.
 #![tactic(auto)]
 
@@ -23,6 +23,7 @@ mod position;
 mod progress;
 mod search;
 mod searched;
+mod side;
 mod states;
 mod unheard;
 mod visited;
@@ -36,5 +37,7 @@ pub use observer::{Observer, TraceLines};
 pub use position::Position;
 pub use progress::{Progress, Unshown};
 pub use searched::{Searched, search_observed};
+pub use side::{Side, SideStep};
 pub use visited::{SearchedStates, VisitedState};
 pub use witness::{Count, Witness, write_by};
+pub use witnesses::Witnesses;

@@ -202,8 +202,12 @@ fn add_found_ending(
     }
 }
 
-// Returns the first state alone.
-fn first_states<O: Observer + Drop>(
+/// Returns a set of the first state alone.
+///
+/// # Errors
+///
+/// `NoMemory`, if there is no memory.
+pub(crate) fn first_states<O: Observer + Drop>(
     alloc: Global,
     observer: O,
     position: &Position,
@@ -223,6 +227,28 @@ fn first_endings(alloc: Global, position: &Position) -> Result<Keys, StepFault>
     let mut endings = Keys::new(alloc);
     add_ending(alloc, &mut endings, position)?;
     Ok(endings)
+}
+
+/// Makes speculative steps with a machine if its visit added its state, as state `number`. Returns the machine, in an
+/// unspecified state.
+///
+/// # Errors
+///
+/// `NoMemory`, if there is no memory.
+pub(crate) fn go_ahead<O: Observer + Drop>(
+    alloc: Global,
+    states: &mut States<O>,
+    number: usize,
+    position: Position,
+    found: Visit,
+) -> Result<Position, StepFault>
+    requires { found ≡ New → HasNumber states.old number position }
+    ensures { OnOk result (states.new ≡ states.old) }
+{
+    match found {
+        Visit::Known(_) | Visit::Full => Ok(position),
+        Visit::New => states.go_ahead(alloc, number, position),
+    }
 }
 
 impl<O: Observer + Drop> Search<O> {
@@ -321,24 +347,6 @@ impl<O: Observer + Drop> Search<O> {
         Ok(found)
     }
 
-    // Makes speculative steps with a machine if its visit added its state, as state `number`. Returns the machine, in an
-    // unspecified state.
-    fn go_ahead(
-        &mut self,
-        alloc: Global,
-        number: usize,
-        position: Position,
-        found: Visit,
-    ) -> Result<Position, StepFault>
-        requires { found ≡ New → HasNumber self.old.states number position }
-        ensures { OnOk result (visited_of self.new ≡ visited_of self.old) }
-    {
-        match found {
-            Visit::Known(_) | Visit::Full => Ok(position),
-            Visit::New => self.states.go_ahead(alloc, number, position),
-        }
-    }
-
     // Makes a step of a process with a machine in state `number`. Writes its texts if they are new, caches the transition,
     // and visits the state after it. If that state is new, the machine makes speculative steps. Returns the machine, in an
     // unspecified state.
@@ -372,7 +380,7 @@ impl<O: Observer + Drop> Search<O> {
         )?;
         let next = self.states.len();
         let found = self.visit(alloc, limit, number, pid, texts, &position)?;
-        Ok(self.go_ahead(alloc, next, position, found)?)
+        Ok(go_ahead(alloc, &mut self.states, next, position, found)?)
     }
 
     // Returns the machine in state `number`.

@@ -14,60 +14,60 @@ use Rattle.pv_model.specs.Held.{live_processes}
 use Rattle.pv_model.specs.Sealed.{leaks}
 use Rattle.pv_model.specs.State.{ProcessRecord, live, ended_record, live_process}
 use Rattle.pv_audit.specs.Reasons.{first_of}
-use Rattle.pv_exposure.specs.Collected.{Exposed, Kept, exposed_after, exposed_more, exposed_none, exposed_with, has_key, is_of, kept_at, kept_key, kept_of, key_of, with_all, with_one}
-use Rattle.pv_exposure.specs.Stored.{found_in, kept_by_file, located_if}
+use Rattle.pv_exposure.specs.Collected.{Exposed, RecordedLeak, exposed_after, exposed_more, exposed_none, exposed_with, has_key, is_of, recorded_at, record_key, recorded_of, key_of, with_all, with_one}
+use Rattle.pv_exposure.specs.Stored.{found_in, recorded_by_file, located_if}
 use Rattle.pv_exposure.specs.declared.leaks.Visit.{Visit}
 
 -- ---- a file
 
-pub has-key : (key : Bytes) (ks : List Kept) → has_key ks key ≡ list_any (bytes_eq key) (map key_of ks)
+pub has-key : (key : Bytes) (ks : List RecordedLeak) → has_key ks key ≡ list_any (bytes_eq key) (map key_of ks)
 has-key key [] = refl
 has-key key (k ∷ ks) = ap (λ b. bytes_eq key (key_of k) || b) (has-key key ks)
 
-module _ (ks : List Kept) (l : Located) (f : ℕ) where
+module _ (ks : List RecordedLeak) (l : Located) (f : ℕ) where
   abbrev text : Bytes
   text = node_brief l.found.state.tree f
 
-  abbrev with_whys : List Why → List Kept
-  with_whys whys = with_all ks (map kept_of (leak_of l f whys))
+  abbrev with_whys : List Why → List RecordedLeak
+  with_whys whys = with_all ks (map recorded_of (leak_of l f whys))
 
-  pub file-known : has_key ks (kept_key l.process.line text) ≡ true → with_all ks (kept_by_file l f) ≡ ks
+  pub file-known : has_key ks (record_key l.process.line text) ≡ true → with_all ks (recorded_by_file l f) ≡ ks
   file-known known = by (leaks l.found.state l.process f)
     where
       by : (whys : List Why) → with_whys whys ≡ ks
       by [] = refl
-      by (why ∷ whys) = ap (λ b. if b then ks else ks ++ kept_of (record { at = l; file = text; why = why }) ∷ []) known
+      by (why ∷ whys) = ap (λ b. if b then ks else ks ++ recorded_of (record { at = l; file = text; why = why }) ∷ []) known
 
-  pub file-closed : first_of (leaks l.found.state l.process f) ≡ None → with_all ks (kept_by_file l f) ≡ ks
+  pub file-closed : first_of (leaks l.found.state l.process f) ≡ None → with_all ks (recorded_by_file l f) ≡ ks
   file-closed closed = by (leaks l.found.state l.process f) closed
     where
       by : (whys : List Why) → first_of whys ≡ None → with_whys whys ≡ ks
       by [] none = refl
       by (why ∷ whys) none = cc
 
-  pub file-new : (why : Why) → first_of (leaks l.found.state l.process f) ≡ Some why → has_key ks (kept_key l.process.line text) ≡ false
-      → with_all ks (kept_by_file l f) ≡ ks ++ kept_of (record { at = l; file = text; why = why }) ∷ []
+  pub file-new : (why : Why) → first_of (leaks l.found.state l.process f) ≡ Some why → has_key ks (record_key l.process.line text) ≡ false
+      → with_all ks (recorded_by_file l f) ≡ ks ++ recorded_of (record { at = l; file = text; why = why }) ∷ []
   file-new why first new = by (leaks l.found.state l.process f) first
     where
-      by : (whys : List Why) → first_of whys ≡ Some why → with_whys whys ≡ ks ++ kept_of (record { at = l; file = text; why = why }) ∷ []
+      by : (whys : List Why) → first_of whys ≡ Some why → with_whys whys ≡ ks ++ recorded_of (record { at = l; file = text; why = why }) ∷ []
       by [] none = cc
       by (other ∷ whys) is =
           let same : other ≡ why = cc in
-          ap (λ b. if b then ks else ks ++ kept_of (record { at = l; file = text; why = other }) ∷ []) new
-          ∙ ap (λ w. ks ++ kept_of (record { at = l; file = text; why = w }) ∷ []) same
+          ap (λ b. if b then ks else ks ++ recorded_of (record { at = l; file = text; why = other }) ∷ []) new
+          ∙ ap (λ w. ks ++ recorded_of (record { at = l; file = text; why = w }) ∷ []) same
 
 -- the files of a process, in sequence
-pub with-then : (ks xs ys : List Kept) → with_all ks (xs ++ ys) ≡ with_all (with_all ks xs) ys
+pub with-then : (ks xs ys : List RecordedLeak) → with_all ks (xs ++ ys) ≡ with_all (with_all ks xs) ys
 with-then ks [] ys = refl
 with-then ks (x ∷ xs) ys = with-then (with_one ks x) xs ys
 
-files-mapped : (l : Located) (fs : List ℕ) → map kept_of (flat_map (λ f. leak_of l f (leaks l.found.state l.process f)) fs) ≡ flat_map (kept_by_file l) fs
+files-mapped : (l : Located) (fs : List ℕ) → map recorded_of (flat_map (λ f. leak_of l f (leaks l.found.state l.process f)) fs) ≡ flat_map (recorded_by_file l) fs
 files-mapped l [] = refl
 files-mapped l (f ∷ fs) =
-    map-append kept_of (leak_of l f (leaks l.found.state l.process f)) (flat_map (λ f. leak_of l f (leaks l.found.state l.process f)) fs)
-    ∙ ap (λ (ks : List Kept). kept_by_file l f ++ ks) (files-mapped l fs)
+    map-append recorded_of (leak_of l f (leaks l.found.state l.process f)) (flat_map (λ f. leak_of l f (leaks l.found.state l.process f)) fs)
+    ∙ ap (λ (ks : List RecordedLeak). recorded_by_file l f ++ ks) (files-mapped l fs)
 
-pub all-files : (l : Located) → kept_at l ≡ flat_map (kept_by_file l) (files_of_tree l.found.state.tree)
+pub all-files : (l : Located) → recorded_at l ≡ flat_map (recorded_by_file l) (files_of_tree l.found.state.tree)
 all-files l = files-mapped l (files_of_tree l.found.state.tree)
 
 -- ---- a process

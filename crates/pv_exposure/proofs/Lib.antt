@@ -1,9 +1,9 @@
--- Lemmas about exposure: Firsts (elements with new keys), Records (the records of programs are their groups), Kepts (the
+-- Lemmas about exposure: Firsts (elements with new keys), Records (the records of programs are their groups), RecordedLeaks (the
 -- lines of leaks of which only the first of each line and file text is stored), Written (the lines of a search), Adding
 -- (one more file, process and state).
 pub mod Firsts
 pub mod Records
-pub mod Kepts
+pub mod RecordedLeaks
 pub mod Written
 pub mod Adding
 pub mod Runs

@@ -11,12 +11,12 @@ use Rattle.pv_model.specs.Answers.Numbers.{Numbers}
 use Rattle.pv_model.specs.Answers.Observed.{groups, with_alike}
 use Rattle.pv_model.specs.State.{Program}
 use Rattle.pv_laws_trees.proofs.Entries.{bytes_eq-same, bytes_eq-itself}
-use Rattle.pv_exposure.specs.Collected.{Exposed, Kept, exposed_after, exposed_more, exposed_none, exposed_with, kept_at, with_all, with_one}
+use Rattle.pv_exposure.specs.Collected.{Exposed, RecordedLeak, exposed_after, exposed_more, exposed_none, exposed_with, recorded_at, with_all, with_one}
 use Rattle.pv_exposure.proofs.Firsts.{AreApart, firsts-apart, firsts-more, keyed, none-alike, unless_known}
 
 -- ---- one more process of a program
 
-pub with-both : (ks xs ys : List Kept) → with_all ks (xs ++ ys) ≡ with_all (with_all ks xs) ys
+pub with-both : (ks xs ys : List RecordedLeak) → with_all ks (xs ++ ys) ≡ with_all (with_all ks xs) ys
 with-both ks [] ys = refl
 with-both ks (x ∷ xs) ys = with-both (with_one ks x) xs ys
 
@@ -44,7 +44,7 @@ module _ (named : List ℕ) where
   abbrev pub summary : Program → List Located → Exposed
   summary program ls = record {
     program = program;
-    kept = with_all [] (flat_map kept_at ls);
+    recorded = with_all [] (flat_map recorded_at ls);
     safe = filter (λ f. list_all (is_closed_to f) ls) named;
   }
 
@@ -53,21 +53,21 @@ module _ (named : List ℕ) where
 
   summary-more : (program : Program) (ls : List Located) (l : Located) → exposed_more (summary program ls) l ≡ summary program (ls ++ l ∷ [])
   summary-more program ls l =
-      let kept : with_all (with_all [] (flat_map kept_at ls)) (kept_at l) ≡ with_all [] (flat_map kept_at (ls ++ l ∷ [])) =
-      sym (with-both [] (flat_map kept_at ls) (kept_at l))
-      ∙ ap (with_all []) (sym (flat_map-append kept_at ls (l ∷ []) ∙ ap (λ (ks : List Kept). flat_map kept_at ls ++ ks) (append-nil (kept_at l)))) in
+      let recorded : with_all (with_all [] (flat_map recorded_at ls)) (recorded_at l) ≡ with_all [] (flat_map recorded_at (ls ++ l ∷ [])) =
+      sym (with-both [] (flat_map recorded_at ls) (recorded_at l))
+      ∙ ap (with_all []) (sym (flat_map-append recorded_at ls (l ∷ []) ∙ ap (λ (ks : List RecordedLeak). flat_map recorded_at ls ++ ks) (append-nil (recorded_at l)))) in
       let safe : filter (λ f. is_closed_to f l) (filter (λ f. list_all (is_closed_to f) ls) named) ≡ filter (λ f. list_all (is_closed_to f) (ls ++ l ∷ [])) named =
       sym (both-filters (λ f. list_all (is_closed_to f) ls) (λ f. is_closed_to f l) named)
       ∙ same-filters (λ f. list_all (is_closed_to f) ls && is_closed_to f l) (λ f. list_all (is_closed_to f) (ls ++ l ∷ []))
       (λ f. sym (list_all-append (is_closed_to f) ls (l ∷ []) ∙ ap (λ b. list_all (is_closed_to f) ls && b) (and-true (is_closed_to f l)))) named in
-      λ i. record { program = program; kept = kept i; safe = safe i }
+      λ i. record { program = program; recorded = recorded i; safe = safe i }
 
   summary-none : (program : Program) → exposed_none named program ≡ summary program []
-  summary-none program = λ i. record { program = program; kept = []; safe = sym (all-kept named) i }
+  summary-none program = λ i. record { program = program; recorded = []; safe = sym (all-recorded named) i }
     where
-      all-kept : (ns : List ℕ) → filter (λ f. true) ns ≡ ns
-      all-kept [] = refl
-      all-kept (n ∷ ns) = ap (λ (ms : List ℕ). n ∷ ms) (all-kept ns)
+      all-recorded : (ns : List ℕ) → filter (λ f. true) ns ≡ ns
+      all-recorded [] = refl
+      all-recorded (n ∷ ns) = ap (λ (ms : List ℕ). n ∷ ms) (all-recorded ns)
 
   module _ (ls : List Located) (l : Located) where
     abbrev later : List Located

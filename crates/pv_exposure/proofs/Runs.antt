@@ -1,6 +1,6 @@
 -- Ascending numbers as ranges, from the first to the last.
 use Rattle.std.proofs.Common.{◌≡◌, ◌≢◌, ◌∙◌, sym, ap, ℕ, zero, suc, ◌+◌, Bool, true, false, if◌then◌else◌, ◌==◌, List, [], ◌∷◌, ◌++◌, flat_map, append_assoc, append-nil, codes, refl, arith}
-use Rattle.std.specs.List.{join_by, range_with_len}
+use Rattle.std.specs.List.{join_by}
 use Rattle.std.proofs.lemmas.Bool.{eq-eqb, ne_eqb}
 use Rattle.pv_model.specs.Answers.Exposure.{in_ranges, onto_ranges, range_text}
 use Rattle.pv_model.specs.Bytes.{Bytes}
@@ -70,17 +70,3 @@ text-other from to next ns other =
 
 pub text-last : (from to : ℕ) → text_of_ranges (with_start from (in_ranges (to ∷ []))) ≡ range_text (from, to)
 text-last from to = append-nil (range_text (from, to))
-
--- ---- the numbers from 1 on
-
-range-suc : (a n : ℕ) → range_with_len a (suc n) ≡ range_with_len a n ++ (a + n) ∷ []
-range-suc a zero = let same : a ≡ a + 0 = omega arith in ap (λ k. k ∷ []) same
-range-suc a (suc n) =
-    let same : a + 1 + n ≡ a + suc n = omega arith in
-    ap (λ (ms : List ℕ). a ∷ ms) (range-suc (a + 1) n ∙ ap (λ k. range_with_len (a + 1) n ++ k ∷ []) same)
-
-pub range-more : (n : ℕ) → range_with_len 1 (n + 1) ≡ range_with_len 1 n ++ (n + 1) ∷ []
-range-more n =
-    let next : n + 1 ≡ suc n = omega arith in
-    let same : 1 + n ≡ n + 1 = omega arith in
-    ap (range_with_len 1) next ∙ range-suc 1 n ∙ ap (λ k. range_with_len 1 n ++ k ∷ []) same

@@ -13,8 +13,8 @@ use Rattle.pv_model.specs.Answers.Numbers.{Numbers}
 use Rattle.pv_model.specs.Answers.Observed.{with_alike}
 use Rattle.pv_model.specs.Bytes.{Bytes}
 use Rattle.pv_model.specs.Tree.{Tree}
-use Rattle.pv_exposure.specs.Collected.{Exposed, Kept, all_kept_lines, kept_lines, kept_lines_by, last_kept, lines_of_exposed, ranges_kept, safe_line}
-use Rattle.pv_exposure.specs.Stored.{all_kept, first_at, kept_in, kept_of_file}
+use Rattle.pv_exposure.specs.Collected.{Exposed, RecordedLeak, all_recorded_lines, recorded_lines, recorded_lines_by, last_recorded, lines_of_exposed, ranges_recorded, safe_line}
+use Rattle.pv_exposure.specs.Stored.{all_recorded, first_at, recorded_in, recorded_of_file}
 use Rattle.pv_exposure.specs.declared.leaks.StoredLeak.{StoredLeak}
 
 -- one more element
@@ -41,35 +41,35 @@ filter-flat p (n ∷ ns) = ap (λ (ms : List ℕ). filter p (n ∷ []) ++ ms) (f
 
 -- ---- the leaks of a file text
 
-pub lines-flat : (file : Bytes) (ls : List StoredLeak) → flat_map (λ l. map (λ k. k.line) (kept_of_file file (kept_in l ∷ []))) ls ≡ map (λ k. k.line) (kept_of_file file (all_kept ls))
+pub lines-flat : (file : Bytes) (ls : List StoredLeak) → flat_map (λ l. map (λ k. k.line) (recorded_of_file file (recorded_in l ∷ []))) ls ≡ map (λ k. k.line) (recorded_of_file file (all_recorded ls))
 lines-flat file [] = refl
 lines-flat file (l ∷ ls) =
-    ap (λ (ns : List ℕ). map (λ k. k.line) (kept_of_file file (kept_in l ∷ [])) ++ ns) (lines-flat file ls)
-    ∙ sym (ap (map (λ k. k.line)) (filter-append (λ k. bytes_eq k.file file) (kept_in l ∷ []) (all_kept ls)) ∙ map-append (λ k. k.line) (kept_of_file file (kept_in l ∷ [])) (kept_of_file file (all_kept ls)))
+    ap (λ (ns : List ℕ). map (λ k. k.line) (recorded_of_file file (recorded_in l ∷ [])) ++ ns) (lines-flat file ls)
+    ∙ sym (ap (map (λ k. k.line)) (filter-append (λ k. bytes_eq k.file file) (recorded_in l ∷ []) (all_recorded ls)) ∙ map-append (λ k. k.line) (recorded_of_file file (recorded_in l ∷ [])) (recorded_of_file file (all_recorded ls)))
 
 module _ (file : Bytes) (line : ℕ) (l : StoredLeak) (ls : List StoredLeak) where
-  abbrev first : List Kept → Option Kept
-  first ks = first_at line (kept_of_file file ks)
+  abbrev first : List RecordedLeak → Option RecordedLeak
+  first ks = first_at line (recorded_of_file file ks)
 
-  pub first-here : bytes_eq l.file.items file ≡ true → l.line ≡ line → first (all_kept (l ∷ ls)) ≡ Some (kept_in l)
+  pub first-here : bytes_eq l.file.items file ≡ true → l.line ≡ line → first (all_recorded (l ∷ ls)) ≡ Some (recorded_in l)
   first-here same at =
-      ap (λ b. first_at line (cond b (kept_in l ∷ kept_of_file file (all_kept ls)) (kept_of_file file (all_kept ls)))) same
-      ∙ ap (λ b. first_of (cond b (kept_in l ∷ filter (λ k. k.line == line) (kept_of_file file (all_kept ls))) (filter (λ k. k.line == line) (kept_of_file file (all_kept ls)))))
+      ap (λ b. first_at line (cond b (recorded_in l ∷ recorded_of_file file (all_recorded ls)) (recorded_of_file file (all_recorded ls)))) same
+      ∙ ap (λ b. first_of (cond b (recorded_in l ∷ filter (λ k. k.line == line) (recorded_of_file file (all_recorded ls))) (filter (λ k. k.line == line) (recorded_of_file file (all_recorded ls)))))
       (eq-eqb l.line line at)
 
-  pub first-later : bytes_eq l.file.items file ≡ false → first (all_kept (l ∷ ls)) ≡ first (all_kept ls)
-  first-later other = ap (λ b. first_at line (cond b (kept_in l ∷ kept_of_file file (all_kept ls)) (kept_of_file file (all_kept ls)))) other
+  pub first-later : bytes_eq l.file.items file ≡ false → first (all_recorded (l ∷ ls)) ≡ first (all_recorded ls)
+  first-later other = ap (λ b. first_at line (cond b (recorded_in l ∷ recorded_of_file file (all_recorded ls)) (recorded_of_file file (all_recorded ls)))) other
 
-  pub first-elsewhere : (l.line == line) ≡ false → first (all_kept (l ∷ ls)) ≡ first (all_kept ls)
+  pub first-elsewhere : (l.line == line) ≡ false → first (all_recorded (l ∷ ls)) ≡ first (all_recorded ls)
   first-elsewhere other = by (bytes_eq l.file.items file)
     where
-      by : (b : Bool) → first_at line (cond b (kept_in l ∷ kept_of_file file (all_kept ls)) (kept_of_file file (all_kept ls))) ≡ first (all_kept ls)
-      by true = ap (λ b. first_of (cond b (kept_in l ∷ filter (λ k. k.line == line) (kept_of_file file (all_kept ls))) (filter (λ k. k.line == line) (kept_of_file file (all_kept ls))))) other
+      by : (b : Bool) → first_at line (cond b (recorded_in l ∷ recorded_of_file file (all_recorded ls)) (recorded_of_file file (all_recorded ls))) ≡ first (all_recorded ls)
+      by true = ap (λ b. first_of (cond b (recorded_in l ∷ filter (λ k. k.line == line) (recorded_of_file file (all_recorded ls))) (filter (λ k. k.line == line) (recorded_of_file file (all_recorded ls))))) other
       by false = refl
 
 -- ---- the leaks of all file texts
 
-abbrev file_in : Kept → Bytes
+abbrev file_in : RecordedLeak → Bytes
 file_in k = k.file
 
 new-same : {X : Type 0} (key : X → Numbers) (had seen : List Numbers) → ((n : Numbers) → list_any (bytes_eq n) had ≡ list_any (bytes_eq n) seen) → (xs : List X) → new_ones key had xs ≡ new_ones key seen xs
@@ -79,15 +79,15 @@ new-same {X = X} key had seen same (x ∷ xs) =
     ∙ ap (λ (ys : List X). if list_any (bytes_eq (key x)) seen then new_ones key seen xs else x ∷ ys)
     (new-same key (key x ∷ had) (key x ∷ seen) (λ n. ap (λ b. bytes_eq n (key x) || b) (same n)) xs)
 
-module _ (ks : List Kept) where
+module _ (ks : List RecordedLeak) where
   abbrev pub lines_of_text : Bytes → Bytes
-  lines_of_text file = answer_bytes (kept_lines_by (ranges_kept (kept_of_file file ks)) (last_kept (kept_of_file file ks)))
+  lines_of_text file = answer_bytes (recorded_lines_by (ranges_recorded (recorded_of_file file ks)) (last_recorded (recorded_of_file file ks)))
 
   -- the lines of the file texts that were not seen
-  abbrev pub lines_left : List Bytes → List Kept → Bytes
+  abbrev pub lines_left : List Bytes → List RecordedLeak → Bytes
   lines_left seen ls = flat_map (λ k. lines_of_text k.file) (new_ones file_in seen ls)
 
-  pub left-next : (seen : List Bytes) (k : Kept) (ls : List Kept)
+  pub left-next : (seen : List Bytes) (k : RecordedLeak) (ls : List RecordedLeak)
       → lines_left seen (k ∷ ls)
       ≡ (if list_any (bytes_eq k.file) seen then [] else lines_of_text k.file) ++ lines_left (if list_any (bytes_eq k.file) seen then seen else seen ++ k.file ∷ []) ls
   left-next seen k ls = by (list_any (bytes_eq k.file) seen)
@@ -102,17 +102,17 @@ module _ (ks : List Kept) where
           ≡ (if b then [] else lines_of_text k.file) ++ lines_left (if b then seen else seen ++ k.file ∷ []) ls
       by true = refl
       by false =
-          ap (λ (zs : List Kept). lines_of_text k.file ++ flat_map (λ k. lines_of_text k.file) zs)
+          ap (λ (zs : List RecordedLeak). lines_of_text k.file ++ flat_map (λ k. lines_of_text k.file) zs)
           (new-same file_in (k.file ∷ seen) (seen ++ k.file ∷ [])
           (λ n. swap (bytes_eq n k.file) (list_any (bytes_eq n) seen) ∙ sym (list_any-append (bytes_eq n) seen (k.file ∷ []))) ls)
 
-  flat-lines : (zs : List Kept) → flat_map (λ k. lines_of_text k.file) zs ≡ answer_bytes (flat_map kept_lines (map (with_alike file_in ks) zs))
+  flat-lines : (zs : List RecordedLeak) → flat_map (λ k. lines_of_text k.file) zs ≡ answer_bytes (flat_map recorded_lines (map (with_alike file_in ks) zs))
   flat-lines [] = refl
   flat-lines (z ∷ zs) =
       ap (λ (bs : Bytes). lines_of_text z.file ++ bs) (flat-lines zs)
-      ∙ sym (flat_map-append answer_line_bytes (kept_lines (with_alike file_in ks z)) (flat_map kept_lines (map (with_alike file_in ks) zs)))
+      ∙ sym (flat_map-append answer_line_bytes (recorded_lines (with_alike file_in ks z)) (flat_map recorded_lines (map (with_alike file_in ks) zs)))
 
-  pub all-left : lines_left [] ks ≡ answer_bytes (all_kept_lines ks)
+  pub all-left : lines_left [] ks ≡ answer_bytes (all_recorded_lines ks)
   all-left = flat-lines (new_ones file_in [] ks)
 
 -- ---- safe files, and programs

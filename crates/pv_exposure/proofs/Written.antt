@@ -9,7 +9,7 @@ use Rattle.pv_model.specs.Answers.ProgramNames.{program_line}
 use Rattle.pv_model.specs.Grammar.Programs.{program_of}
 use Rattle.pv_model.specs.State.{State}
 use Rattle.pv_exposure.specs.Collected.{Exposed, exposed_after, lines_of_all, lines_of_exposed}
-use Rattle.pv_exposure.proofs.Kepts.{leaks-written}
+use Rattle.pv_exposure.proofs.RecordedLeaks.{leaks-written}
 use Rattle.pv_exposure.proofs.Records.{records-are, summary_of}
 
 counted-map : {X Y : Type 0} (f : X → Y) (k : ℕ) (xs : List X) → counted_from k (map f xs) ≡ map (λ p. (p.0, f p.1)) (counted_from k xs)

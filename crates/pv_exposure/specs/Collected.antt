@@ -21,34 +21,34 @@ use Rattle.pv_model.specs.Tree.{Tree}
 -- ---- leaks
 
 -- a leak as it is stored: the witness of its state, the process and its line, the text of the file, and the reason
-pub record Kept : Type 0 where
+pub record RecordedLeak : Type 0 where
   pub witness : List ℕ
   pub pid : ℕ
   pub line : ℕ
   pub file : Bytes
   pub why : Why
 
-abbrev pub kept_of : Leak → Kept
-kept_of leak = record { witness = leak.at.found.witness; pid = leak.at.pid; line = line_of leak; file = leak.file; why = leak.why }
+abbrev pub recorded_of : Leak → RecordedLeak
+recorded_of leak = record { witness = leak.at.found.witness; pid = leak.at.pid; line = line_of leak; file = leak.file; why = leak.why }
 
-abbrev pub kept_at : Located → List Kept
-kept_at l = map kept_of (leaks_at l)
+abbrev pub recorded_at : Located → List RecordedLeak
+recorded_at l = map recorded_of (leaks_at l)
 
 -- the key of a line and a file text
-abbrev pub kept_key : ℕ → Bytes → Bytes
-kept_key line file = line / 256 ∷ line % 256 ∷ file
+abbrev pub record_key : ℕ → Bytes → Bytes
+record_key line file = line / 256 ∷ line % 256 ∷ file
 
-abbrev pub key_of : Kept → Bytes
-key_of k = kept_key k.line k.file
+abbrev pub key_of : RecordedLeak → Bytes
+key_of k = record_key k.line k.file
 
-abbrev pub has_key : List Kept → Bytes → Bool
+abbrev pub has_key : List RecordedLeak → Bytes → Bool
 has_key ks key = list_any (λ k. bytes_eq key (key_of k)) ks
 
 -- the leaks with one more, unless one at the same line has the same file text
-abbrev pub with_one : List Kept → Kept → List Kept
+abbrev pub with_one : List RecordedLeak → RecordedLeak → List RecordedLeak
 with_one ks k = if has_key ks (key_of k) then ks else ks ++ k ∷ []
 
-abbrev pub with_all : List Kept → List Kept → List Kept
+abbrev pub with_all : List RecordedLeak → List RecordedLeak → List RecordedLeak
 with_all ks [] = ks
 with_all ks (x ∷ xs) = with_all (with_one ks x) xs
 
@@ -57,16 +57,16 @@ with_all ks (x ∷ xs) = with_all (with_one ks x) xs
 -- a program, its leaks, and the files of the first tree that all its processes so far are closed to
 pub record Exposed : Type 0 where
   pub program : Program
-  pub kept : List Kept
+  pub recorded : List RecordedLeak
   pub safe : List ℕ
 
 -- the record after another process of the program
 abbrev pub exposed_more : Exposed → Located → Exposed
-exposed_more e l = record { program = e.program; kept = with_all e.kept (kept_at l); safe = filter (λ f. is_closed_to f l) e.safe }
+exposed_more e l = record { program = e.program; recorded = with_all e.recorded (recorded_at l); safe = filter (λ f. is_closed_to f l) e.safe }
 
 -- the record of a program before its first process
 abbrev pub exposed_none : List ℕ → Program → Exposed
-exposed_none named program = record { program = program; kept = []; safe = named }
+exposed_none named program = record { program = program; recorded = []; safe = named }
 
 abbrev pub is_of : Numbers → Exposed → Bool
 is_of ns e = bytes_eq ns (program_numbers e.program)
@@ -84,35 +84,35 @@ module _ (named : List ℕ) where
 -- ---- the lines
 
 -- the greatest line of leaks
-abbrev pub greatest : List Kept → ℕ
+abbrev pub greatest : List RecordedLeak → ℕ
 greatest ks = fold max 0 (map (λ k. k.line) ks)
 
 -- the first leak at the greatest line
-abbrev pub last_kept : List Kept → Option Kept
-last_kept ks = first_of (filter (λ k. k.line == greatest ks) ks)
+abbrev pub last_recorded : List RecordedLeak → Option RecordedLeak
+last_recorded ks = first_of (filter (λ k. k.line == greatest ks) ks)
 
 -- the lines of leaks, by number
-abbrev pub lines_kept : List Kept → List ℕ
-lines_kept ks = filter (among (map (λ k. k.line) ks)) (range_with_len 1 (greatest ks))
+abbrev pub lines_recorded : List RecordedLeak → List ℕ
+lines_recorded ks = filter (among (map (λ k. k.line) ks)) (range_with_len 1 (greatest ks))
 
-abbrev pub ranges_kept : List Kept → Bytes
-ranges_kept ks = join_by range_text (codes ", ") (in_ranges (lines_kept ks))
+abbrev pub ranges_recorded : List RecordedLeak → Bytes
+ranges_recorded ks = join_by range_text (codes ", ") (in_ranges (lines_recorded ks))
 
-abbrev pub kept_text : Kept → Bytes → Bytes
-kept_text k ranges = k.file ++ codes ", lines " ++ ranges ++ codes ", " ++ why_text k.why
+abbrev pub recorded_text : RecordedLeak → Bytes → Bytes
+recorded_text k ranges = k.file ++ codes ", lines " ++ ranges ++ codes ", " ++ why_text k.why
 
-abbrev pub kept_lines_by : Bytes → Option Kept → List AnswerLine
-kept_lines_by ranges None = []
-kept_lines_by ranges (Some k) =
-    answer_line k.pid (codes "BY") (witness_text k.witness) ∷ answer_line k.pid (codes "LEAK") (kept_text k ranges) ∷ []
+abbrev pub recorded_lines_by : Bytes → Option RecordedLeak → List AnswerLine
+recorded_lines_by ranges None = []
+recorded_lines_by ranges (Some k) =
+    answer_line k.pid (codes "BY") (witness_text k.witness) ∷ answer_line k.pid (codes "LEAK") (recorded_text k ranges) ∷ []
 
 -- the lines of the leaks of a file text
-abbrev pub kept_lines : Kept × List Kept → List AnswerLine
-kept_lines (first, ks) = kept_lines_by (ranges_kept ks) (last_kept ks)
+abbrev pub recorded_lines : RecordedLeak × List RecordedLeak → List AnswerLine
+recorded_lines (first, ks) = recorded_lines_by (ranges_recorded ks) (last_recorded ks)
 
 -- the lines of the leaks of all file texts
-abbrev pub all_kept_lines : List Kept → List AnswerLine
-all_kept_lines ks = flat_map kept_lines (groups (λ k. k.file) ks)
+abbrev pub all_recorded_lines : List RecordedLeak → List AnswerLine
+all_recorded_lines ks = flat_map recorded_lines (groups (λ k. k.file) ks)
 
 module _ (t : Tree) where
   abbrev pub safe_line : ℕ → AnswerLine
@@ -120,7 +120,7 @@ module _ (t : Tree) where
 
   -- the lines of a program, given whether the search is complete
   abbrev pub lines_of_exposed : Bool → ℕ × Exposed → List AnswerLine
-  lines_of_exposed complete (k, e) = program_line program_of t k e.program ∷ all_kept_lines e.kept ++ (if complete then map safe_line e.safe else [])
+  lines_of_exposed complete (k, e) = program_line program_of t k e.program ∷ all_recorded_lines e.recorded ++ (if complete then map safe_line e.safe else [])
 
   -- all lines, given the number of visited states and whether the search is complete
   abbrev pub lines_of_all : Bool → ℕ → List Exposed → List AnswerLine

@@ -8,19 +8,19 @@ use Rattle.pv_model.specs.Answers.ProgramNames.{program_numbers}
 use Rattle.pv_model.specs.Bytes.{Bytes}
 use Rattle.pv_model.specs.Sealed.{leaks}
 use Rattle.pv_model.specs.State.{Process, Program}
-use Rattle.pv_exposure.specs.Collected.{Kept, key_of, kept_of}
+use Rattle.pv_exposure.specs.Collected.{RecordedLeak, key_of, recorded_of}
 use Rattle.pv_exposure.specs.declared.leaks.StoredLeak.{StoredLeak}
 use Rattle.pv_exposure.specs.declared.leaks.Visit.{Visit}
 
-abbrev pub kept_in : StoredLeak → Kept
-kept_in l = record { witness = l.witness.items; pid = l.pid; line = l.line; file = l.file.items; why = l.why }
+abbrev pub recorded_in : StoredLeak → RecordedLeak
+recorded_in l = record { witness = l.witness.items; pid = l.pid; line = l.line; file = l.file.items; why = l.why }
 
-abbrev pub all_kept : List StoredLeak → List Kept
-all_kept ls = map kept_in ls
+abbrev pub all_recorded : List StoredLeak → List RecordedLeak
+all_recorded ls = map recorded_in ls
 
 -- the leak of a process and a file, if the process is not closed to it
-abbrev pub kept_by_file : Located → ℕ → List Kept
-kept_by_file l f = map kept_of (leak_of l f (leaks l.found.state l.process f))
+abbrev pub recorded_by_file : Located → ℕ → List RecordedLeak
+recorded_by_file l f = map recorded_of (leak_of l f (leaks l.found.state l.process f))
 
 -- a visited state with its witness
 abbrev pub found_in : Visit → Found
@@ -35,14 +35,14 @@ located_if v None = []
 located_if v (Some p) = located_in v p ∷ []
 
 -- a record has the numbers of its program, and the keys of its leaks
-pub record IsIndexed (program : Program) (numbers : Numbers) (kept : List Kept) (keys : List Bytes) : Type 0 where
+pub record IsIndexed (program : Program) (numbers : Numbers) (recorded : List RecordedLeak) (keys : List Bytes) : Type 0 where
   pub same : numbers ≡ program_numbers program
-  pub keyed : keys ≡ map key_of kept
+  pub keyed : keys ≡ map key_of recorded
 
 -- the leaks of a file text
-abbrev pub kept_of_file : Bytes → List Kept → List Kept
-kept_of_file file ks = filter (λ k. bytes_eq k.file file) ks
+abbrev pub recorded_of_file : Bytes → List RecordedLeak → List RecordedLeak
+recorded_of_file file ks = filter (λ k. bytes_eq k.file file) ks
 
 -- the first leak at a line
-abbrev pub first_at : ℕ → List Kept → Option Kept
+abbrev pub first_at : ℕ → List RecordedLeak → Option RecordedLeak
 first_at line ks = first_of (filter (λ k. k.line == line) ks)

@@ -1,8 +1,8 @@
 //! Leaks. Of each line and file text the first is stored.
 ghost use Rattle.std.specs.Prelude.{◌≡◌, ◌++◌, ◌∷◌, [], bytes_eq, filter, false, map, IfOk, IsSome, OnOk, Some};
 ghost use Rattle.std.specs.List.{list_any};
-ghost use Rattle.pv_exposure.specs.Collected.{kept_at, kept_key, key_of, with_all};
-ghost use Rattle.pv_exposure.specs.Stored.{all_kept, kept_by_file, kept_in, located_in};
+ghost use Rattle.pv_exposure.specs.Collected.{recorded_at, record_key, key_of, with_all};
+ghost use Rattle.pv_exposure.specs.Stored.{all_recorded, recorded_by_file, recorded_in, located_in};
 ghost use Rattle.pv_model.specs.Answers.Exposure.{is_closed_to};
 ghost use Rattle.pv_model.specs.Answers.Files.{files_of_tree, is_file_at, node_brief};
 ghost use Rattle.pv_model.specs.State.{Process, process_at};
@@ -56,7 +56,7 @@ fn brief_of(alloc: Global, tree: &Tree, node: u16) -> Result<Vec<u8>, AllocError
 
 // Returns the key of a line and a file text.
 fn key_of_line(alloc: Global, line: u16, file: &[u8]) -> Result<Vec<u8>, AllocError>
-    ensures { IfOk result (λ key. key.items ≡ kept_key line file.now) }
+    ensures { IfOk result (λ key. key.items ≡ record_key line file.now) }
 {
     let mut key = Vec::new(alloc);
     key.push((line / 256) as u8)?;
@@ -80,11 +80,11 @@ fn store(
     key: Vec<u8>,
     leak: StoredLeak,
 ) -> Result<(), AllocError>
-    requires keys { keys.old ≡ map key_of (all_kept leaks.old.items) }
-    requires key { key.items ≡ key_of (kept_in leak) }
+    requires keys { keys.old ≡ map key_of (all_recorded leaks.old.items) }
+    requires key { key.items ≡ key_of (recorded_in leak) }
     requires new { list_any (bytes_eq key.items) keys.old ≡ false }
-    ensures leaks { OnOk result (all_kept leaks.new.items ≡ all_kept leaks.old.items ++ kept_in leak ∷ []) }
-    ensures keys { keys.new ≡ map key_of (all_kept leaks.new.items) }
+    ensures leaks { OnOk result (all_recorded leaks.new.items ≡ all_recorded leaks.old.items ++ recorded_in leak ∷ []) }
+    ensures keys { keys.new ≡ map key_of (all_recorded leaks.new.items) }
 {
     leaks.reserve(1)?;
     let _ = keys.add(key)?;
@@ -102,9 +102,9 @@ fn add_file(
     node: u16,
 ) -> Result<(), AllocError>
     requires live { IsSome (process_at visit.now.parts.now visit.now.pid) }
-    requires keys { keys.old ≡ map key_of (all_kept leaks.old.items) }
-    ensures leaks { OnOk result ((p : Process) → process_at visit.now.parts.now visit.now.pid ≡ Some p → all_kept leaks.new.items ≡ with_all (all_kept leaks.old.items) (kept_by_file (located_in visit.now p) node)) }
-    ensures keys { keys.new ≡ map key_of (all_kept leaks.new.items) }
+    requires keys { keys.old ≡ map key_of (all_recorded leaks.old.items) }
+    ensures leaks { OnOk result ((p : Process) → process_at visit.now.parts.now visit.now.pid ≡ Some p → all_recorded leaks.new.items ≡ with_all (all_recorded leaks.old.items) (recorded_by_file (located_in visit.now p) node)) }
+    ensures keys { keys.new ≡ map key_of (all_recorded leaks.new.items) }
 {
     let line = line_of(visit);
     let file = brief_of(alloc, visit.parts.tree(), node)?;
@@ -141,9 +141,9 @@ pub(crate) fn add_files(
 ) -> Result<(), AllocError>
     requires live { IsSome (process_at visit.now.parts.now visit.now.pid) }
     requires files { files.now ≡ files_of_tree visit.now.parts.now.tree }
-    requires keys { keys.old ≡ map key_of (all_kept leaks.old.items) }
-    ensures leaks { OnOk result ((p : Process) → process_at visit.now.parts.now visit.now.pid ≡ Some p → all_kept leaks.new.items ≡ with_all (all_kept leaks.old.items) (kept_at (located_in visit.now p))) }
-    ensures keys { keys.new ≡ map key_of (all_kept leaks.new.items) }
+    requires keys { keys.old ≡ map key_of (all_recorded leaks.old.items) }
+    ensures leaks { OnOk result ((p : Process) → process_at visit.now.parts.now visit.now.pid ≡ Some p → all_recorded leaks.new.items ≡ with_all (all_recorded leaks.old.items) (recorded_at (located_in visit.now p))) }
+    ensures keys { keys.new ≡ map key_of (all_recorded leaks.new.items) }
 {
     for node in files {
         add_file(alloc, leaks, keys, visit, *node)?;

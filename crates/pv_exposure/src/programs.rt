@@ -1,7 +1,7 @@
 //! Programs, their leaks, and the files that they are closed to.
 ghost use Rattle.std.specs.Prelude.{◌≡◌, position, IfOk, IsSome, OnOk, Some};
 ghost use Rattle.pv_exposure.specs.Collected.{exposed_after, exposed_more, exposed_none, exposed_with, is_of as is_of_numbers};
-ghost use Rattle.pv_exposure.specs.Stored.{all_kept, located_if, located_in};
+ghost use Rattle.pv_exposure.specs.Stored.{all_recorded, located_if, located_in};
 ghost use Rattle.pv_model.specs.Answers.Exposure.{located_at};
 ghost use Rattle.pv_model.specs.Answers.Files.{files_of_tree};
 ghost use Rattle.pv_model.specs.Answers.ProgramNames.{program_numbers};
@@ -30,13 +30,13 @@ pub(crate) struct ProgramRecord {
 
 impl Model for ProgramRecord {
     ghost use Rattle.pv_exposure.specs.Collected.{Exposed};
-    ghost use Rattle.pv_exposure.specs.Stored.{IsIndexed, all_kept};
+    ghost use Rattle.pv_exposure.specs.Stored.{IsIndexed, all_recorded};
 
     ghost Value = { Exposed };
 
-    ghost view = { λ r. record { program = r.program; kept = all_kept r.leaks.items; safe = r.safe.items } };
+    ghost view = { λ r. record { program = r.program; recorded = all_recorded r.leaks.items; safe = r.safe.items } };
 
-    ghost invariant = { λ r. IsIndexed r.program r.numbers.items (all_kept r.leaks.items) r.keys };
+    ghost invariant = { λ r. IsIndexed r.program r.numbers.items (all_recorded r.leaks.items) r.keys };
 }
 
 impl ProgramRecord {
@@ -94,7 +94,7 @@ impl ProgramRecord {
 
     /// Returns the leaks.
     pub(crate) fn leaks(&self) -> &[StoredLeak]
-        ensures { all_kept result.now ≡ self.now.kept }
+        ensures { all_recorded result.now ≡ self.now.recorded }
     {
         &self.leaks
     }

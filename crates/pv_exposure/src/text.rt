@@ -1,8 +1,8 @@
 //! The lines of programs, in memory.
 ghost use Rattle.std.specs.Prelude.{◌≡◌, ◌++◌, ◌∷◌, [], bytes_eq, codes, flat_map, if◌then◌else◌, map, IfOk, OnOk, Some};
 ghost use Rattle.std.specs.List.{list_any};
-ghost use Rattle.pv_exposure.specs.Collected.{Exposed, all_kept_lines, kept_lines_by, kept_text, last_kept, lines_of_all, lines_of_exposed, ranges_kept, safe_line};
-ghost use Rattle.pv_exposure.specs.Stored.{all_kept, first_at, kept_in, kept_of_file};
+ghost use Rattle.pv_exposure.specs.Collected.{Exposed, all_recorded_lines, recorded_lines_by, recorded_text, last_recorded, lines_of_all, lines_of_exposed, ranges_recorded, safe_line};
+ghost use Rattle.pv_exposure.specs.Stored.{all_recorded, first_at, recorded_in, recorded_of_file};
 ghost use Rattle.pv_model.specs.Answers.Explore.{states_line, witness_text};
 ghost use Rattle.pv_model.specs.Answers.Lines.{answer_bytes, answer_line, answer_line_bytes, counted_from};
 ghost use Rattle.pv_model.specs.Answers.ProgramNames.{program_line};
@@ -23,7 +23,7 @@ use std::alloc::{AllocError, Global};
 
 // Appends the line of a leak if it has a file text.
 fn push_line(lines: &mut Vec<u16>, leak: &StoredLeak, file: &[u8]) -> Result<(), AllocError>
-    ensures { OnOk result (lines.new.items ≡ lines.old.items ++ map (λ k. k.line) (kept_of_file file.now (kept_in leak.now ∷ []))) }
+    ensures { OnOk result (lines.new.items ≡ lines.old.items ++ map (λ k. k.line) (recorded_of_file file.now (recorded_in leak.now ∷ []))) }
 {
     if leak.file.as_slice() == file {
         lines.push(leak.line)?;
@@ -33,7 +33,7 @@ fn push_line(lines: &mut Vec<u16>, leak: &StoredLeak, file: &[u8]) -> Result<(),
 
 // Returns the lines of the leaks of a file text.
 fn lines_of_file(alloc: Global, leaks: &[StoredLeak], file: &[u8]) -> Result<Vec<u16>, AllocError>
-    ensures { IfOk result (λ lines. lines.items ≡ map (λ k. k.line) (kept_of_file file.now (all_kept leaks.now))) }
+    ensures { IfOk result (λ lines. lines.items ≡ map (λ k. k.line) (recorded_of_file file.now (all_recorded leaks.now))) }
 {
     let mut lines = Vec::new(alloc);
     for leak in leaks {
@@ -58,7 +58,7 @@ fn append_by(out: &mut Gathered, leak: &StoredLeak) -> Result<(), AllocError>
 // Appends the line LEAK of a leak.
 #[tactic(auto, unfolding(pv_model::specs::Trace::text_line))]
 fn append_reason(out: &mut Gathered, leak: &StoredLeak, ranges: &[u8]) -> Result<(), AllocError>
-    ensures { OnOk result (out.new.bytes.items ≡ out.old.bytes.items ++ answer_line_bytes (answer_line leak.now.pid (codes "LEAK") (kept_text (kept_in leak.now) ranges.now))) }
+    ensures { OnOk result (out.new.bytes.items ≡ out.old.bytes.items ++ answer_line_bytes (answer_line leak.now.pid (codes "LEAK") (recorded_text (recorded_in leak.now) ranges.now))) }
 {
     let text = (
         Plain(&leak.file),
@@ -77,7 +77,7 @@ fn append_reason(out: &mut Gathered, leak: &StoredLeak, ranges: &[u8]) -> Result
 
 // Appends the lines of a leak.
 fn append_leak(out: &mut Gathered, leak: &StoredLeak, ranges: &[u8]) -> Result<(), AllocError>
-    ensures { OnOk result (out.new.bytes.items ≡ out.old.bytes.items ++ answer_bytes (kept_lines_by ranges.now (Some (kept_in leak.now)))) }
+    ensures { OnOk result (out.new.bytes.items ≡ out.old.bytes.items ++ answer_bytes (recorded_lines_by ranges.now (Some (recorded_in leak.now)))) }
 {
     append_by(out, leak)?;
     append_reason(out, leak, ranges)
@@ -91,7 +91,7 @@ fn append_first(
     line: u16,
     ranges: &[u8],
 ) -> Result<(), AllocError>
-    ensures { OnOk result (out.new.bytes.items ≡ out.old.bytes.items ++ answer_bytes (kept_lines_by ranges.now (first_at line (kept_of_file file.now (all_kept leaks.now))))) }
+    ensures { OnOk result (out.new.bytes.items ≡ out.old.bytes.items ++ answer_bytes (recorded_lines_by ranges.now (first_at line (recorded_of_file file.now (all_recorded leaks.now))))) }
 {
     for leak in leaks {
         if leak.file.as_slice() == file && leak.line == line {
@@ -108,7 +108,7 @@ fn append_group(
     leaks: &[StoredLeak],
     file: &[u8],
 ) -> Result<(), AllocError>
-    ensures { OnOk result (out.new.bytes.items ≡ out.old.bytes.items ++ answer_bytes (kept_lines_by (ranges_kept (kept_of_file file.now (all_kept leaks.now))) (last_kept (kept_of_file file.now (all_kept leaks.now))))) }
+    ensures { OnOk result (out.new.bytes.items ≡ out.old.bytes.items ++ answer_bytes (recorded_lines_by (ranges_recorded (recorded_of_file file.now (all_recorded leaks.now))) (last_recorded (recorded_of_file file.now (all_recorded leaks.now))))) }
 {
     let lines = lines_of_file(alloc, leaks, file)?;
     let sorted = ascending(alloc, &lines)?;
@@ -125,7 +125,7 @@ fn append_unseen(
     leaks: &[StoredLeak],
     file: &[u8],
 ) -> Result<(), AllocError>
-    ensures out { OnOk result (out.new.bytes.items ≡ out.old.bytes.items ++ (if list_any (bytes_eq file.now) seen.old then [] else answer_bytes (kept_lines_by (ranges_kept (kept_of_file file.now (all_kept leaks.now))) (last_kept (kept_of_file file.now (all_kept leaks.now)))))) }
+    ensures out { OnOk result (out.new.bytes.items ≡ out.old.bytes.items ++ (if list_any (bytes_eq file.now) seen.old then [] else answer_bytes (recorded_lines_by (ranges_recorded (recorded_of_file file.now (all_recorded leaks.now))) (last_recorded (recorded_of_file file.now (all_recorded leaks.now)))))) }
     ensures seen { OnOk result (seen.new ≡ (if list_any (bytes_eq file.now) seen.old then seen.old else seen.old ++ file.now ∷ [])) }
 {
     if seen.contains(file) {
@@ -137,7 +137,7 @@ fn append_unseen(
 
 // Appends the lines of leaks, those of one file text together.
 fn append_leaks(alloc: Global, out: &mut Gathered, leaks: &[StoredLeak]) -> Result<(), AllocError>
-    ensures { OnOk result (out.new.bytes.items ≡ out.old.bytes.items ++ answer_bytes (all_kept_lines (all_kept leaks.now))) }
+    ensures { OnOk result (out.new.bytes.items ≡ out.old.bytes.items ++ answer_bytes (all_recorded_lines (all_recorded leaks.now))) }
 {
     let mut seen = Keys::new(alloc);
     for leak in leaks {

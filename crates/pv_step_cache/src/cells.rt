@@ -46,7 +46,8 @@ fn seen_number(cell: &Cell, pid: u32) -> usize
 pub fn step_key(alloc: Global, cells: &[Cell], pid: u32) -> Result<Vec<u8>, AllocError>
     ensures { IfOk result (λ key. key.items ≡ step_key pid cells.now) }
 {
-    let mut key = Vec::new(alloc);
+    // A number below 16,384 takes at most 2 bytes.
+    let mut key = Vec::with_capacity(alloc, cells.len().saturating_add(1).saturating_mul(2))?;
     push_number(&mut key, u64::from(pid))?;
     for cell in cells {
         push_number(&mut key, seen_number(cell, pid) as u64)?;
@@ -62,7 +63,7 @@ pub fn step_key(alloc: Global, cells: &[Cell], pid: u32) -> Result<Vec<u8>, Allo
 pub fn row_of_cells(alloc: Global, cells: &[Cell]) -> Result<Vec<u8>, AllocError>
     ensures { IfOk result (λ row. row.items ≡ packed_all (map number_of_cell cells.now)) }
 {
-    let mut row = Vec::new(alloc);
+    let mut row = Vec::with_capacity(alloc, cells.len().saturating_mul(2))?;
     for cell in cells {
         push_number(&mut row, cell.number as u64)?;
     }
@@ -127,7 +128,7 @@ fn edited(cells: &[Cell], edit: &Edit) -> Cell
 pub fn edited_cells(alloc: Global, cells: &[Cell], edits: &[Edit]) -> Result<Vec<Cell>, AllocError>
     ensures { IfOk result (λ after. after.items ≡ map (edited cells.now) edits.now) }
 {
-    let mut after = Vec::new(alloc);
+    let mut after = Vec::with_capacity(alloc, edits.len())?;
     for edit in edits {
         after.push(edited(cells, edit))?;
     }

@@ -6,17 +6,17 @@ use Rattle.pv_model.specs.Answers.Files.{node_brief}
 use Rattle.pv_model.specs.Bytes.{Bytes}
 use Rattle.pv_model.specs.Sealed.{leaks}
 use Rattle.pv_model.specs.Tree.{Tree}
-use Rattle.pv_exposure.specs.Collected.{Kept, has_key, kept_key, kept_of}
-use Rattle.pv_exposure.specs.Stored.{all_kept, kept_in, located_in}
+use Rattle.pv_exposure.specs.Collected.{RecordedLeak, has_key, record_key, recorded_of}
+use Rattle.pv_exposure.specs.Stored.{all_recorded, recorded_in, located_in}
 use Rattle.pv_exposure.proofs.Adding.{file-known, file-new, has-key}
 use Rattle.pv_exposure.proofs.leaks.add_file.Goals as goal
 
 pub returns-then-contains-clause-leaks : goal.returns-then-contains-clause-leaks
 returns-then-contains-clause-leaks c = λ p at.
     let v = c.args.visit.now in
-    let ks : List Kept = all_kept c.args.leaks.now.items in
-    let key = kept_key p.line (node_brief v.parts.now.tree c.args.node) in
-    let key_is = c.in_ok-key.ensures ∙ ap₂ kept_key (c.line_of-line.ensures p at) (c.deref.ensures.value ∙ c.in_ok-file.ensures ∙ ap (λ (t : Tree). node_brief t c.args.node) c.tree.ensures) in
+    let ks : List RecordedLeak = all_recorded c.args.leaks.now.items in
+    let key = record_key p.line (node_brief v.parts.now.tree c.args.node) in
+    let key_is = c.in_ok-key.ensures ∙ ap₂ record_key (c.line_of-line.ensures p at) (c.deref.ensures.value ∙ c.in_ok-file.ensures ∙ ap (λ (t : Tree). node_brief t c.args.node) c.tree.ensures) in
     let known : has_key ks key ≡ true =
     has-key key ks ∙ sym (ap₂ (λ (bs : Bytes) (keys : List Bytes). list_any (bytes_eq bs) keys) (c.deref-2.ensures.value ∙ key_is) c.requires.keys) ∙ sym c.contains.ensures ∙ c.if-contains.true in
     sym (file-known ks (located_in v p) c.args.node known)
@@ -26,18 +26,18 @@ returns-clause-leaks c =
     on_ok_weaker c.store.result
     (λ stored p at.
     let v = c.args.visit.now in
-    let ks : List Kept = all_kept c.args.leaks.now.items in
+    let ks : List RecordedLeak = all_recorded c.args.leaks.now.items in
     let brief = node_brief v.parts.now.tree c.args.node in
-    let key = kept_key p.line brief in
+    let key = record_key p.line brief in
     let line = c.line_of-line.ensures p at in
     let file : c.in_ok-file.file.items ≡ brief = c.in_ok-file.ensures ∙ ap (λ (t : Tree). node_brief t c.args.node) c.tree.ensures in
-    let key_is = c.in_ok-key.ensures ∙ ap₂ kept_key line (c.deref.ensures.value ∙ file) in
+    let key_is = c.in_ok-key.ensures ∙ ap₂ record_key line (c.deref.ensures.value ∙ file) in
     let new : has_key ks key ≡ false =
     has-key key ks ∙ sym (ap₂ (λ (bs : Bytes) (keys : List Bytes). list_any (bytes_eq bs) keys) (c.deref-2.ensures.value ∙ key_is) c.requires.keys) ∙ sym c.contains.ensures ∙ c.if-contains.false in
     let first : first_of (leaks v.parts.now p c.args.node) ≡ Some c.in-Some.why = sym (c.leak.ensures p at) ∙ c.in-Some.is in
     let witness : c.in_ok-witness.witness.items ≡ v.witness.now = search rules in
-    let same : kept_in (record { witness = c.in_ok-witness.witness; pid = v.pid; line = c.line_of-line.result; file = c.in_ok-file.file; why = c.in-Some.why })
-    ≡ kept_of (record { at = located_in v p; file = brief; why = c.in-Some.why }) =
+    let same : recorded_in (record { witness = c.in_ok-witness.witness; pid = v.pid; line = c.line_of-line.result; file = c.in_ok-file.file; why = c.in-Some.why })
+    ≡ recorded_of (record { at = located_in v p; file = brief; why = c.in-Some.why }) =
     λ i. record { witness = witness i; pid = v.pid; line = line i; file = file i; why = c.in-Some.why } in
-    stored ∙ ap (λ (k : Kept). ks ++ k ∷ []) same ∙ sym (file-new ks (located_in v p) c.args.node c.in-Some.why first new))
+    stored ∙ ap (λ (k : RecordedLeak). ks ++ k ∷ []) same ∙ sym (file-new ks (located_in v p) c.args.node c.in-Some.why first new))
     c.store.ensures.leaks

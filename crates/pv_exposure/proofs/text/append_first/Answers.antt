@@ -3,8 +3,8 @@ use Rattle.std.proofs.lemmas.List.{drop_all, drop_more}
 use Rattle.std.proofs.lemmas.Result.{on_ok_weaker}
 use Rattle.pv_model.specs.Answers.Lines.{answer_bytes}
 use Rattle.pv_model.specs.Bytes.{Bytes}
-use Rattle.pv_exposure.specs.Collected.{Kept, kept_lines_by}
-use Rattle.pv_exposure.specs.Stored.{all_kept, first_at, kept_of_file}
+use Rattle.pv_exposure.specs.Collected.{RecordedLeak, recorded_lines_by}
+use Rattle.pv_exposure.specs.Stored.{all_recorded, first_at, recorded_of_file}
 use Rattle.pv_exposure.specs.declared.leaks.StoredLeak.{StoredLeak}
 use Rattle.pv_exposure.proofs.Texts.{first-here}
 use Rattle.pv_exposure.proofs.text.append_first.Goals as goal
@@ -17,9 +17,9 @@ returns-then-leak-line c =
     let file = c.args.file.now in
     let next = drop_more ls i x c.loop-leak-test.true ∙ ap (λ (y : StoredLeak). y ∷ drop (i + 1) ls) (sym c.leak-item.is) in
     let same : bytes_eq x.file.items file ≡ true = search rules in
-    let here = sym (first-here file c.args.line x (drop (i + 1) ls) same c.if-leak-line.true) ∙ ap (λ (zs : List StoredLeak). first_at c.args.line (kept_of_file file (all_kept zs))) (sym next) ∙ c.loop-leak.invariant.first in
+    let here = sym (first-here file c.args.line x (drop (i + 1) ls) same c.if-leak-line.true) ∙ ap (λ (zs : List StoredLeak). first_at c.args.line (recorded_of_file file (all_recorded zs))) (sym next) ∙ c.loop-leak.invariant.first in
     on_ok_weaker c.append_leak.result
-    (λ added. added ∙ ap₂ (λ (bs : Bytes) (o : Option Kept). bs ++ answer_bytes (kept_lines_by c.args.ranges.now o)) c.loop-leak.invariant.same here)
+    (λ added. added ∙ ap₂ (λ (bs : Bytes) (o : Option RecordedLeak). bs ++ answer_bytes (recorded_lines_by c.args.ranges.now o)) c.loop-leak.invariant.same here)
     c.append_leak.ensures
 
 pub returns : goal.returns
@@ -27,5 +27,5 @@ returns c =
     let ls = c.args.leaks.now in
     let file = c.args.file.now in
     let old = c.args.out.now.bytes.items in
-    let none = sym (ap (λ (zs : List StoredLeak). first_at c.args.line (kept_of_file file (all_kept zs))) (drop_all c.loop-leak.leak-index ls c.loop-leak-test.false)) ∙ c.loop-leak.invariant.first in
-    c.loop-leak.invariant.same ∙ sym (append-nil old) ∙ ap (λ (o : Option Kept). old ++ answer_bytes (kept_lines_by c.args.ranges.now o)) none
+    let none = sym (ap (λ (zs : List StoredLeak). first_at c.args.line (recorded_of_file file (all_recorded zs))) (drop_all c.loop-leak.leak-index ls c.loop-leak-test.false)) ∙ c.loop-leak.invariant.first in
+    c.loop-leak.invariant.same ∙ sym (append-nil old) ∙ ap (λ (o : Option RecordedLeak). old ++ answer_bytes (recorded_lines_by c.args.ranges.now o)) none

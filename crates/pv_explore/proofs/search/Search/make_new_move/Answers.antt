@@ -67,6 +67,6 @@ returns-clause-visited g c =
     let texts_are = ap (λ (ts : List (Vec ℕ)). texts_in ts) c.deref.ensures.value ∙ c.in_ok-position.ensures.texts in
     let now : Visited = record old { keys = c.observe.new.self; reported = c.report.new.reported } in
     let is : now ≡ record old { reported = c.report.new.reported } = ap (λ (keys : List Bytes). record old { keys = keys; reported = c.report.new.reported }) c.observe.ensures.unchanged in
-    c.in_ok-go_ahead.ensures
+    ap (λ (keys : List Bytes). record (visited_of c.visit.new.self) { keys = keys }) c.in_ok-go_ahead.ensures
     ∙ visited-is c.args.limit old now (visited_of c.visit.new.self) (longer (visited_of c.args.self.now).witnesses c.args.number c.args.pid) c.args.pid c.args.from texts c.report.new.reported c.in_ok-position.position
     c.in_ok-position.ensures.after (c.in_ok-report.ensures.reported ∙ ap (reported_after c.args.self.now.reported) texts_are) is c.in_ok-found.ensures.visited

@@ -16,7 +16,7 @@ use Rattle.pv_model.specs.Answers.Observed.{groups, with_alike}
 use Rattle.pv_model.specs.Bytes.{Bytes}
 use Rattle.pv_model.specs.Held.{among}
 use Rattle.pv_laws_trees.proofs.Entries.{bytes_eq-same, bytes_eq-itself}
-use Rattle.pv_exposure.specs.Collected.{Kept, all_kept_lines, greatest, has_key, kept_at, kept_lines, kept_lines_by, kept_of, key_of, last_kept, ranges_kept, with_all}
+use Rattle.pv_exposure.specs.Collected.{RecordedLeak, all_recorded_lines, greatest, has_key, recorded_at, recorded_lines, recorded_lines_by, recorded_of, key_of, last_recorded, ranges_recorded, with_all}
 use Rattle.pv_exposure.proofs.Firsts.{keyed}
 
 -- ---- lists
@@ -118,13 +118,13 @@ greatest-again m ms ns is =
 
 -- ---- the lines of a file text
 
-abbrev line_in : Kept → ℕ
+abbrev line_in : RecordedLeak → ℕ
 line_in k = k.line
 
-abbrev file_in : Kept → Bytes
+abbrev file_in : RecordedLeak → Bytes
 file_in k = k.file
 
-module _ (x : Kept) (A B : List Kept) (known : among (map line_in A) x.line ≡ true) where
+module _ (x : RecordedLeak) (A B : List RecordedLeak) (known : among (map line_in A) x.line ≡ true) where
   lines-with : map line_in (A ++ x ∷ B) ≡ map line_in A ++ x.line ∷ map line_in B
   lines-with = map-append line_in A (x ∷ B)
 
@@ -146,7 +146,7 @@ module _ (x : Kept) (A B : List Kept) (known : among (map line_in A) x.line ≡ 
       there : (x.line == n) ≡ true → among (map line_in A) n ≡ true
       there same = let equal : x.line ≡ n = grind (arith, nat_tests, same) in ap (among (map line_in A)) (sym equal) ∙ known
 
-  ranges-with : ranges_kept (A ++ x ∷ B) ≡ ranges_kept (A ++ B)
+  ranges-with : ranges_recorded (A ++ x ∷ B) ≡ ranges_recorded (A ++ B)
   ranges-with =
       ap (λ ns. join_by range_text (codes ", ") (in_ranges ns))
       (ap (λ g. filter (among (map line_in (A ++ x ∷ B))) (range_with_len 1 g)) greatest-with
@@ -158,12 +158,12 @@ module _ (x : Kept) (A B : List Kept) (known : among (map line_in A) x.line ≡ 
       ap first_of (filter-append (λ k. k.line == g) A (x ∷ B)) ∙ by (x.line == g) refl
       ∙ sym (ap first_of (filter-append (λ k. k.line == g) A B))
     where
-      some-first : (ks : List Kept) → among (map line_in ks) g ≡ true → (ys zs : List Kept) → first_of (filter (λ k. k.line == g) ks ++ ys) ≡ first_of (filter (λ k. k.line == g) ks ++ zs)
+      some-first : (ks : List RecordedLeak) → among (map line_in ks) g ≡ true → (ys zs : List RecordedLeak) → first_of (filter (λ k. k.line == g) ks ++ ys) ≡ first_of (filter (λ k. k.line == g) ks ++ zs)
       some-first [] is ys zs = absurd (let no : false ≡ true = is in cc)
       some-first (k ∷ ks) is ys zs = at (k.line == g) is (some-first ks)
         where
           at : (b : Bool) → (b || among (map line_in ks) g) ≡ true
-              → (among (map line_in ks) g ≡ true → (ys zs : List Kept) → first_of (filter (λ k. k.line == g) ks ++ ys) ≡ first_of (filter (λ k. k.line == g) ks ++ zs))
+              → (among (map line_in ks) g ≡ true → (ys zs : List RecordedLeak) → first_of (filter (λ k. k.line == g) ks ++ ys) ≡ first_of (filter (λ k. k.line == g) ks ++ zs))
               → first_of (cond b (k ∷ filter (λ k. k.line == g) ks) (filter (λ k. k.line == g) ks) ++ ys) ≡ first_of (cond b (k ∷ filter (λ k. k.line == g) ks) (filter (λ k. k.line == g) ks) ++ zs)
           at true is rest = refl
           at false is rest = rest is ys zs
@@ -175,23 +175,23 @@ module _ (x : Kept) (A B : List Kept) (known : among (map line_in A) x.line ≡ 
           some-first A (ap (among (map line_in A)) (sym equal) ∙ known) (x ∷ filter (λ k. k.line == g) B) (filter (λ k. k.line == g) B)
       by false other = refl
 
-  last-with : last_kept (A ++ x ∷ B) ≡ last_kept (A ++ B)
+  last-with : last_recorded (A ++ x ∷ B) ≡ last_recorded (A ++ B)
   last-with = ap (λ g. first_of (filter (λ k. k.line == g) (A ++ x ∷ B))) greatest-with ∙ first-with (greatest (A ++ B))
 
-  pub lines-again : kept_lines_by (ranges_kept (A ++ x ∷ B)) (last_kept (A ++ x ∷ B)) ≡ kept_lines_by (ranges_kept (A ++ B)) (last_kept (A ++ B))
-  lines-again = ap₂ kept_lines_by ranges-with last-with
+  pub lines-again : recorded_lines_by (ranges_recorded (A ++ x ∷ B)) (last_recorded (A ++ x ∷ B)) ≡ recorded_lines_by (ranges_recorded (A ++ B)) (last_recorded (A ++ B))
+  lines-again = ap₂ recorded_lines_by ranges-with last-with
 
 -- ---- all file texts
 
 same-line : (a b : ℕ) → a / 256 ≡ b / 256 → a % 256 ≡ b % 256 → a ≡ b
 same-line a b high low = omega (arith, high, low)
 
-module _ (x : Kept) (P X : List Kept) (known : has_key P (key_of x) ≡ true) where
-  abbrev alike : Kept → Kept → Bool
+module _ (x : RecordedLeak) (P X : List RecordedLeak) (known : has_key P (key_of x) ≡ true) where
+  abbrev alike : RecordedLeak → RecordedLeak → Bool
   alike f k = bytes_eq k.file f.file
 
   -- an earlier leak has the file text and the line
-  key-same : (k : Kept) → bytes_eq (key_of x) (key_of k) ≡ true → (x.file ≡ k.file) × (x.line ≡ k.line)
+  key-same : (k : RecordedLeak) → bytes_eq (key_of x) (key_of k) ≡ true → (x.file ≡ k.file) × (x.line ≡ k.line)
   key-same k is =
       let same = bytes_eq-same (key_of x) (key_of k) is in
       (tail-of same, same-line x.line k.line (ap first-number same) (ap second-number same))
@@ -210,7 +210,7 @@ module _ (x : Kept) (P X : List Kept) (known : has_key P (key_of x) ≡ true) wh
       tail-of : key_of x ≡ key_of k → x.file ≡ k.file
       tail-of same = ap (λ bs. rest (rest bs)) same
 
-  file-known : (ks : List Kept) → has_key ks (key_of x) ≡ true → keyed file_in x.file ks ≡ true
+  file-known : (ks : List RecordedLeak) → has_key ks (key_of x) ≡ true → keyed file_in x.file ks ≡ true
   file-known [] is = is
   file-known (k ∷ ks) is = by (bytes_eq (key_of x) (key_of k)) refl is (file-known ks)
     where
@@ -223,7 +223,7 @@ module _ (x : Kept) (P X : List Kept) (known : has_key P (key_of x) ≡ true) wh
           either true b is = refl
           either false b is = is
 
-  line-known : (f : Kept) → bytes_eq x.file f.file ≡ true → (ks : List Kept) → has_key ks (key_of x) ≡ true → among (map line_in (filter (alike f) ks)) x.line ≡ true
+  line-known : (f : RecordedLeak) → bytes_eq x.file f.file ≡ true → (ks : List RecordedLeak) → has_key ks (key_of x) ≡ true → among (map line_in (filter (alike f) ks)) x.line ≡ true
   line-known f same [] is = is
   line-known f same (k ∷ ks) is = by (bytes_eq (key_of x) (key_of k)) refl is (line-known f same ks)
     where
@@ -245,71 +245,71 @@ module _ (x : Kept) (P X : List Kept) (known : has_key P (key_of x) ≡ true) wh
           ∙ ap (λ b. b || among (map line_in (filter (alike f) ks)) x.line) equal
       by false other is rest = onto (alike f k) (rest is)
 
-  group-again : (f : Kept) → kept_lines (f, filter (alike f) (P ++ x ∷ X)) ≡ kept_lines (f, filter (alike f) (P ++ X))
+  group-again : (f : RecordedLeak) → recorded_lines (f, filter (alike f) (P ++ x ∷ X)) ≡ recorded_lines (f, filter (alike f) (P ++ X))
   group-again f =
-      ap (λ (ks : List Kept). kept_lines (f, ks)) (filter-append (alike f) P (x ∷ X)) ∙ by (alike f x) refl
-      ∙ ap (λ (ks : List Kept). kept_lines (f, ks)) (sym (filter-append (alike f) P X))
+      ap (λ (ks : List RecordedLeak). recorded_lines (f, ks)) (filter-append (alike f) P (x ∷ X)) ∙ by (alike f x) refl
+      ∙ ap (λ (ks : List RecordedLeak). recorded_lines (f, ks)) (sym (filter-append (alike f) P X))
     where
       by : (b : Bool) → alike f x ≡ b
-          → kept_lines (f, filter (alike f) P ++ cond b (x ∷ filter (alike f) X) (filter (alike f) X)) ≡ kept_lines (f, filter (alike f) P ++ filter (alike f) X)
+          → recorded_lines (f, filter (alike f) P ++ cond b (x ∷ filter (alike f) X) (filter (alike f) X)) ≡ recorded_lines (f, filter (alike f) P ++ filter (alike f) X)
       by true is = lines-again x (filter (alike f) P) (filter (alike f) X) (line-known f is P known)
       by false is = refl
 
-  all-again : all_kept_lines (P ++ x ∷ X) ≡ all_kept_lines (P ++ X)
+  all-again : all_recorded_lines (P ++ x ∷ X) ≡ all_recorded_lines (P ++ X)
   all-again =
-      flat-both (with_alike file_in (P ++ x ∷ X)) kept_lines (new_ones file_in [] (P ++ x ∷ X))
-      ∙ ap (flat_map (λ f. kept_lines (with_alike file_in (P ++ x ∷ X) f))) (new-again file_in x X [] P (file-known P known))
-      ∙ flat-same (λ f. kept_lines (with_alike file_in (P ++ x ∷ X) f)) (λ f. kept_lines (with_alike file_in (P ++ X) f)) group-again (new_ones file_in [] (P ++ X))
-      ∙ sym (flat-both (with_alike file_in (P ++ X)) kept_lines (new_ones file_in [] (P ++ X)))
+      flat-both (with_alike file_in (P ++ x ∷ X)) recorded_lines (new_ones file_in [] (P ++ x ∷ X))
+      ∙ ap (flat_map (λ f. recorded_lines (with_alike file_in (P ++ x ∷ X) f))) (new-again file_in x X [] P (file-known P known))
+      ∙ flat-same (λ f. recorded_lines (with_alike file_in (P ++ x ∷ X) f)) (λ f. recorded_lines (with_alike file_in (P ++ X) f)) group-again (new_ones file_in [] (P ++ X))
+      ∙ sym (flat-both (with_alike file_in (P ++ X)) recorded_lines (new_ones file_in [] (P ++ X)))
 
 -- the leaks that are stored have the lines of all
-lines-stored : (P X : List Kept) → all_kept_lines (with_all P X) ≡ all_kept_lines (P ++ X)
-lines-stored P [] = ap all_kept_lines (sym (nothing P))
+lines-stored : (P X : List RecordedLeak) → all_recorded_lines (with_all P X) ≡ all_recorded_lines (P ++ X)
+lines-stored P [] = ap all_recorded_lines (sym (nothing P))
   where
-    nothing : (ks : List Kept) → ks ++ [] ≡ ks
+    nothing : (ks : List RecordedLeak) → ks ++ [] ≡ ks
     nothing [] = refl
-    nothing (k ∷ ks) = ap (λ (zs : List Kept). k ∷ zs) (nothing ks)
+    nothing (k ∷ ks) = ap (λ (zs : List RecordedLeak). k ∷ zs) (nothing ks)
 lines-stored P (x ∷ X) = by (has_key P (key_of x)) refl (lines-stored P X) (lines-stored (P ++ x ∷ []) X)
   where
-    by : (b : Bool) → has_key P (key_of x) ≡ b → all_kept_lines (with_all P X) ≡ all_kept_lines (P ++ X) → all_kept_lines (with_all (P ++ x ∷ []) X) ≡ all_kept_lines ((P ++ x ∷ []) ++ X)
-        → all_kept_lines (with_all (if b then P else P ++ x ∷ []) X) ≡ all_kept_lines (P ++ x ∷ X)
+    by : (b : Bool) → has_key P (key_of x) ≡ b → all_recorded_lines (with_all P X) ≡ all_recorded_lines (P ++ X) → all_recorded_lines (with_all (P ++ x ∷ []) X) ≡ all_recorded_lines ((P ++ x ∷ []) ++ X)
+        → all_recorded_lines (with_all (if b then P else P ++ x ∷ []) X) ≡ all_recorded_lines (P ++ x ∷ X)
     by true known was now = was ∙ sym (all-again x P X known)
-    by false new was now = now ∙ ap all_kept_lines (append_assoc P (x ∷ []) X)
+    by false new was now = now ∙ ap all_recorded_lines (append_assoc P (x ∷ []) X)
 
 -- ---- the definition's lines
 
-lines-are : (ls : List Leak) → map line_in (map kept_of ls) ≡ map line_of ls
-lines-are ls = map-both kept_of line_in ls
+lines-are : (ls : List Leak) → map line_in (map recorded_of ls) ≡ map line_of ls
+lines-are ls = map-both recorded_of line_in ls
 
-leak-lines : (first : Leak) (ls : List Leak) → kept_lines (kept_of first, map kept_of ls) ≡ leak_lines (first, ls)
+leak-lines : (first : Leak) (ls : List Leak) → recorded_lines (recorded_of first, map recorded_of ls) ≡ leak_lines (first, ls)
 leak-lines first ls =
-    ap₂ kept_lines_by
+    ap₂ recorded_lines_by
     (ap (λ ns. join_by range_text (codes ", ") (in_ranges (filter (among ns) (range_with_len 1 (fold max 0 ns))))) (lines-are ls))
-    (ap (λ ns. first_of (filter (λ k. k.line == fold max 0 ns) (map kept_of ls))) (lines-are ls)
-    ∙ ap first_of (filter-map kept_of (λ k. k.line == greatest_line ls) ls) ∙ first-map kept_of (filter (λ leak. line_of leak == greatest_line ls) ls))
+    (ap (λ ns. first_of (filter (λ k. k.line == fold max 0 ns) (map recorded_of ls))) (lines-are ls)
+    ∙ ap first_of (filter-map recorded_of (λ k. k.line == greatest_line ls) ls) ∙ first-map recorded_of (filter (λ leak. line_of leak == greatest_line ls) ls))
     ∙ by (last_leak ls)
   where
-    by : (o : Option Leak) → kept_lines_by (join_by range_text (codes ", ") (in_ranges (lines_leaking ls))) (option_map kept_of o) ≡ Rattle.pv_model.specs.Answers.Exposure.leak_lines_by ls o
+    by : (o : Option Leak) → recorded_lines_by (join_by range_text (codes ", ") (in_ranges (lines_leaking ls))) (option_map recorded_of o) ≡ Rattle.pv_model.specs.Answers.Exposure.leak_lines_by ls o
     by None = refl
     by (Some leak) = refl
 
 abbrev leak_file : Leak → Bytes
 leak_file leak = leak.file
 
-groups-are : (ls : List Leak) → all_kept_lines (map kept_of ls) ≡ flat_map leak_lines (groups leak_file ls)
+groups-are : (ls : List Leak) → all_recorded_lines (map recorded_of ls) ≡ flat_map leak_lines (groups leak_file ls)
 groups-are ls =
-    flat-both (with_alike file_in (map kept_of ls)) kept_lines (new_ones file_in [] (map kept_of ls))
-    ∙ ap (flat_map (λ f. kept_lines (with_alike file_in (map kept_of ls) f))) (new-map kept_of file_in [] ls)
-    ∙ flat-both kept_of (λ f. kept_lines (with_alike file_in (map kept_of ls) f)) (new_ones leak_file [] ls)
-    ∙ flat-same (λ f. kept_lines (with_alike file_in (map kept_of ls) (kept_of f))) (λ f. leak_lines (with_alike leak_file ls f))
-    (λ f. ap (λ (ks : List Kept). kept_lines (kept_of f, ks)) (filter-map kept_of (λ k. bytes_eq k.file f.file) ls) ∙ leak-lines f (filter (λ leak. bytes_eq leak.file f.file) ls))
+    flat-both (with_alike file_in (map recorded_of ls)) recorded_lines (new_ones file_in [] (map recorded_of ls))
+    ∙ ap (flat_map (λ f. recorded_lines (with_alike file_in (map recorded_of ls) f))) (new-map recorded_of file_in [] ls)
+    ∙ flat-both recorded_of (λ f. recorded_lines (with_alike file_in (map recorded_of ls) f)) (new_ones leak_file [] ls)
+    ∙ flat-same (λ f. recorded_lines (with_alike file_in (map recorded_of ls) (recorded_of f))) (λ f. leak_lines (with_alike leak_file ls f))
+    (λ f. ap (λ (ks : List RecordedLeak). recorded_lines (recorded_of f, ks)) (filter-map recorded_of (λ k. bytes_eq k.file f.file) ls) ∙ leak-lines f (filter (λ leak. bytes_eq leak.file f.file) ls))
     (new_ones leak_file [] ls)
     ∙ sym (flat-both (with_alike leak_file ls) leak_lines (new_ones leak_file [] ls))
 
-leaks-mapped : (ls : List Located) → flat_map kept_at ls ≡ map kept_of (flat_map leaks_at ls)
+leaks-mapped : (ls : List Located) → flat_map recorded_at ls ≡ map recorded_of (flat_map leaks_at ls)
 leaks-mapped [] = refl
-leaks-mapped (l ∷ ls) = ap (λ (ks : List Kept). kept_at l ++ ks) (leaks-mapped ls) ∙ sym (map-append kept_of (leaks_at l) (flat_map leaks_at ls))
+leaks-mapped (l ∷ ls) = ap (λ (ks : List RecordedLeak). recorded_at l ++ ks) (leaks-mapped ls) ∙ sym (map-append recorded_of (leaks_at l) (flat_map leaks_at ls))
 
 -- the lines of the stored leaks are those of all leaks
-pub leaks-written : (ls : List Located) → all_kept_lines (with_all [] (flat_map kept_at ls)) ≡ flat_map leak_lines (groups leak_file (flat_map leaks_at ls))
-leaks-written ls = lines-stored [] (flat_map kept_at ls) ∙ ap all_kept_lines (leaks-mapped ls) ∙ groups-are (flat_map leaks_at ls)
+pub leaks-written : (ls : List Located) → all_recorded_lines (with_all [] (flat_map recorded_at ls)) ≡ flat_map leak_lines (groups leak_file (flat_map leaks_at ls))
+leaks-written ls = lines-stored [] (flat_map recorded_at ls) ∙ ap all_recorded_lines (leaks-mapped ls) ∙ groups-are (flat_map leaks_at ls)

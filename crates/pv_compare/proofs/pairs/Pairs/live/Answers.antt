@@ -1,0 +1,19 @@
+use Rattle.std.proofs.Common.{◌∙◌}
+use Rattle.pv_compare.specs.Pairs.{pair_in, pairs_of}
+use Rattle.pv_compare.proofs.LiveOnes.{either-live}
+use Rattle.pv_compare.proofs.Stepped.{first-there, second-there}
+use Rattle.pv_explore.proofs.Followed.{whole-at}
+use Rattle.pv_compare.proofs.pairs.Pairs.live.Goals as goal
+
+pub live-requires : goal.live-requires
+live-requires c = record { there = first-there c.args.self.now c.requires.whole c.args.number c.args.witness.now c.requires.at c.index-numbers.result.now c.index-numbers.ensures }
+
+pub live-requires-2 : goal.live-requires-2
+live-requires-2 c = record { there = second-there c.args.self.now c.requires.whole c.args.number c.args.witness.now c.requires.at c.index-numbers.result.now c.index-numbers.ensures }
+
+pub returns-clause-live : goal.returns-clause-live
+returns-clause-live c =
+    c.in_ok-in_either.ensures
+    ∙ either-live (pair_in (pairs_of c.args.self.now) c.args.witness.now).states c.deref.result.now c.deref-2.result.now
+    (whole-at c.args.self.now.first.first c.args.witness.now c.invariant.ensures) (whole-at c.args.self.now.second.first c.args.witness.now c.invariant-2.ensures)
+    (c.deref.ensures.value ∙ c.in_ok-first.ensures.live) (c.deref-2.ensures.value ∙ c.in_ok-second.ensures.live)
