@@ -1,21 +1,34 @@
 -- A text in memory that a source gives, and the translation of a source.
-use Rattle.std.proofs.Common.{◌≡◌, ◌∙◌, ap, subst, inl, inr, refl, Bool, [], Option, None, Some, Ok, Err}
+use Rattle.std.proofs.Common.{◌≡◌, ◌∙◌, ap, subst, inl, inr, refl, Bool, [], Option, None, Some, Result, Ok, Err}
 use Rattle.std.specs.Prelude.{◌⊎◌, unwrap_or}
 use Rattle.pv_model.specs.declared.stream.Sink.{Ghosts as Writing}
 use Rattle.pv_model.specs.declared.stream.Source.{Ghosts as Reading}
 use Rattle.pv_model.specs.Bytes.{Bytes}
 use Rattle.pv_questions.specs.Answering.{Answer as Text}
+use Rattle.pv_questions.specs.Asking.{AnswersOne, AnswersTwo}
 use Rattle.pv_questions.specs.declared.question.RunQuestion.{RunQuestion}
 use Rattle.pv_questions.specs.declared.stop.AskStop.{AskStop}
 use Rattle.pv_source.specs.declared.source.SourceStop.{SourceStop}
 use Rattle.pv_streams.specs.Sources.{FailsToGive}
 use Rattle.pv_cli_commands.specs.declared.command.ScheduleInput.{ScheduleInput}
 use Rattle.pv_cli_commands.specs.declared.command.ScheduleInput.TheVariants.{File as InFile, Turns as AsTurns}
-use Rattle.pv_cli_commands.specs.declared.fault.Fault.TheVariants.{Source}
+use Rattle.pv_cli_commands.specs.declared.fault.Fault.TheVariants.{Run, Listing, Migrating, Auditing, Asking, Source, Importing, Exporting}
 use Rattle.pv_cli_commands.specs.Asking.{AsksBeside, AsksGiven, AsksUnder, AsksSource, AsksTranslation, AsksTreeSource, GivenText, given_text, whole_text}
-use Rattle.pv_cli_commands.specs.Faults.{Answer}
+use Rattle.pv_cli_commands.specs.Faults.{Answer, IsAsked}
 use Rattle.pv_cli_commands.specs.Sources.{Translates}
 use Rattle.pv_cli_commands.specs.Streams.{Disk}
+
+-- what follows from the result of any question follows from that of this one
+asked_by : {P Q : Result (Unit {0}) AskStop → Type 0} → ((result : Result (Unit {0}) AskStop) → P result → Q result) → (answer : Answer) → IsAsked P answer → IsAsked Q answer
+asked_by f (Ok done) it = f (Ok done) it
+asked_by f (Err (Asking stop)) it = f (Err stop) it
+asked_by f (Err (Run fault)) it = absurd it
+asked_by f (Err (Listing fault)) it = absurd it
+asked_by f (Err (Migrating stop)) it = absurd it
+asked_by f (Err (Auditing stop)) it = absurd it
+asked_by f (Err (Source stop)) it = absurd it
+asked_by f (Err (Importing stop)) it = absurd it
+asked_by f (Err (Exporting fault)) it = absurd it
 
 module _ {S : Type 0} (reading : Reading S) where
   -- the state of a source that gives a text
@@ -29,43 +42,59 @@ module _ {S : Type 0} (reading : Reading S) where
     state_first : state_of first ≡ whole_text text
     state_first = rw (is, new) refl
 
+    fails_or : {P : Type 0} → FailsToGive reading first last ⊎ P → FailsToGive given_text (whole_text text) (state_of last) ⊎ P
+    fails_or (inl gives) = inl (fails gives)
+    fails_or (inr other) = inr other
+
+    module _ {W : Type 0} (writing : Writing W) (may_stop : AskStop → Type 0) (before after : W) (result : Result (Unit {0}) AskStop) where
+      answers_text : (answered_by : Bytes → Text) → AnswersOne reading writing may_stop answered_by first last before after result
+          → AnswersOne given_text writing may_stop answered_by (whole_text text) (state_of last) before after result
+      answers_text answered_by h = record {
+        answered = rw is at h.answered;
+        refused = rw is at h.refused;
+        kind = h.kind;
+        unwritten = h.unwritten;
+        empty = h.empty;
+        stopped = h.stopped;
+        read = λ stop. fails (h.read stop);
+        write = h.write;
+      }
+
+      answers_beside : {T : Type 0} (turns : Reading T) (answered_by : Bytes → Bytes → Text) (given given_last : T)
+          → AnswersTwo reading turns writing may_stop answered_by first last given given_last before after result
+          → AnswersTwo given_text turns writing may_stop answered_by (whole_text text) (state_of last) given given_last before after result
+      answers_beside turns answered_by given given_last h = record {
+        answered = rw is at h.answered;
+        refused = rw is at h.refused;
+        kind = h.kind;
+        unwritten = h.unwritten;
+        empty = h.empty;
+        stopped = h.stopped;
+        read = λ stop. fails_or (h.read stop);
+        write = h.write;
+      }
+
     module _ {W : Type 0} (writing : Writing W) (before after : W) (answer : Answer) where
       -- an answer from the source is one from the text
       pub asks_text : (may_stop : AskStop → Type 0) (answered_by : Bytes → Text) → AsksSource reading writing may_stop answered_by first last before after answer
           → AsksSource given_text writing may_stop answered_by (whole_text text) (state_of last) before after answer
       asks_text may_stop answered_by h = record {
-        answered = rw is at h.answered;
-        refused = rw is at h.refused;
-        kind = h.kind;
-        unwritten = h.unwritten;
+        asked = asked_by (λ result. answers_text writing may_stop before after result answered_by) answer h.asked;
         flushed = h.flushed;
-        read = λ stop. fails (h.read stop);
-        write = h.write;
       }
 
       module _ {F R V : Type 0} (disk : Disk F R V) (files : F) where
         asks_beside : (may_stop : AskStop → Type 0) (answered_by : Bytes → Bytes → Text) (name : Bytes) → AsksBeside disk reading writing may_stop answered_by files name first last before after answer
             → AsksBeside disk given_text writing may_stop answered_by files name (whole_text text) (state_of last) before after answer
-        asks_beside may_stop answered_by name (inl h) =
-            let asks = h.3 in
-            inl (
-              h.0,
-              h.1,
-              h.2,
-              record {
-                answered = rw is at asks.answered;
-                refused = rw is at asks.refused;
-                kind = asks.kind;
-                unwritten = asks.unwritten;
-                flushed = asks.flushed;
-                read = λ stop. by (asks.read stop);
-                write = asks.write;
-              },
-            )
-          where
-            by : {P : Type 0} → FailsToGive reading first last ⊎ P → FailsToGive given_text (whole_text text) (state_of last) ⊎ P
-            by (inl gives) = inl (fails gives)
-            by (inr other) = inr other
+        asks_beside may_stop answered_by name (inl h) = inl (
+          h.0,
+          h.1,
+          h.2,
+          record {
+            asked = asked_by (λ result. answers_beside writing may_stop before after result disk.reading answered_by h.0 h.1) answer h.3.asked;
+            flushed = h.3.flushed;
+          },
+        )
         asks_beside may_stop answered_by name (inr h) = inr (h.0, h.1, ap state_of h.2 ∙ state_first, h.3)
 
         pub asks_given : (question : RunQuestion) (schedule : Option ScheduleInput) → AsksUnder disk reading writing files question schedule first last before after answer

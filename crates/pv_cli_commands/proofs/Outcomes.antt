@@ -14,7 +14,7 @@ use Rattle.pv_model.specs.declared.store_fault.ListFault.TheVariants.{Image as L
 use Rattle.pv_model.specs.declared.store_fault.ListFault.TheVariants as listed
 use Rattle.pv_model.specs.declared.store_fault.MigrateFault.TheVariants.{Image as MigratedImage}
 use Rattle.pv_questions.specs.declared.stop.AskStop.{AskStop}
-use Rattle.pv_questions.specs.declared.stop.AskStop.TheVariants.{Machine as AskedMachine, NoProcess, Audited, File, Write as AnswerWrite, Incomplete}
+use Rattle.pv_questions.specs.declared.stop.AskStop.TheVariants.{Machine as AskedMachine, NoProcess, Audited, File, Write as AnswerWrite, Incomplete, Different}
 use Rattle.pv_run.specs.declared.auditing.AuditStop.{AuditStop}
 use Rattle.pv_run.specs.declared.auditing.AuditStop.TheVariants.{Machine, Path, Write as AuditWrite}
 use Rattle.pv_run.specs.declared.migrating.MigrateStop.{MigrateStop}
@@ -114,6 +114,7 @@ flushed_unwritten (Err (Asking (Audited fault))) waiting h = h
 flushed_unwritten (Err (Asking (File fault))) waiting h = h
 flushed_unwritten (Err (Asking AnswerWrite)) waiting h = tt
 flushed_unwritten (Err (Asking Incomplete)) waiting h = h
+flushed_unwritten (Err (Asking Different)) waiting h = h
 flushed_unwritten (Err (Source unwritten.Read)) waiting h = h
 flushed_unwritten (Err (Source unwritten.Memory)) waiting h = h
 flushed_unwritten (Err (Source unwritten.Refused)) waiting h = h
@@ -145,6 +146,7 @@ flushed_by_status (Asking (Audited fault)) waiting h other = h
 flushed_by_status (Asking (File fault)) waiting h other = h
 flushed_by_status (Asking AnswerWrite) waiting h other = absurd (other refl)
 flushed_by_status (Asking Incomplete) waiting h other = h
+flushed_by_status (Asking Different) waiting h other = h
 flushed_by_status (Source unwritten.Read) waiting h other = h
 flushed_by_status (Source unwritten.Memory) waiting h other = h
 flushed_by_status (Source unwritten.Refused) waiting h other = h

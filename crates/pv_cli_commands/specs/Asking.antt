@@ -1,20 +1,19 @@
 -- Questions about runs and trees.
-use Rattle.std.specs.Prelude.{◌≡◌, ◌≢◌, ◌⊎◌, ⊤, ℕ, Bool, true, false, [], codes, Option, None, Some, Result, Ok, Err, IfSome, OnOk, IfErr}
+use Rattle.std.specs.Prelude.{◌≡◌, ◌≢◌, ◌⊎◌, ⊤, ℕ, Bool, [], codes, Option, None, Some, Result, Ok, Err, IfSome}
 use Rattle.pv_model.specs.declared.run_fault.RunFault.TheVariants.{Read}
 use Rattle.pv_model.specs.declared.stream.Sink.{Ghosts as Writing}
 use Rattle.pv_model.specs.declared.stream.Source.{Ghosts as Reading}
 use Rattle.pv_model.specs.Bytes.{Bytes}
 use Rattle.pv_questions.specs.Answering.{Answer as Text, bundle_answer, image_answer}
-use Rattle.pv_questions.specs.Asking.{IsBundleStop, IsImageStop, IsImageTreeStop, IsManifestTreeStop, AppearsInAnswer, WritesAnswer, WritesNothingUnlessStopped}
+use Rattle.pv_questions.specs.Asking.{AnswersOne, AnswersTwo, IsBundleStop, IsImageStop, IsImageTreeStop, IsManifestTreeStop, ReportsComplete}
 use Rattle.pv_questions.specs.Schedules.{turns_text}
 use Rattle.pv_questions.specs.Trees.{image_tree_answer, image_tree_is_complete, manifest_answer, manifest_tree_answer, manifest_tree_is_complete}
 use Rattle.pv_questions.specs.declared.question.RunQuestion.{RunQuestion}
 use Rattle.pv_questions.specs.declared.question.TreeQuestion.{TreeQuestion}
 use Rattle.pv_questions.specs.declared.stop.AskStop.{AskStop}
-use Rattle.pv_questions.specs.declared.stop.AskStop.TheVariants.{Machine, Write, Incomplete}
+use Rattle.pv_questions.specs.declared.stop.AskStop.TheVariants.{Machine}
 use Rattle.pv_source.specs.declared.source.SourceStop.{SourceStop}
 use Rattle.pv_source.specs.declared.source.SourceStop.TheVariants.{Read as ReadSource}
-use Rattle.pv_streams.specs.Sources.{FailsToGive}
 use Rattle.pv_cli_commands.specs.declared.command.RunInput.{RunInput}
 use Rattle.pv_cli_commands.specs.declared.command.RunInput.TheVariants.{Image as OfImage, Bundle, Manifest as OfManifest}
 use Rattle.pv_cli_commands.specs.declared.command.ScheduleInput.{ScheduleInput}
@@ -24,27 +23,20 @@ use Rattle.pv_cli_commands.specs.declared.command.TextInput.TheVariants.{Plain, 
 use Rattle.pv_cli_commands.specs.declared.command.TreeInput.{TreeInput}
 use Rattle.pv_cli_commands.specs.declared.command.TreeInput.TheVariants.{Image, Manifest}
 use Rattle.pv_cli_commands.specs.declared.fault.Fault.TheVariants.{Asking, Source}
-use Rattle.pv_cli_commands.specs.Faults.{Answer, IsOfAsking}
+use Rattle.pv_cli_commands.specs.Faults.{Answer, IsAsked}
 use Rattle.pv_cli_commands.specs.Sources.{Translates}
 use Rattle.pv_cli_commands.specs.Status.{Flushes}
-use Rattle.pv_cli_commands.specs.Streams.{Disk, FailsToTake, Inputs, IsOpened, IsUnknown, inputs_of}
+use Rattle.pv_cli_commands.specs.Streams.{Disk, Inputs, IsOpened, IsUnknown, inputs_of}
 
--- a question was answered from two sources, whose bytes determine the answer, to a sink; `may_stop` has the possible
--- errors
-pub record AsksTwo {A S W : Type 0} (first_reading : Reading A) (reading : Reading S) (writing : Writing W) (may_stop : AskStop → Type 0)
-    (answered_by : Bytes → Bytes → Text) (first last : A) (turns turns_last : S) (before after : W) (answer : Answer) : Type 0 where
-  -- success: the sink received exactly the answer
-  pub answered : OnOk answer (IfSome (first_reading.remaining first) (λ bytes. IfSome (reading.remaining turns) (λ text.
-      WritesAnswer (answered_by bytes text) (writing.written before) (writing.written after))))
-  -- failure: the error is that of the answer, and nothing was written unless the answer could not be written completely
-  pub refused : IfErr answer (IsOfAsking (λ stop. IfSome (first_reading.remaining first) (λ bytes. IfSome (reading.remaining turns) (λ text.
-      AppearsInAnswer (answered_by bytes text) (writing.written before) (writing.written after) stop))))
-  pub kind : IfErr answer (IsOfAsking may_stop)
-  pub unwritten : IfErr answer (IsOfAsking (WritesNothingUnlessStopped (writing.written before) (writing.written after)))
+-- a question was asked, and everything that was written is flushed, unless a write failed
+pub record AsksBy {W : Type 0} (writing : Writing W) (asks : W → W → Result (Unit {0}) AskStop → Type 0) (before after : W) (answer : Answer) : Type 0 where
+  pub asked : IsAsked (asks before after) answer
   pub flushed : Flushes writing before after answer
-  -- a failed read or write was counted
-  pub read : answer ≡ Err (Asking (Machine Read)) → FailsToGive first_reading first last ⊎ FailsToGive reading turns turns_last
-  pub write : answer ≡ Err (Asking Write) → FailsToTake writing before after
+
+-- a question was answered from two sources, whose bytes determine the answer; `may_stop` has the possible errors
+abbrev pub AsksTwo : {A S W : Type 0} → Reading A → Reading S → Writing W → (AskStop → Type 0) → (Bytes → Bytes → Text) → A → A → S → S → W → W → Answer → Type 0
+AsksTwo first_reading reading writing may_stop answered_by first last turns turns_last =
+    AsksBy writing (AnswersTwo first_reading reading writing may_stop answered_by first last turns turns_last)
 
 -- the same for two files; or a file whose bytes are not known could not be opened
 abbrev pub AsksFiles : {F R V W : Type 0} → Disk F R V → Writing W → (AskStop → Type 0) → (Bytes → Bytes → Text) → F → Inputs Bytes → W → W → Answer → Type 0
@@ -60,18 +52,9 @@ AsksBeside {F} {R} disk reading writing may_stop answered_by files name first la
     × AsksTwo reading disk.reading writing may_stop answered_by first last turns turns_last before after answer)
     ⊎ (IsUnknown disk files name × (answer ≡ Err (Asking (Machine Read))) × (last ≡ first) × (after ≡ before))
 
--- a question was answered from one source, whose bytes determine the answer, to a sink; `may_stop` has the possible
--- errors
-pub record AsksSource {S W : Type 0} (reading : Reading S) (writing : Writing W) (may_stop : AskStop → Type 0) (answered_by : Bytes → Text) (first last : S)
-    (before after : W) (answer : Answer) : Type 0 where
-  pub answered : OnOk answer (IfSome (reading.remaining first) (λ bytes. WritesAnswer (answered_by bytes) (writing.written before) (writing.written after)))
-  pub refused : IfErr answer (IsOfAsking (λ stop. IfSome (reading.remaining first) (λ bytes.
-      AppearsInAnswer (answered_by bytes) (writing.written before) (writing.written after) stop)))
-  pub kind : IfErr answer (IsOfAsking may_stop)
-  pub unwritten : IfErr answer (IsOfAsking (WritesNothingUnlessStopped (writing.written before) (writing.written after)))
-  pub flushed : Flushes writing before after answer
-  pub read : answer ≡ Err (Asking (Machine Read)) → FailsToGive reading first last
-  pub write : answer ≡ Err (Asking Write) → FailsToTake writing before after
+-- a question was answered from one source, whose bytes determine the answer; `may_stop` has the possible errors
+abbrev pub AsksSource : {S W : Type 0} → Reading S → Writing W → (AskStop → Type 0) → (Bytes → Text) → S → S → W → W → Answer → Type 0
+AsksSource reading writing may_stop answered_by first last = AsksBy writing (AnswersOne reading writing may_stop answered_by first last)
 
 -- the same for a file; or a file whose bytes are not known could not be opened
 abbrev pub AsksFile : {F R V W : Type 0} → Disk F R V → Writing W → (AskStop → Type 0) → (Bytes → Text) → F → Bytes → W → W → Answer → Type 0
@@ -96,17 +79,11 @@ manifest_answer_by question turns manifest = manifest_answer question manifest (
 
 -- ---- a question about a tree
 
--- success means that the answer leaves no state out, and `Incomplete` that it leaves one out
-abbrev pub ReportsComplete : Answer → Bool → Type 0
-ReportsComplete (Ok done) complete = complete ≡ true
-ReportsComplete (Err (Asking Incomplete)) complete = complete ≡ false
-ReportsComplete (Err fault) complete = ⊤
-
 -- a question was answered from one source, whose bytes also determine whether the answer leaves no state out
 pub record AsksTreeSource {S W : Type 0} (reading : Reading S) (writing : Writing W) (may_stop : AskStop → Type 0) (answered_by : Bytes → Text)
     (complete_by : Bytes → Bool) (first last : S) (before after : W) (answer : Answer) : Type 0 where
   pub asks : AsksSource reading writing may_stop answered_by first last before after answer
-  pub complete : IfSome (reading.remaining first) (λ bytes. ReportsComplete answer (complete_by bytes))
+  pub complete : IfSome (reading.remaining first) (λ bytes. IsAsked (λ result. ReportsComplete result (complete_by bytes)) answer)
 
 -- the same for a file; or a file whose bytes are not known could not be opened
 abbrev pub AsksTreeFile : {F R V W : Type 0} → Disk F R V → Writing W → (AskStop → Type 0) → (Bytes → Text) → (Bytes → Bool) → F → Bytes → W → W → Answer → Type 0

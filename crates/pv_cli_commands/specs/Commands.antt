@@ -3,10 +3,11 @@ use Rattle.std.specs.Prelude.{◌≡◌, ◌≢◌, ⊤, codes, option_map}
 use Rattle.pv_model.specs.declared.stream.Sink.{Ghosts as Writing}
 use Rattle.pv_model.specs.declared.stream.Source.{Ghosts as Reading}
 use Rattle.pv_cli_commands.specs.declared.command.Command.{Command}
-use Rattle.pv_cli_commands.specs.declared.command.Command.TheVariants.{RunTree, MakeImage, ListImage, RunImage, MigrateImage, ImportDirectory, ExportImage, AuditImage, WriteSource, Ask, AskTree}
+use Rattle.pv_cli_commands.specs.declared.command.Command.TheVariants.{RunTree, MakeImage, ListImage, RunImage, MigrateImage, ImportDirectory, ExportImage, AuditImage, WriteSource, Ask, AskTree, Compare}
 use Rattle.pv_cli_commands.specs.declared.system.HostSystem.{HostSystem}
 use Rattle.pv_cli_commands.specs.Asking.{AsksRun, AsksTree, KeepsRunErrors, KeepsTreeErrors, ReadsRunFiles, ReadsTreeFile}
 use Rattle.pv_cli_commands.specs.Auditing.{AuditsFiles}
+use Rattle.pv_cli_commands.specs.Comparing.{ComparesInputs, ReadsCompareFiles}
 use Rattle.pv_cli_commands.specs.Exporting.{ExportsFile}
 use Rattle.pv_cli_commands.specs.Faults.{Answer}
 use Rattle.pv_cli_commands.specs.Images.{RunsFiles}
@@ -14,14 +15,14 @@ use Rattle.pv_cli_commands.specs.Importing.{ImportsDirectory}
 use Rattle.pv_cli_commands.specs.Listing.{ListsFile}
 use Rattle.pv_cli_commands.specs.Making.{MakesFile}
 use Rattle.pv_cli_commands.specs.Migrating.{MigratesFile, sizes_of}
-use Rattle.pv_cli_commands.specs.Running.{RunsBundle, RunsFile}
+use Rattle.pv_cli_commands.specs.Running.{RunsFile, RunsFrom}
 use Rattle.pv_cli_commands.specs.Sources.{WritesSource, WritesSourceFile}
 use Rattle.pv_cli_commands.specs.Streams.{Disk, Host, inputs_of}
 
 -- the command was carried out or ended early
 abbrev pub Performs : {F R V T I O E : Type 0} → Disk F R V → Host F T → Reading I → Writing O → Writing E → Command → HostSystem F I O E → HostSystem F I O E → Answer → Type 0
 Performs disk host reading writing reporting (RunTree name) before after answer =
-    (name.now ≡ codes "-" → RunsBundle reading writing before.input after.input before.output after.output answer)
+    (name.now ≡ codes "-" → RunsFrom reading writing before.input after.input before.output after.output answer)
     × (name.now ≢ codes "-" → RunsFile disk writing before.files name.now before.output after.output answer)
 Performs disk host reading writing reporting (MakeImage manifest image) before after answer = MakesFile disk before.files manifest.now image.now answer
 Performs disk host reading writing reporting (ListImage image) before after answer = ListsFile disk writing before.files image.now before.output after.output answer
@@ -41,6 +42,8 @@ Performs disk host reading writing reporting (Ask question run) before after ans
     AsksRun disk reading writing reporting before.files question run before.input after.input before.output after.output before.errors after.errors answer
 Performs disk host reading writing reporting (AskTree question tree) before after answer =
     AsksTree disk reading writing reporting before.files question tree before.input after.input before.output after.output before.errors after.errors answer
+Performs disk host reading writing reporting (Compare inputs pairs) before after answer =
+    ComparesInputs disk reading writing before.files inputs pairs before.input after.input before.output after.output answer
 
 -- the command writes only to a file, or makes a directory
 abbrev pub WritesFile : Command → Type 0
@@ -56,6 +59,7 @@ ReadsFiles (RunTree name) = name.now ≢ codes "-"
 ReadsFiles (WriteSource name kind) = name.now ≢ codes "-"
 ReadsFiles (Ask question run) = ReadsRunFiles run
 ReadsFiles (AskTree question tree) = ReadsTreeFile tree
+ReadsFiles (Compare inputs pairs) = ReadsCompareFiles inputs
 ReadsFiles command = ⊤
 
 -- the command reports nothing on the standard error itself

@@ -1,5 +1,5 @@
 -- The errors of each command.
-use Rattle.std.specs.Prelude.{Result}
+use Rattle.std.specs.Prelude.{Result, Ok, Err}
 use Rattle.pv_host_copy.specs.declared.image.ImportStop.{ImportStop}
 use Rattle.pv_host_copy.specs.declared.unpacking.ExportFault.{ExportFault}
 use Rattle.pv_model.specs.declared.run_fault.RunFault.{RunFault}
@@ -15,30 +15,35 @@ use Rattle.pv_cli_commands.specs.declared.fault.Fault.TheVariants.{Run, Listing,
 abbrev pub Answer : Type 0
 Answer = Result (Unit {0}) Fault
 
--- the error is of a run and satisfies the predicate
-abbrev pub IsOfRun : (RunFault → Type 0) → Fault → Type 0
-IsOfRun holds (Run fault) = holds fault
-IsOfRun holds fault = ⊥
+-- the result of a command is that of a run, which satisfies the predicate
+abbrev pub IsRun : {A : Type 0} → (Result A RunFault → Type 0) → Answer → Type 0
+IsRun {A} holds (Ok done) = (value : A) × holds (Ok value)
+IsRun {A} holds (Err (Run fault)) = holds (Err fault)
+IsRun {A} holds (Err fault) = ⊥
 
--- the error is of a listing and satisfies the predicate
-abbrev pub IsOfListing : (ListFault → Type 0) → Fault → Type 0
-IsOfListing holds (Listing fault) = holds fault
-IsOfListing holds fault = ⊥
+-- the result of a command is that of a listing, which satisfies the predicate
+abbrev pub IsListed : (Result (Unit {0}) ListFault → Type 0) → Answer → Type 0
+IsListed holds (Ok done) = holds (Ok done)
+IsListed holds (Err (Listing fault)) = holds (Err fault)
+IsListed holds (Err fault) = ⊥
 
--- the error is of a migration and satisfies the predicate
-abbrev pub IsOfMigrating : (MigrateStop → Type 0) → Fault → Type 0
-IsOfMigrating holds (Migrating stop) = holds stop
-IsOfMigrating holds fault = ⊥
+-- the result of a command is that of a migration, which satisfies the predicate
+abbrev pub IsMigrated : (Result (Unit {0}) MigrateStop → Type 0) → Answer → Type 0
+IsMigrated holds (Ok done) = holds (Ok done)
+IsMigrated holds (Err (Migrating stop)) = holds (Err stop)
+IsMigrated holds (Err fault) = ⊥
 
--- the error is of an audit and satisfies the predicate
-abbrev pub IsOfAuditing : (AuditStop → Type 0) → Fault → Type 0
-IsOfAuditing holds (Auditing stop) = holds stop
-IsOfAuditing holds fault = ⊥
+-- the result of a command is that of an audit, which satisfies the predicate
+abbrev pub IsAudited : (Result (Unit {0}) AuditStop → Type 0) → Answer → Type 0
+IsAudited holds (Ok done) = holds (Ok done)
+IsAudited holds (Err (Auditing stop)) = holds (Err stop)
+IsAudited holds (Err fault) = ⊥
 
--- the error is of a question and satisfies the predicate
-abbrev pub IsOfAsking : (AskStop → Type 0) → Fault → Type 0
-IsOfAsking holds (Asking stop) = holds stop
-IsOfAsking holds fault = ⊥
+-- the result of a command is that of a question, which satisfies the predicate
+abbrev pub IsAsked : (Result (Unit {0}) AskStop → Type 0) → Answer → Type 0
+IsAsked holds (Ok done) = holds (Ok done)
+IsAsked holds (Err (Asking stop)) = holds (Err stop)
+IsAsked holds (Err fault) = ⊥
 
 -- the error is of a source and satisfies the predicate
 abbrev pub IsOfSource : (SourceStop → Type 0) → Fault → Type 0

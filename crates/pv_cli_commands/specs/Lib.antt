@@ -1,6 +1,7 @@
 pub mod Asking
 pub mod Auditing
 pub mod Commands
+pub mod Comparing
 pub mod Created
 pub mod Exporting
 pub mod Faults

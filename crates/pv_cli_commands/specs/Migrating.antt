@@ -1,16 +1,14 @@
 -- Migration of images from version 1 to version 2.
-use Rattle.std.specs.Prelude.{◌≡◌, ◌⊎◌, ℕ, Result, Ok, Err, IfSome, OnOk, IfErr}
+use Rattle.std.specs.Prelude.{◌≡◌, ◌⊎◌, ℕ, Err}
 use Rattle.pv_model.specs.declared.store_fault.MigrateFault.TheVariants.{Memory}
 use Rattle.pv_model.specs.declared.stream.Sink.{Ghosts as Writing}
 use Rattle.pv_model.specs.declared.stream.Source.{Ghosts as Reading}
 use Rattle.pv_model.specs.Bytes.{Bytes}
-use Rattle.pv_image.specs.Migrated.{migrated}
-use Rattle.pv_run.specs.declared.migrating.MigrateStop.TheVariants.{Read, Refused, Write}
-use Rattle.pv_run.specs.Migrating.{HasMigrated, IsMigrateStop, AppearsInOldImage, WritesNothingUnlessBroken}
-use Rattle.pv_streams.specs.Sources.{FailsToGive}
+use Rattle.pv_run.specs.declared.migrating.MigrateStop.TheVariants.{Read, Refused}
+use Rattle.pv_run.specs.Migrating.{MigratesImage}
 use Rattle.pv_cli_commands.specs.declared.fault.Fault.TheVariants.{Migrating}
-use Rattle.pv_cli_commands.specs.Faults.{Answer, IsOfMigrating}
-use Rattle.pv_cli_commands.specs.Streams.{Disk, FailsToTake, IsCreatedOn, IsOpened, IsUnknown}
+use Rattle.pv_cli_commands.specs.Faults.{Answer, IsMigrated}
+use Rattle.pv_cli_commands.specs.Streams.{Disk, IsCreatedOn, IsOpened, IsUnknown}
 
 -- the sizes of the new image
 pub record Sizes : Type 0 where
@@ -21,25 +19,13 @@ abbrev pub sizes_of : ℕ → ℕ → Sizes
 sizes_of blocks inodes = record { blocks = blocks; inodes = inodes }
 
 -- an image of version 2 with these sizes was made from an image of version 1, from a source to a sink
-pub record MigratesImage {S W : Type 0} (reading : Reading S) (writing : Writing W) (first last : S) (sizes : Sizes) (before after : W) (answer : Answer) : Type 0 where
-  -- success: the sink received exactly bytes that hold the migrated tree, all of them flushed
-  pub made : OnOk answer (IfSome (reading.remaining first) (λ bytes.
-      HasMigrated (migrated bytes sizes.blocks sizes.inodes) (writing.written before) (writing.written after)))
-  pub flushed : OnOk answer (writing.buffered after ≡ 0)
-  -- failure: the error is the first of the bytes and the sizes, and nothing was written unless the new image could not
-  -- be written completely
-  pub refused : IfErr answer (IsOfMigrating (λ stop. IfSome (reading.remaining first) (λ bytes.
-      AppearsInOldImage (migrated bytes sizes.blocks sizes.inodes) (writing.written before) (writing.written after) stop)))
-  pub kind : IfErr answer (IsOfMigrating IsMigrateStop)
-  pub unwritten : IfErr answer (IsOfMigrating (WritesNothingUnlessBroken (writing.written before) (writing.written after)))
-  -- a failed read or write was counted
-  pub read : answer ≡ Err (Migrating Read) → FailsToGive reading first last
-  pub write : answer ≡ Err (Migrating Write) → FailsToTake writing before after
+pub record MigratesFrom {S W : Type 0} (reading : Reading S) (writing : Writing W) (first last : S) (sizes : Sizes) (before after : W) (answer : Answer) : Type 0 where
+  pub made : IsMigrated (MigratesImage reading writing sizes.blocks sizes.inodes first last before after) answer
 
 -- the image in a file was migrated to the file with a name; or a file whose bytes are not known could not be opened, or
 -- there was no memory for the name
 abbrev pub MigratesFile : {F R V : Type 0} → Disk F R V → F → (image out : Bytes) → Sizes → Answer → Type 0
 MigratesFile {F} {R} {V} disk files image out sizes answer =
     ((first last : R) × (before after : V) × IsOpened disk files image first × IsCreatedOn disk out before
-    × MigratesImage disk.reading disk.writing first last sizes before after answer)
+    × MigratesFrom disk.reading disk.writing first last sizes before after answer)
     ⊎ ((IsUnknown disk files image × (answer ≡ Err (Migrating Read))) ⊎ (answer ≡ Err (Migrating (Refused Memory))))

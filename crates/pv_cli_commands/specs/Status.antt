@@ -1,5 +1,5 @@
 -- The exit status of a command: 0 for success, 1 for invalid input, 3 for out of memory, 4 for a failed read or write, 5
--- for a search that left a state out.
+-- for a search that left a state out, 6 for a comparison that found a difference.
 use Rattle.std.specs.Prelude.{◌≡◌, ⊤, ℕ, Bool, true, false, Result, Ok, Err}
 use Rattle.pv_host_copy.specs.declared.image.ImportStop.{ImportStop}
 use Rattle.pv_host_copy.specs.declared.image.ImportStop.TheVariants as unimported
@@ -15,7 +15,7 @@ use Rattle.pv_model.specs.declared.store_fault.MigrateFault.TheVariants.{Image a
 use Rattle.pv_model.specs.declared.stream.Sink.{Ghosts as Writing}
 use Rattle.pv_questions.specs.Asking.{BufferedOnlyIfUnwritten as BufferedOnlyIfUnanswered}
 use Rattle.pv_questions.specs.declared.stop.AskStop.{AskStop}
-use Rattle.pv_questions.specs.declared.stop.AskStop.TheVariants.{Machine as AskedMachine, NoProcess, Audited, File, Write as AnswerWrite, Incomplete}
+use Rattle.pv_questions.specs.declared.stop.AskStop.TheVariants.{Machine as AskedMachine, NoProcess, Audited, File, Write as AnswerWrite, Incomplete, Different}
 use Rattle.pv_run.specs.Auditing.{BufferedOnlyIfUnwritten as BufferedOnlyIfUnaudited}
 use Rattle.pv_run.specs.Listings.{BufferedOnlyIfUnlisted}
 use Rattle.pv_run.specs.Run.{BufferedOnlyIfCut}
@@ -68,6 +68,7 @@ ask_status_of (Audited fault) = 1
 ask_status_of (File fault) = 1
 ask_status_of AnswerWrite = 4
 ask_status_of Incomplete = 5
+ask_status_of Different = 6
 
 abbrev pub source_status_of : SourceStop → ℕ
 source_status_of unwritten.Read = 4
@@ -102,9 +103,10 @@ status_of (Importing stop) = import_status_of stop
 status_of (Exporting fault) = export_status_of fault
 
 -- the error is already reported: the lines in error of a source, the entries that an image can't have, the entries that
--- could not be exported, and an answer whose text reports that the search is not complete
+-- could not be exported, and an answer whose text reports that the search is not complete or found a difference
 abbrev pub is_reported : Fault → Bool
 is_reported (Asking Incomplete) = true
+is_reported (Asking Different) = true
 is_reported (Source unwritten.Refused) = true
 is_reported (Importing unimported.Refused) = true
 is_reported (Exporting unexported.Make) = true

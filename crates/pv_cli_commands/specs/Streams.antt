@@ -1,12 +1,11 @@
 -- The files, directories, sources and sinks of a command, as contracts see them.
-use Rattle.std.specs.Prelude.{◌≡◌, ◌⊎◌, List, Option, None}
+use Rattle.std.specs.Prelude.{◌≡◌, List, Option, None}
 use Rattle.pv_host_copy.specs.Hosts.{HostEntries}
 use Rattle.pv_model.specs.declared.stream.Sink.{Ghosts as Writing}
 use Rattle.pv_model.specs.declared.stream.Source.{Ghosts as Reading}
 use Rattle.pv_model.specs.Bytes.{Bytes}
 use Rattle.pv_model.specs.Manifest.{Entry}
 use Rattle.pv_model.specs.Stream.{Rose}
-use Rattle.pv_streams.specs.Sources.{FailsToGive}
 use Rattle.pv_cli_commands.specs.declared.system.Files.{Ghosts as Filing}
 use Rattle.pv_cli_commands.specs.Created.{IsCreated, IsEmptied}
 
@@ -29,10 +28,6 @@ pub record Outputs (W O : Type 0) : Type 0 where
 
 abbrev pub outputs_of : {W O : Type 0} → W → O → Outputs W O
 outputs_of trace image = record { trace = trace; image = image }
-
--- the source of an image or of a schedule failed, or gave more bytes than allowed
-abbrev pub OneFailsToGive : {S : Type 0} → Reading S → Inputs S → Inputs S → Type 0
-OneFailsToGive reading first last = FailsToGive reading first.image last.image ⊎ FailsToGive reading first.schedule last.schedule
 
 -- all files, a file that is read, and a file that is written
 pub record Disk (F R V : Type 0) : Type 1 where

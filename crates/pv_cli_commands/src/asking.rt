@@ -63,8 +63,10 @@ fn ask_image_by<S: Source, W: Sink>(
 ) -> Result<(), Fault>
     ensures { AsksSource S.Source W.Sink IsImageStop (image_answer_by question.entry turns.now) image.old image.new out.old out.new result }
 {
-    ask_by(alloc, question, image, turns.as_bytes(), out)?;
-    Ok(())
+    match ask_by(alloc, question, image, turns.as_bytes(), out) {
+        Ok(()) => Ok(()),
+        Err(stop) => Err(Fault::Asking(stop)),
+    }
 }
 
 // Answers a question about the run of turns on the image in a file.
@@ -145,8 +147,10 @@ pub(crate) fn ask_under_by<S: Source, W: Sink>(
 ) -> Result<(), Fault>
     ensures { AsksSource S.Source W.Sink IsBundleStop (manifest_answer_by question.entry turns.now) manifest.old manifest.new out.old out.new result }
 {
-    ask_manifest_by(alloc, question, manifest, turns.as_bytes(), out)?;
-    Ok(())
+    match ask_manifest_by(alloc, question, manifest, turns.as_bytes(), out) {
+        Ok(()) => Ok(()),
+        Err(stop) => Err(Fault::Asking(stop)),
+    }
 }
 
 // Answers a question about the run of turns on the tree of the manifest in a file.

@@ -1,6 +1,6 @@
 //! Audits of images.
 ghost use Rattle.std.specs.Prelude.{◌≡◌, option_map};
-ghost use Rattle.pv_cli_commands.specs.Auditing.{AuditsFiles, AuditsImage};
+ghost use Rattle.pv_cli_commands.specs.Auditing.{AuditsFiles, AuditsFrom};
 ghost use Rattle.pv_cli_commands.specs.Streams.{disk_of, inputs_of};
 
 use crate::fault::Fault;
@@ -18,7 +18,7 @@ fn audit_from<S: Source, W: Sink>(
     path: Option<&[u8]>,
     out: &mut W,
 ) -> Result<(), Fault>
-    ensures { AuditsImage S.Source W.Sink (inputs_of image.old schedule.old) (inputs_of image.new schedule.new)
+    ensures { AuditsFrom S.Source W.Sink (inputs_of image.old schedule.old) (inputs_of image.new schedule.new)
         (option_map (λ bytes. bytes.now) path.entry) out.old out.new result }
 {
     audit_image(alloc, image, schedule, path, out)?;

@@ -52,6 +52,25 @@ pub enum TreeInput<'a> {
     Manifest(TextInput<'a>),
 }
 
+/// Two inputs that are compared.
+#[derive(Clone, Copy, Debug, PartialEq, Eq)]
+pub enum CompareInput<'a> {
+    /// Two images.
+    Images {
+        /// The file of the first image.
+        first: &'a str,
+        /// The file of the second image.
+        second: &'a str,
+    },
+    /// Two bundles or manifests. The file `-` is the standard input.
+    Bundles {
+        /// The file of the first bundle.
+        first: &'a str,
+        /// The file of the second bundle.
+        second: &'a str,
+    },
+}
+
 /// A command.
 #[derive(Clone, Copy, Debug, PartialEq, Eq)]
 pub enum Command<'a> {
@@ -133,5 +152,12 @@ pub enum Command<'a> {
         question: TreeQuestion<'a>,
         /// The input that has the tree.
         tree: TreeInput<'a>,
+    },
+    /// Compares what two inputs let happen under all schedules.
+    Compare {
+        /// The inputs.
+        inputs: CompareInput<'a>,
+        /// The maximum number of visited pairs of states: 0 counts as 1.
+        pairs: u32,
     },
 }

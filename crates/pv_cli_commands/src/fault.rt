@@ -180,6 +180,7 @@ fn ask_status(stop: AskStop) -> u8
         AskStop::NoProcess | AskStop::Audited(_) | AskStop::File(_) => 1,
         AskStop::Write => 4,
         AskStop::Incomplete => 5,
+        AskStop::Different => 6,
     }
 }
 
@@ -218,8 +219,8 @@ fn export_status(fault: ExportFault) -> u8
 }
 
 impl Fault {
-    /// Returns the exit status: 1 for invalid input, 3 for out of memory, 4 for a failed read or write, and 5 for a
-    /// search that left a state out.
+    /// Returns the exit status: 1 for invalid input, 3 for out of memory, 4 for a failed read or write, 5 for a search that
+    /// left a state out, and 6 for a comparison that found a difference.
     pub fn status(&self) -> u8
         ensures { result ≡ status_of self.now }
     {
@@ -237,13 +238,13 @@ impl Fault {
 
     /// Returns whether the error is already reported. This is so for a source with lines in error, for a directory with
     /// an entry that an image can't have, for an image with an entry that could not be exported, and for a search that
-    /// left a state out, whose text reports it.
+    /// left a state out or found a difference, whose text reports it.
     pub fn is_reported(&self) -> bool
         ensures { result ≡ is_reported self.now }
     {
         matches!(
             self,
-            Fault::Asking(AskStop::Incomplete)
+            Fault::Asking(AskStop::Incomplete | AskStop::Different)
                 | Fault::Source(SourceStop::Refused)
                 | Fault::Importing(ImportStop::Refused)
                 | Fault::Exporting(ExportFault::Make)

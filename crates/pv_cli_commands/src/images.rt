@@ -1,5 +1,5 @@
 //! Runs on images.
-ghost use Rattle.pv_cli_commands.specs.Images.{RunsFiles, RunsImage};
+ghost use Rattle.pv_cli_commands.specs.Images.{RunsFiles, RunsImageFrom};
 ghost use Rattle.pv_cli_commands.specs.Streams.{disk_of, inputs_of, outputs_of};
 
 use crate::fault::Fault;
@@ -16,7 +16,7 @@ fn run_from<S: Source, W: Sink, O: Sink>(
     trace: &mut W,
     out: &mut O,
 ) -> Result<(), Fault>
-    ensures { RunsImage S.Source W.Sink O.Sink (inputs_of image.old schedule.old) (inputs_of image.new schedule.new)
+    ensures { RunsImageFrom S.Source W.Sink O.Sink (inputs_of image.old schedule.old) (inputs_of image.new schedule.new)
         (outputs_of trace.old out.old) (outputs_of trace.new out.new) result }
 {
     pv_run::run(alloc, image, schedule, trace, out)?;

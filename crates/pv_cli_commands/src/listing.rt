@@ -1,5 +1,5 @@
 //! Listings of images.
-ghost use Rattle.pv_cli_commands.specs.Listing.{ListsFile, ListsImage};
+ghost use Rattle.pv_cli_commands.specs.Listing.{ListsFile, ListsFrom};
 ghost use Rattle.pv_cli_commands.specs.Streams.{disk_of};
 
 use crate::fault::Fault;
@@ -11,7 +11,7 @@ use std::alloc::Global;
 
 // Lists the image in a source.
 fn list_from<S: Source, W: Sink>(alloc: Global, image: &mut S, out: &mut W) -> Result<(), Fault>
-    ensures { ListsImage S.Source W.Sink image.old image.new out.old out.new result }
+    ensures { ListsFrom S.Source W.Sink image.old image.new out.old out.new result }
 {
     list(alloc, image, out)?;
     Ok(())

@@ -1,5 +1,5 @@
 //! Images of manifests.
-ghost use Rattle.pv_cli_commands.specs.Making.{MakesFile, MakesImage};
+ghost use Rattle.pv_cli_commands.specs.Making.{MakesFile, MakesFrom};
 ghost use Rattle.pv_cli_commands.specs.Streams.{disk_of};
 
 use crate::fault::Fault;
@@ -15,7 +15,7 @@ fn make_from<S: Source, W: Sink>(
     manifest: &mut S,
     image: &mut W,
 ) -> Result<(), Fault>
-    ensures { MakesImage S.Source W.Sink manifest.old manifest.new image.old image.new result }
+    ensures { MakesFrom S.Source W.Sink manifest.old manifest.new image.old image.new result }
 {
     make_image(alloc, manifest, image)?;
     Ok(())

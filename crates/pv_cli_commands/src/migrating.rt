@@ -1,5 +1,5 @@
 //! Migration of images from version 1 to version 2.
-ghost use Rattle.pv_cli_commands.specs.Migrating.{MigratesFile, MigratesImage, sizes_of};
+ghost use Rattle.pv_cli_commands.specs.Migrating.{MigratesFile, MigratesFrom, sizes_of};
 ghost use Rattle.pv_cli_commands.specs.Streams.{disk_of};
 
 use crate::fault::Fault;
@@ -17,7 +17,7 @@ fn migrate_from<S: Source, W: Sink>(
     inodes: u32,
     out: &mut W,
 ) -> Result<(), Fault>
-    ensures { MigratesImage S.Source W.Sink image.old image.new (sizes_of blocks inodes) out.old out.new result }
+    ensures { MigratesFrom S.Source W.Sink image.old image.new (sizes_of blocks inodes) out.old out.new result }
 {
     migrate_image(alloc, image, blocks, inodes, out)?;
     Ok(())

@@ -7,6 +7,7 @@ ghost use Rattle.pv_cli_commands.specs.Streams.{disk_of, host_of};
 use crate::asking::{ask_run, ask_tree_of};
 use crate::auditing::audit_files;
 use crate::command::Command;
+use crate::comparing::compare_inputs;
 use crate::directories::Directories;
 use crate::exporting::export_file;
 use crate::fault::Fault;
@@ -49,16 +50,20 @@ use std::alloc::Global;
 ///   by a source, whose translation is then the bundle. The lines of the source are reported as for `WriteSource`.
 /// - `AskTree` writes the answer to a question about a tree to the standard output: the tree of the image in a file, of
 ///   the manifest in a file, or of the manifest on the standard input for `-`. A source may give the manifest, too.
+/// - `Compare` writes whether the steps of the machines on two images, or on the trees of two bundles, differ under some
+///   schedule.
 ///
 /// Everything that was written to the standard output is flushed, unless a write to it failed. A search of states reports to `progress`.
 ///
 /// # Errors
 ///
-/// A file cannot be opened or read, the input is invalid, there is no memory, the output cannot be written, or a search
-/// left a state out. If the input is invalid, nothing was written; if a state was left out, the whole answer was written.
+/// A file cannot be opened or read, the input is invalid, there is no memory, the output cannot be written, a search left
+/// a state out, or a comparison found a difference. If the input is invalid, nothing was written; in the last two cases,
+/// the whole answer was written.
 /// The variant is `Listing` for `ListImage`, `Migrating` for `MigrateImage`,
 /// `Importing` for `ImportDirectory`, `Exporting` for `ExportImage`, `Auditing` for `AuditImage`, `Source` for
-/// `WriteSource` and for a source that is not translated, `Asking` for `Ask` and `AskTree`, and `Run` for the others.
+/// `WriteSource` and for a source that is not translated, `Asking` for `Ask`, `AskTree` and `Compare`, and `Run` for the
+/// others.
 #[tactic(auto, using(crate::proofs::Outcomes::failed_with_status, crate::proofs::Outcomes::flushed_unwritten))]
 pub fn perform<
     F: Files + Directories + Drop,
@@ -131,6 +136,9 @@ pub fn perform<
             ask_tree_of(
                 alloc, files, input, question, tree, progress, output, errors,
             )
+        }
+        Command::Compare { inputs, pairs } => {
+            compare_inputs(alloc, files, input, inputs, pairs, progress, output)
         }
     }
 }

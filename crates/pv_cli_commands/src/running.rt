@@ -1,5 +1,5 @@
 //! Runs of bundles.
-ghost use Rattle.pv_cli_commands.specs.Running.{RunsBundle, RunsFile};
+ghost use Rattle.pv_cli_commands.specs.Running.{RunsFile, RunsFrom};
 ghost use Rattle.pv_cli_commands.specs.Streams.{disk_of};
 
 use crate::fault::Fault;
@@ -15,7 +15,7 @@ pub(crate) fn run_from<S: Source, W: Sink>(
     bundle: &mut S,
     trace: &mut W,
 ) -> Result<(), Fault>
-    ensures { RunsBundle S.Source W.Sink bundle.old bundle.new trace.old trace.new result }
+    ensures { RunsFrom S.Source W.Sink bundle.old bundle.new trace.old trace.new result }
 {
     run_tree(alloc, bundle, trace)?;
     Ok(())

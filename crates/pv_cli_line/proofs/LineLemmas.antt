@@ -15,7 +15,8 @@ use Rattle.clap.specs.declared.parser.matches.ArgMatches.TheViews.{out-SubComman
 use Rattle.clap.proofs.OnLiterals.{clap_on_literals}
 use Rattle.clap.specs.Words.{is_simple, is_simple_and_free, matches_of, subcommand_of}
 use Rattle.pv_cli_commands.specs.declared.command.Command.{Command}
-use Rattle.pv_cli_commands.specs.declared.command.Command.TheVariants.{RunTree, MakeImage, ListImage, RunImage, MigrateImage, ImportDirectory, ExportImage, AuditImage, WriteSource, Ask, AskTree}
+use Rattle.pv_cli_commands.specs.declared.command.Command.TheVariants.{RunTree, MakeImage, ListImage, RunImage, MigrateImage, ImportDirectory, ExportImage, AuditImage, WriteSource, Ask, AskTree, Compare}
+use Rattle.pv_cli_commands.specs.declared.command.CompareInput.{CompareInput}
 use Rattle.pv_cli_commands.specs.declared.command.RunInput.{RunInput}
 use Rattle.pv_cli_commands.specs.declared.command.RunInput.TheVariants.{Image as OfImage, Bundle}
 use Rattle.pv_cli_commands.specs.declared.command.ScheduleInput.TheVariants.{File as InFile}
@@ -33,7 +34,7 @@ use Rattle.pv_cli_line.specs.declared.command.CommandLine.{CommandLine}
 use Rattle.pv_cli_line.specs.declared.command.LineFault.{LineFault}
 use Rattle.pv_cli_line.specs.declared.command.LineFault.TheVariants as line
 use Rattle.pv_cli_line.specs.declared.matches.Migration.{Migration}
-use Rattle.pv_cli_line.specs.Line.{AreFaultyTurns, HasTexts, IsCommandIn, IsMigrationOf, IsPlain, IsQuestionIn, IsRefused, IsTextIn, IsTextless, IsTreeIn, IsValidIn, IsValidTreeIn, IsWithoutNumbers, RefusesLine, RefusesTurns, RefusesTurnsOf, RefusesWords, entered_text, is_verbose_in, is_verbose_line, of_kind, of_parser, search_name, turns_of}
+use Rattle.pv_cli_line.specs.Line.{AreComparedIn, AreFaultyTurns, HasTexts, IsCommandIn, IsMigrationOf, IsPlain, IsQuestionIn, IsRefused, IsTextIn, IsTextless, IsTreeIn, IsValidIn, IsValidTreeIn, IsWithoutNumbers, RefusesLine, RefusesTurns, RefusesTurnsOf, RefusesWords, entered_text, is_verbose_in, is_verbose_line, of_kind, of_parser, search_name, turns_of}
 use Rattle.pv_cli_line.specs.Parser.{pvsim_app}
 
 module _ {Z : Type 0} where
@@ -99,6 +100,7 @@ module _ (entered : Option (Text × List Row)) where
   no_plain_command source made ran exports (AuditImage image schedule path) plain is = absurd plain
   no_plain_command source made ran exports (Ask question run) plain is = absurd plain
   no_plain_command source made ran exports (AskTree question tree-of) plain is = absurd plain
+  no_plain_command source made ran exports (Compare inputs pairs) plain is = absurd plain
 
   pub no_command :
       ((command : Command) → IsPlain command → IsCommandIn entered command → ⊥) → ((tree : TreeInput) → IsValidTreeIn entered (codes "ls") tree → ⊥)
@@ -119,6 +121,7 @@ module _ (entered : Option (Text × List Row)) where
   no_command plain list cat (AskTree (File path) tree) without is = cat path.now tree is
   no_command plain list cat (AskTree (Turns slice steps) tree) without is = absurd without
   no_command plain list cat (AskTree (OfSearch search states) tree) without is = absurd without
+  no_command plain list cat (Compare inputs pairs) without is = absurd without
 
   pub no_command_at_all :
       ((command : Command) → IsWithoutNumbers command → IsCommandIn entered command → ⊥)
@@ -126,23 +129,25 @@ module _ (entered : Option (Text × List Row)) where
       → ((directory image : Text) → entered_text entered (codes "import") (codes "DIR") ≡ Some directory → entered_text entered (codes "import") (codes "IMAGE") ≡ Some image → ⊥)
       → ((tree : TreeInput) → IsValidTreeIn entered (codes "turns") tree → ⊥)
       → ((search : Search) (tree : TreeInput) → IsValidTreeIn entered (search_name search) tree → ⊥)
+      → ((inputs : CompareInput) → AreComparedIn entered inputs → ⊥)
       → ((question : Question) (run : RunInput) → IsQuestionIn entered question run → ⊥)
       → (command : Command) → IsCommandIn entered command → ⊥
-  no_command_at_all other migrates imports turns searches asks (RunTree file) is = asks Trace (Bundle (Plain file)) is.0
-  no_command_at_all other migrates imports turns searches asks (WriteSource file kind) is = other (WriteSource file kind) tt is
-  no_command_at_all other migrates imports turns searches asks (ListImage image) is = other (ListImage image) tt is
-  no_command_at_all other migrates imports turns searches asks (MakeImage manifest image) is = other (MakeImage manifest image) tt is
-  no_command_at_all other migrates imports turns searches asks (RunImage image schedule out) is = other (RunImage image schedule out) tt is
-  no_command_at_all other migrates imports turns searches asks (ExportImage image directory) is = other (ExportImage image directory) tt is
-  no_command_at_all other migrates imports turns searches asks (AuditImage image schedule path) is = asks (Audit path) (OfImage image (InFile schedule)) is.0
-  no_command_at_all other migrates imports turns searches asks (MigrateImage image out blocks inodes) is =
+  no_command_at_all other migrates imports turns searches compares asks (RunTree file) is = asks Trace (Bundle (Plain file)) is.0
+  no_command_at_all other migrates imports turns searches compares asks (WriteSource file kind) is = other (WriteSource file kind) tt is
+  no_command_at_all other migrates imports turns searches compares asks (ListImage image) is = other (ListImage image) tt is
+  no_command_at_all other migrates imports turns searches compares asks (MakeImage manifest image) is = other (MakeImage manifest image) tt is
+  no_command_at_all other migrates imports turns searches compares asks (RunImage image schedule out) is = other (RunImage image schedule out) tt is
+  no_command_at_all other migrates imports turns searches compares asks (ExportImage image directory) is = other (ExportImage image directory) tt is
+  no_command_at_all other migrates imports turns searches compares asks (AuditImage image schedule path) is = asks (Audit path) (OfImage image (InFile schedule)) is.0
+  no_command_at_all other migrates imports turns searches compares asks (MigrateImage image out blocks inodes) is =
       migrates image.now out.now is.2.word is.3.word (record { has_image = is.0; has_out = is.1; has_blocks = is.2.is_entered; has_inodes = is.3.is_entered })
-  no_command_at_all other migrates imports turns searches asks (ImportDirectory directory image version skips) is = imports directory.now image.now is.0 is.1
-  no_command_at_all other migrates imports turns searches asks (Ask question run) is = asks question.question run is.0
-  no_command_at_all other migrates imports turns searches asks (AskTree Listing tree) is = other (AskTree Listing tree) tt is
-  no_command_at_all other migrates imports turns searches asks (AskTree (File path) tree) is = other (AskTree (File path) tree) tt is
-  no_command_at_all other migrates imports turns searches asks (AskTree (Turns slice steps) tree) is = turns tree is.0
-  no_command_at_all other migrates imports turns searches asks (AskTree (OfSearch search states) tree) is = searches search tree is.0
+  no_command_at_all other migrates imports turns searches compares asks (ImportDirectory directory image version skips) is = imports directory.now image.now is.0 is.1
+  no_command_at_all other migrates imports turns searches compares asks (Ask question run) is = asks question.question run is.0
+  no_command_at_all other migrates imports turns searches compares asks (AskTree Listing tree) is = other (AskTree Listing tree) tt is
+  no_command_at_all other migrates imports turns searches compares asks (AskTree (File path) tree) is = other (AskTree (File path) tree) tt is
+  no_command_at_all other migrates imports turns searches compares asks (AskTree (Turns slice steps) tree) is = turns tree is.0
+  no_command_at_all other migrates imports turns searches compares asks (AskTree (OfSearch search states) tree) is = searches search tree is.0
+  no_command_at_all other migrates imports turns searches compares asks (Compare inputs pairs) is = compares inputs is.0
 
   module _ (command : Text) where
     -- a text is one of a bundle and a source
@@ -183,6 +188,7 @@ migration-appears entered texts (ExportImage image directory) h is = absurd is
 migration-appears entered texts (AuditImage image schedule path) h is = absurd is
 migration-appears entered texts (Ask question run) h is = absurd is
 migration-appears entered texts (AskTree question tree) h is = absurd is
+migration-appears entered texts (Compare inputs pairs) h is = absurd is
 
 -- a refusal by the parser, or out of memory
 pub refused_by_kind : (words : List Text) (error : Error) (kind : ErrorKind) → kind_of error ≡ kind

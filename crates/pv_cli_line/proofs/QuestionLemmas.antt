@@ -1,8 +1,8 @@
 -- The questions about a run in the matches of a line.
-use Rattle.std.proofs.Common.{◌≡◌, inr, ℕ, List, codes, Option, None, Some, option_map, refl}
+use Rattle.std.proofs.Common.{◌≡◌, inl, inr, ℕ, List, codes, Option, None, Some, option_map, refl}
 use Rattle.clap.specs.Words.{Row, Text}
 use Rattle.pv_cli_commands.specs.declared.command.Command.{Command}
-use Rattle.pv_cli_commands.specs.declared.command.Command.TheVariants.{RunTree, MakeImage, ListImage, RunImage, MigrateImage, ImportDirectory, ExportImage, AuditImage, WriteSource, Ask, AskTree}
+use Rattle.pv_cli_commands.specs.declared.command.Command.TheVariants.{RunTree, MakeImage, ListImage, RunImage, MigrateImage, ImportDirectory, ExportImage, AuditImage, WriteSource, Ask, AskTree, Compare}
 use Rattle.pv_cli_commands.specs.declared.command.RunInput.{RunInput}
 use Rattle.pv_questions.specs.declared.question.Question.{Question}
 use Rattle.pv_questions.specs.declared.question.Question.TheVariants.{Trace, State, Reach, Explain, Needs, Audit, Reasons}
@@ -30,12 +30,13 @@ module _ (entered : Option (Text × List Row)) where
   found_command question run (ExportImage image directory) is enters steps = absurd is
   found_command question run (WriteSource file kind) is enters steps = absurd is
   found_command question run (AskTree asked tree) is enters steps = absurd is
+  found_command question run (Compare inputs pairs) is enters steps = absurd is
 
   -- the number of steps of a question is not a number
   pub no_number : (question : Question) (run : RunInput) (word : Text) → IsQuestionIn entered question run → steps_word entered question ≡ Some word → size_in word ≡ None
       → LacksNumber entered
   no_number question run word enters is none =
-      inr (inr (inr (inr (inr (record { question = question; run = run; are_entered = enters; word = word; is_word = is; is_none = none })))))
+      inr (inr (inr (inr (inr (inl (record { question = question; run = run; are_entered = enters; word = word; is_word = is; is_none = none }))))))
 
   -- if no command of a question has its texts, there is no question
   pub no_question :

@@ -10,7 +10,9 @@ use Rattle.pv_model.specs.Grammar.Lines.{decimal_of}
 use Rattle.pv_model.specs.declared.version.Version.{Version}
 use Rattle.pv_model.specs.declared.version.Version.TheVariants.{V1, V2}
 use Rattle.pv_cli_commands.specs.declared.command.Command.{Command}
-use Rattle.pv_cli_commands.specs.declared.command.Command.TheVariants.{RunTree, MakeImage, ListImage, RunImage, MigrateImage, ImportDirectory, ExportImage, AuditImage, WriteSource, Ask, AskTree}
+use Rattle.pv_cli_commands.specs.declared.command.Command.TheVariants.{RunTree, MakeImage, ListImage, RunImage, MigrateImage, ImportDirectory, ExportImage, AuditImage, WriteSource, Ask, AskTree, Compare}
+use Rattle.pv_cli_commands.specs.declared.command.CompareInput.{CompareInput}
+use Rattle.pv_cli_commands.specs.declared.command.CompareInput.TheVariants.{Images, Bundles}
 use Rattle.pv_cli_commands.specs.declared.command.RunInput.{RunInput}
 use Rattle.pv_cli_commands.specs.declared.command.RunInput.TheVariants.{Image as OfImage, Bundle, Manifest as OfManifest}
 use Rattle.pv_cli_commands.specs.declared.command.ScheduleInput.{ScheduleInput}
@@ -209,6 +211,19 @@ IsTreeQuestionIn entered (Turns slice steps) tree =
 IsTreeQuestionIn entered (OfSearch search states) tree =
     IsValidTreeIn entered (search_name search) tree × (states_entered entered (search_name search) ≡ Some states) × HasFlags entered search
 
+-- whether both bundles are the standard input
+abbrev pub are_both_input : (first second : Text) → Bool
+are_both_input first second = bytes_eq first (codes "-") && bytes_eq second (codes "-")
+
+-- two inputs to be compared were entered: two images, or a bundle and, in the place of the first image, another one
+abbrev pub AreComparedIn : Option (Text × List Row) → CompareInput → Type 0
+AreComparedIn entered (Images first second) =
+    (entered_text entered (codes "compare") (codes "bundle") ≡ None) × (entered_text entered (codes "compare") (codes "IMAGE") ≡ Some first.now)
+    × (entered_text entered (codes "compare") (codes "OTHER") ≡ Some second.now)
+AreComparedIn entered (Bundles first second) =
+    (entered_text entered (codes "compare") (codes "bundle") ≡ Some first.now) × (entered_text entered (codes "compare") (codes "IMAGE") ≡ Some second.now)
+    × (entered_text entered (codes "compare") (codes "OTHER") ≡ None) × (are_both_input first.now second.now ≡ false)
+
 -- the text of a number, if there is one, is this number
 abbrev pub EncodesNumber : Option Text → Option ℕ → Type 0
 EncodesNumber word number = option_map size_in word ≡ option_map (λ n. Some n) number
@@ -308,6 +323,7 @@ IsCommandIn entered (Ask question run) =
     IsQuestionIn entered question.question run × EncodesNumber (steps_word entered question.question) question.steps
     × IsOwnQuestion question.question question.steps run
 IsCommandIn entered (AskTree question tree) = IsTreeQuestionIn entered question tree
+IsCommandIn entered (Compare inputs pairs) = AreComparedIn entered inputs × (states_entered entered (codes "compare") ≡ Some pairs)
 
 -- the texts of a migration were entered
 pub record HasTexts (entered : Option (Text × List Row)) (image out blocks inodes : Text) : Type 0 where
@@ -339,6 +355,7 @@ IsWithoutNumbers (AuditImage image schedule path) = ⊥
 IsWithoutNumbers (Ask question run) = ⊥
 IsWithoutNumbers (AskTree (Turns slice steps) tree) = ⊥
 IsWithoutNumbers (AskTree (OfSearch search states) tree) = ⊥
+IsWithoutNumbers (Compare inputs pairs) = ⊥
 IsWithoutNumbers command = ⊤
 
 -- the turns of a command, in place of a schedule
@@ -447,6 +464,12 @@ pub record LacksStates (entered : Option (Text × List Row)) : Type 0 where
   pub are_entered : IsValidTreeIn entered (search_name search) tree
   pub is_none : states_entered entered (search_name search) ≡ None
 
+-- `compare` was entered with a number of pairs that is not a number, or 0
+pub record LacksPairs (entered : Option (Text × List Row)) : Type 0 where
+  pub inputs : CompareInput
+  pub are_entered : AreComparedIn entered inputs
+  pub is_none : states_entered entered (codes "compare") ≡ None
+
 -- `import` was entered with a version that does not exist
 pub record LacksVersion (entered : Option (Text × List Row)) : Type 0 where
   pub directory : Text
@@ -458,7 +481,7 @@ pub record LacksVersion (entered : Option (Text × List Row)) : Type 0 where
 -- a numeric argument is not a number
 abbrev pub LacksNumber : Option (Text × List Row) → Type 0
 LacksNumber entered =
-    LacksSize entered ⊎ (LacksProcess entered ⊎ (LacksCount entered ⊎ (LacksStates entered ⊎ (LacksVersion entered ⊎ LacksSteps entered))))
+    LacksSize entered ⊎ (LacksProcess entered ⊎ (LacksCount entered ⊎ (LacksStates entered ⊎ (LacksVersion entered ⊎ (LacksSteps entered ⊎ LacksPairs entered)))))
 
 -- the result of reading the matches of a subcommand
 abbrev pub IsFoundIn : Option (Text × List Row) → Parsed → Type 0

@@ -142,6 +142,18 @@ fn checked<'a>(
     Err(LineFault::Parser(error))
 }
 
+// Returns the arguments that the command in the matches expects.
+fn expected(matches: &ArgMatches<'_>) -> &'static str {
+    match matches.subcommand() {
+        Some(("compare", _)) => {
+            "expected IMAGE and OTHER, or --bundle FILE and a second bundle in place of IMAGE; only one of them may be '-'"
+        }
+        _ => {
+            "expected IMAGE and its further arguments, or one of --bundle FILE and --source FILE in place of IMAGE and SCHEDULE"
+        }
+    }
+}
+
 // Returns the error for matches without a command. It names a superfluous word, if there is one, and otherwise the
 // expected arguments.
 fn no_command(
@@ -152,10 +164,7 @@ fn no_command(
     ensures { IfOk result (λ error. kind_of error ≡ MissingRequiredArgument) }
 {
     let Some(Superfluous { command, word }) = superfluous_in(matches) else {
-        return parser.error(
-            ErrorKind::MissingRequiredArgument,
-            "expected IMAGE and its further arguments, or one of --bundle FILE and --source FILE in place of IMAGE and SCHEDULE",
-        );
+        return parser.error(ErrorKind::MissingRequiredArgument, expected(matches));
     };
     let message = format!(in alloc;
         "superfluous word '{word}' for '{command}' with these options"

@@ -8,13 +8,15 @@ ghost use Rattle.pv_cli_line.specs.Program.{is_explained};
 
 use crate::lines::{push_line, push_reason, push_shown};
 use crate::readings::{push_directory, push_readings};
-use pv_cli_commands::{Command, Fault, Files, RunInput, ScheduleInput, TextInput, TreeInput};
+use pv_cli_commands::{
+    Command, CompareInput, Fault, Files, RunInput, ScheduleInput, TextInput, TreeInput,
+};
 use pv_host_copy::{ExportFault, ImportStop};
 use pv_model::{ImageFault, Layout, ListFault, ManifestFault, MigrateFault, RunFault, Version};
-use pv_questions::AskStop;
+use pv_questions::{AskStop, Format, TreeQuestion, Unshown, ask_manifest, ask_tree};
 use pv_run::{AuditStop, MigrateStop};
 use pv_source::{SourceStop, faults_of};
-use pv_streams::{SOURCE_BYTES, Sink, read_whole, write_through};
+use pv_streams::{Gathered, SOURCE_BYTES, Sink, read_whole, write_through};
 use pv_text::lines::split_line;
 use std::alloc::{AllocError, Global};
 
@@ -92,7 +94,7 @@ fn cause_of(fault: Fault) -> Cause {
         | Fault::Migrating(
             MigrateStop::Refused(MigrateFault::Memory | MigrateFault::Image(ImageFault::Memory)),
         )
-        | Fault::Asking(AskStop::Incomplete)
+        | Fault::Asking(AskStop::Incomplete | AskStop::Different)
         | Fault::Source(SourceStop::Memory)
         | Fault::Importing(ImportStop::Memory | ImportStop::WriteLines)
         | Fault::Exporting(
@@ -173,9 +175,65 @@ fn file_of(schedule: ScheduleInput<'_>) -> Option<&str> {
     }
 }
 
+// Returns whether the machine on the tree of an input starts.
+fn starts<F: Files>(alloc: Global, files: &F, format: Format, name: &str) -> bool {
+    let Ok(mut reader) = files.open(name) else {
+        return false;
+    };
+    let question = TreeQuestion::Turns { slice: 1, steps: 1 };
+    let mut turns = Gathered::new(alloc);
+    let end = match format {
+        Format::Image => ask_tree(alloc, question, &mut reader, &mut Unshown, &mut turns),
+        Format::Manifest => ask_manifest(alloc, question, &mut reader, &mut Unshown, &mut turns),
+    };
+    end.is_ok()
+}
+
+// Returns the files of a comparison of images. The one at fault comes first.
+fn images_named<'a, F: Files>(
+    alloc: Global,
+    files: &F,
+    first: &'a str,
+    second: &'a str,
+) -> Names<'a> {
+    if starts(alloc, files, Format::Image, first) {
+        image_named(second, Some(first), None)
+    } else {
+        image_named(first, Some(second), None)
+    }
+}
+
+// Returns the files of a comparison of bundles. The one at fault comes first.
+fn bundles_named<'a, F: Files>(
+    alloc: Global,
+    files: &F,
+    first: &'a str,
+    second: &'a str,
+) -> Names<'a> {
+    if first == "-" && starts(alloc, files, Format::Manifest, second) {
+        return text_named(TextInput::Plain(first), Some(second));
+    }
+    if first == "-" {
+        return text_named(TextInput::Plain(second), None);
+    }
+    if starts(alloc, files, Format::Manifest, first) {
+        return text_named(TextInput::Plain(second), Some(first));
+    }
+    let other = if second == "-" { None } else { Some(second) };
+    text_named(TextInput::Plain(first), other)
+}
+
 // Returns the files of a command.
-fn names_of(command: Command<'_>) -> Names<'_> {
+fn names_of<'a, F: Files>(alloc: Global, files: &F, command: Command<'a>) -> Names<'a> {
     match command {
+        Command::Compare {
+            inputs: CompareInput::Images { first, second },
+            ..
+        } => images_named(alloc, files, first, second),
+        Command::Compare {
+            inputs: CompareInput::Bundles { first, second },
+            ..
+        } => bundles_named(alloc, files, first, second),
         Command::RunTree(name) | Command::WriteSource { source: name, .. } => text_named(
             TextInput::Plain(name),
             None,
@@ -418,7 +476,7 @@ fn explanation<F: Files>(
     command: Command<'_>,
     cause: Cause,
 ) -> Result<Vec<u8>, AllocError> {
-    let names = &names_of(command);
+    let names = &names_of(alloc, files, command);
     let mut out = Vec::new(alloc);
     match cause {
         Cause::Reading => {

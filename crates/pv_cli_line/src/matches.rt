@@ -1,14 +1,16 @@
 //! The command in the matches of the parser.
 ghost use Rattle.std.specs.Prelude.{◌≡◌, ◌⊎◌, ℕ, List, codes, Option, None, Some, IfSome};
 ghost use Rattle.clap.specs.Words.{subcommand_rows_of};
-ghost use Rattle.pv_cli_line.specs.Line.{HasFlags, HasTexts, IsCommandIn, IsCommandOf, IsFoundIn, IsMigrationOf, IsPlain, IsQuestionIn, IsRunIn, IsTracedIn, IsTracedTextIn, IsTreeIn, IsValidRunIn, IsValidTreeIn, IsWithoutNumbers, entered_text, output_entered, question_name, search_name, size_in};
+ghost use Rattle.pv_cli_line.specs.Line.{AreComparedIn, HasFlags, HasTexts, IsCommandIn, IsCommandOf, IsFoundIn, IsMigrationOf, IsPlain, IsQuestionIn, IsRunIn, IsTracedIn, IsTracedTextIn, IsTreeIn, IsValidRunIn, IsValidTreeIn, IsWithoutNumbers, entered_text, output_entered, question_name, search_name, size_in};
 
 use crate::texts::{
     RunTexts, TreeTexts, count_of, is_flag_given, run_in, run_texts_in, size_of, states_of,
     text_of, tree_in, tree_texts_in, version_of,
 };
 use clap::ArgMatches;
-use pv_cli_commands::{Command, Output, RunInput, ScheduleInput, TextInput, TreeInput};
+use pv_cli_commands::{
+    Command, CompareInput, Output, RunInput, ScheduleInput, TextInput, TreeInput,
+};
 use pv_questions::{Question, RunQuestion, Search, TreeQuestion};
 
 // Returns the `mkimg` command, if the matches are of it.
@@ -395,6 +397,40 @@ fn search_in<'a>(matches: &ArgMatches<'a>) -> Option<Parsed<'a>>
     search_by(matches, Search::Graph { tree })
 }
 
+// Returns the two inputs of `compare`, if the matches are of it.
+fn compared_in<'a>(matches: &ArgMatches<'a>) -> Option<CompareInput<'a>>
+    ensures found { IfSome result (AreComparedIn (subcommand_rows_of matches.now)) }
+    ensures none { result ≡ None → (inputs : CompareInput) → AreComparedIn (subcommand_rows_of matches.now) inputs → ⊥ }
+{
+    let image = text_of(matches, "compare", "IMAGE")?;
+    let other = text_of(matches, "compare", "OTHER");
+    let Some(bundle) = text_of(matches, "compare", "bundle") else {
+        return Some(CompareInput::Images {
+            first: image,
+            second: other?,
+        });
+    };
+    if other.is_some() || (bundle == "-" && image == "-") {
+        return None;
+    }
+    Some(CompareInput::Bundles {
+        first: bundle,
+        second: image,
+    })
+}
+
+// Returns the `compare` command, if the matches are of it.
+fn compare_in<'a>(matches: &ArgMatches<'a>) -> Option<Parsed<'a>>
+    ensures found { IfSome result (IsFoundIn (subcommand_rows_of matches.now)) }
+    ensures none { result ≡ None → (inputs : CompareInput) → AreComparedIn (subcommand_rows_of matches.now) inputs → ⊥ }
+{
+    let inputs = compared_in(matches)?;
+    let Some(pairs) = states_of(text_of(matches, "compare", "states")) else {
+        return Some(Parsed::Number);
+    };
+    Some(Parsed::Command(Command::Compare { inputs, pairs }))
+}
+
 // Returns the output of `source`.
 fn output_in(matches: &ArgMatches<'_>) -> Output
     ensures { result ≡ output_entered (subcommand_rows_of matches.now) }
@@ -494,6 +530,9 @@ pub(crate) fn found_in<'a>(matches: &ArgMatches<'a>) -> Option<Parsed<'a>>
         return Some(found);
     }
     if let Some(found) = search_in(matches) {
+        return Some(found);
+    }
+    if let Some(found) = compare_in(matches) {
         return Some(found);
     }
     question_in(matches)

@@ -25,6 +25,9 @@ fn takes_further(command: &str) -> bool {
 // Returns the maximum number of words of a command beside its options. A bundle or source takes the place of the image,
 // and turns that of the schedule.
 fn most_words(command: &str, has_text: bool, has_turns: bool) -> usize {
+    if command == "compare" {
+        return if has_text { 1 } else { 2 };
+    }
     let image = usize::from(!has_text);
     let schedule = usize::from(takes_schedule(command) && !has_turns);
     let further = usize::from(takes_further(command));
@@ -40,7 +43,7 @@ pub(crate) fn superfluous_in<'a>(matches: &ArgMatches<'a>) -> Option<Superfluous
         return None;
     }
     let image = inner.get_str("IMAGE");
-    let path = inner.get_str("PATH");
+    let path = inner.get_str("PATH").or(inner.get_str("OTHER"));
     let words = match inner.get_str("SCHEDULE") {
         Some(schedule) => [image, Some(schedule), path.or(inner.get_str("PID"))],
         None => [image, path, None],

@@ -3,7 +3,7 @@ use Rattle.std.specs.Prelude.{ℕ, Bool, true, false, ◌++◌, codes, Option, N
 use Rattle.pv_compare.specs.declared.compare.Compared.{Compared}
 use Rattle.pv_compare.specs.declared.compare.Compared.TheVariants.{Same, Incomplete, Different}
 use Rattle.pv_compare.specs.declared.differences.Difference.{Difference}
-use Rattle.pv_model.specs.Answers.Compare.{alike_text, pairs_line}
+use Rattle.pv_model.specs.Answers.Compare.{Comparison, alike, alike_text, different, pairs_line}
 use Rattle.pv_model.specs.Answers.Explore.{witness_text}
 use Rattle.pv_model.specs.Answers.Lines.{answer_line, answer_line_bytes}
 use Rattle.pv_model.specs.Bytes.{Bytes}
@@ -29,3 +29,7 @@ compared_if false = Incomplete
 abbrev pub compared_by : Bool → Option Difference → Compared
 compared_by complete None = compared_if complete
 compared_by complete (Some d) = Different
+
+abbrev pub compared_of : Comparison → Compared
+compared_of (different m pairs) = Different
+compared_of (alike complete pairs) = compared_if complete

@@ -1,14 +1,22 @@
-//! The answer of a comparison of two machines.
-ghost use Rattle.std.specs.Prelude.{◌≡◌, option_map, IfOk};
-ghost use Rattle.pv_compare.specs.Answering.{compared_by, difference_text, result_text};
-ghost use Rattle.pv_model.specs.Answers.Compare.{alike_text, pairs_line};
-ghost use Rattle.pv_model.specs.Answers.Lines.{answer_line_bytes};
-ghost use Rattle.pv_streams.specs.Sinks.{Writes};
+//! The comparison of two machines, and its answer.
+ghost use Rattle.std.specs.Prelude.{◌≡◌, ◌≤◌, option_map, IfOk, OnOk};
+ghost use Rattle.pv_compare.specs.Answering.{compared_by, compared_of, difference_text, result_text};
+ghost use Rattle.pv_compare.specs.Pairs.{AreCounted, IsCompared, IsWhole, found_in, pairs_of};
+ghost use Rattle.pv_compare.specs.Plan.{compared_pairs};
+ghost use Rattle.pv_model.specs.Answers.Compare.{alike_text, comparison, comparison_lines, pairs_line};
+ghost use Rattle.pv_model.specs.Answers.Lines.{answer_bytes, answer_line_bytes};
+ghost use Rattle.pv_model.specs.Grammar.Programs.{program_of};
+ghost use Rattle.pv_session.specs.Running.{FailsBy};
+ghost use Rattle.pv_streams.specs.Sinks.{Writes, WritesOr};
 
 use crate::differences::Difference;
+use crate::pairs::Pairs;
 use pv_answers::{Fragment, Line, Plain};
-use pv_explore::{Count, Witness};
+use pv_explore::{Count, FirstMachine, Progress, Witness};
+use pv_model::StepFault;
+use pv_session::Stop;
 use pv_streams::{Failed, Sink};
+use std::alloc::Global;
 
 /// The result of a comparison.
 #[derive(Clone, Copy, Debug, PartialEq, Eq)]
@@ -78,25 +86,14 @@ fn write_difference<W: Sink>(
     (by, first, one, second, other, done).write(out)
 }
 
-/// Writes the result of a search of pairs, and returns it. `pairs` is the number of visited pairs, `complete` whether no
-/// pair was left out, and `found` the step that differs, if there is one. For a step that differs, these lines are written:
-///
-/// - BY with a shortest schedule that leads to this step;
-/// - `SIDE  first`, and the lines of the step in the first state;
-/// - `SIDE  second`, and the lines of the step in the second state.
-///
-/// The last line, DONE, has the number of visited pairs, and the result in words.
-///
-/// # Errors
-///
-/// `Failed`, if a write failed. The sink received a prefix of the lines.
-pub fn write_result<W: Sink>(
+// Writes the result of a search of pairs, and returns it.
+fn write_result<W: Sink>(
     out: &mut W,
     pairs: usize,
     complete: bool,
     found: Option<&Difference>,
-) -> Result<Compared, Failed>
-    ensures written { Writes W.Sink (result_text pairs complete (option_map (λ d. d.now) found.entry)) out.old out.new result }
+) -> Result<Compared, Stop>
+    ensures written { WritesOr W.Sink FailsBy (result_text pairs complete (option_map (λ d. d.now) found.entry)) out.old out.new result }
     ensures compared { IfOk result (λ compared. compared ≡ compared_by complete (option_map (λ d. d.now) found.entry)) }
 {
     if let Some(difference) = found {
@@ -109,4 +106,57 @@ pub fn write_result<W: Sink>(
     } else {
         Ok(Compared::Incomplete)
     }
+}
+
+// Searches from the pair of the first states, and ends the progress.
+fn search_all<P: Progress>(
+    alloc: Global,
+    visited: &mut Pairs<'_>,
+    pairs: u32,
+    progress: &mut P,
+) -> Result<Option<Difference>, StepFault>
+    requires { IsWhole visited.old }
+    ensures counted { OnOk result (AreCounted visited.new) }
+    ensures compared { IfOk result (IsCompared pairs (compared_pairs program_of pairs pairs 0 (found_in (pairs_of visited.old)) visited.old.complete) visited.new) }
+{
+    let end = visited.search(alloc, pairs, progress);
+    progress.end();
+    end
+}
+
+/// Writes whether the steps of two machines differ under some schedule. The search visits at most `pairs` pairs of states,
+/// in breadth-first order from the pair of the first states of both. In each, it makes a step of each process that is
+/// live in either, in both states. A step differs if the texts of its lines are different, unless it is a call of
+/// pledge(2) or unveil(2) in both states. At the first step that differs the search ends, and these lines are written:
+///
+/// - BY with a shortest schedule that leads to this step;
+/// - `SIDE  first`, and the lines of the step in the first state;
+/// - `SIDE  second`, and the lines of the step in the second state.
+///
+/// The last line, DONE, has the number of visited pairs, and whether a step differs and these are all pairs.
+///
+/// If the visited pairs are all pairs and no step differs, the traces of each schedule are equal, but for the steps at
+/// calls of pledge(2) and unveil(2): see `pv_laws_schedules`.
+///
+/// `progress` shows the state of the search. It ends before the lines, also if the search fails.
+///
+/// # Errors
+///
+/// - `Memory`, if there is no memory. Nothing was written.
+/// - `Write`, if a write failed. The sink received a prefix of the lines.
+pub fn write_compare<W: Sink, P: Progress>(
+    alloc: Global,
+    first: &FirstMachine,
+    second: &FirstMachine,
+    pairs: u32,
+    progress: &mut P,
+    out: &mut W,
+) -> Result<Compared, Stop>
+    requires { 1 ≤ pairs }
+    ensures written { WritesOr W.Sink FailsBy (answer_bytes (comparison_lines (comparison program_of pairs first.now second.now))) out.old out.new result }
+    ensures compared { IfOk result (λ compared. compared ≡ compared_of (comparison program_of pairs first.now second.now)) }
+{
+    let mut visited = Pairs::new(alloc, first, second)?;
+    let found = search_all(alloc, &mut visited, pairs, progress)?;
+    write_result(out, visited.len(), visited.complete, found.as_ref())
 }

@@ -7,7 +7,7 @@ use std::alloc::{AllocError, Global};
 
 /// A step of a process that differs between the two images.
 #[derive(Drop)]
-pub struct Difference {
+pub(crate) struct Difference {
     /// The process that makes the step.
     pub(crate) pid: u32,
     /// The process numbers of the schedule up to this step, and with it.

@@ -2,7 +2,7 @@
 //!
 //! `search` visits pairs of states, one state of each image, and makes the steps of both: `pairs` stores each pair as the
 //! numbers of its two states. `observer` observes the trace lines of each step, and whether it is a call of pledge(2) or
-//! unveil(2). `differences` compares the texts of two steps, and `compare` writes the result. No command uses it yet.
+//! unveil(2). `differences` compares the texts of two steps, and `compare` writes the result.
 #![tactic(auto)]
 
 mod compare;
@@ -12,6 +12,4 @@ mod observer;
 mod pairs;
 mod search;
 
-pub use compare::{Compared, write_result};
-pub use differences::Difference;
-pub use pairs::Pairs;
+pub use compare::{Compared, write_compare};

@@ -22,7 +22,7 @@ pub(crate) struct PairNumbers {
 
 /// The data of a search of pairs.
 #[derive(Drop)]
-pub struct Pairs<'a> {
+pub(crate) struct Pairs<'a> {
     /// The states of the first image.
     pub(crate) first: Side<'a, ComparedLines>,
     /// The states of the second image.
@@ -34,7 +34,7 @@ pub struct Pairs<'a> {
     /// A witness for each pair.
     pub(crate) witnesses: Witnesses,
     /// Whether no pair was left out.
-    pub complete: bool,
+    pub(crate) complete: bool,
 }
 
 // Returns the numbers of a pair, if both are given.
@@ -81,7 +81,7 @@ impl<'a> Pairs<'a> {
     /// # Errors
     ///
     /// `NoMemory`, if there is no memory.
-    pub fn new(
+    pub(crate) fn new(
         alloc: Global,
         first: &'a FirstMachine,
         second: &'a FirstMachine,

@@ -13,7 +13,7 @@ use std::alloc::Global;
 
 impl<'a> Pairs<'a> {
     /// Returns the number of visited pairs.
-    pub fn len(&self) -> usize
+    pub(crate) fn len(&self) -> usize
         requires { AreCounted self.now }
         ensures { result ≡ length self.now.witnesses }
     {
@@ -78,7 +78,7 @@ impl<'a> Pairs<'a> {
     /// # Errors
     ///
     /// `NoMemory`, if there is no memory.
-    pub fn search<P: Progress>(
+    pub(crate) fn search<P: Progress>(
         &mut self,
         alloc: Global,
         limit: u32,

@@ -8,7 +8,10 @@ use Rattle.pv_session.specs.declared.session.Stop.{Stop}
 use Rattle.pv_session.specs.declared.session.Stop.TheVariants.{Memory, Write}
 use Rattle.pv_streams.specs.Sinks.{and_all, WritesOr, WritesPrefix}
 use Rattle.pv_streams.proofs.Sinks.{begins_whole}
-use Rattle.pv_questions.specs.Asking.{Flushes, Reports}
+use Rattle.pv_listing.specs.Failing.{FailsBy as ListFailsBy}
+use Rattle.pv_listing.specs.declared.listing.ListStop.{ListStop}
+use Rattle.pv_listing.specs.declared.listing.ListStop.TheVariants.{Memory as NoMemory, Write as NotListed}
+use Rattle.pv_questions.specs.Asking.{Flushes, Reports, end_of_listing}
 use Rattle.pv_questions.specs.declared.stop.AskStop.{AskStop}
 use Rattle.pv_questions.specs.declared.stop.AskStop.TheVariants.{Write as Unwritten}
 
@@ -54,3 +57,13 @@ reported sink text before mid after end result written flushed = record {
   stopped = flushed.stopped;
   failed = failed (sink.failures before) (sink.failures mid) (sink.failures after) end result written.failed written.quiet flushed.failed flushed.counted;
 }
+
+-- a listing that ended so wrote as any writer
+pub listing-ended : {W : Type 0} (sink : Writing W) (text : Bytes) (before after : W) (end : Result (Unit {0}) ListStop) (result : Result (Unit {0}) Stop)
+    → result ≡ end_of_listing end → WritesOr sink ListFailsBy text before after end → WritesOr sink FailsBy text before after result
+listing-ended sink text before after end result is it = subst (λ (r : Result (Unit {0}) Stop). WritesOr sink FailsBy text before after r) (sym is) (by end it)
+  where
+    by : (e : Result (Unit {0}) ListStop) → WritesOr sink ListFailsBy text before after e → WritesOr sink FailsBy text before after (end_of_listing e)
+    by (Ok done) w = record { whole = w.whole; prefix = tt; failed = tt; quiet = w.quiet }
+    by (Err NoMemory) w = record { whole = tt; prefix = w.prefix; failed = w.failed; quiet = tt }
+    by (Err NotListed) w = record { whole = tt; prefix = w.prefix; failed = w.failed; quiet = tt }

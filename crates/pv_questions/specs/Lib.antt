@@ -1,4 +1,5 @@
 pub mod Answering
+pub mod Comparing
 pub mod Asking
 pub mod Files
 pub mod Laws

@@ -60,6 +60,15 @@ pub enum TreeQuestion<'a> {
     },
 }
 
+/// The format of an input that has a tree.
+#[derive(Clone, Copy, Debug, PartialEq, Eq)]
+pub enum Format {
+    /// An image.
+    Image,
+    /// A manifest, which may be a bundle.
+    Manifest,
+}
+
 /// What a search of all schedules answers.
 #[derive(Clone, Copy, Debug, PartialEq, Eq)]
 pub enum Search {

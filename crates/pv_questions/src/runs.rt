@@ -1,16 +1,13 @@
 //! Questions about a run.
-ghost use Rattle.std.specs.Prelude.{◌≡◌, ◌≤◌, ◌⊎◌, length, IfOk, IfErr, IfSome, OnOk, OnErr, Err, IsSome};
+ghost use Rattle.std.specs.Prelude.{◌≡◌, ◌≤◌, length, IfErr, OnOk, Err};
 ghost use Rattle.pv_model.specs.declared.limits.TheConstants.{SCHEDULE_LINES};
 ghost use Rattle.pv_model.specs.declared.run_fault.RunFault.TheVariants.{Memory};
-ghost use Rattle.pv_model.specs.State.{process_at};
-ghost use Rattle.pv_model.specs.Stream.{Rose};
 ghost use Rattle.pv_questions.specs.Answering.{answer_of, bundle_answer, image_answer, last_state, run_answer};
-ghost use Rattle.pv_questions.specs.Asking.{Answers, BufferedOnlyIfUnwritten, IsAnswerStop, IsBundleStop, IsImageStop, AppearsInAnswer, WritesAnswer, WritesNothingUnlessStopped};
+ghost use Rattle.pv_questions.specs.Asking.{Answers, AnswersOne, AnswersTwo, IsAnswerStop, IsBundleStop, IsImageStop};
 ghost use Rattle.pv_questions.specs.Schedules.{first_steps, turns_text};
 ghost use Rattle.pv_questions.specs.Trees.{manifest_answer};
 ghost use Rattle.pv_questions.specs.declared.stop.AskStop.TheVariants.{Machine as MachineStop};
 ghost use Rattle.pv_run.specs.Run.{started_from};
-ghost use Rattle.pv_streams.specs.Sources.{FailsToGive};
 
 use crate::question::{Question, RunQuestion};
 use crate::reasons::audited_node;
@@ -244,18 +241,7 @@ pub fn ask<I: Source, S: Source, W: Sink>(
     schedule: &mut S,
     out: &mut W,
 ) -> Result<(), AskStop>
-    ensures answered { OnOk result (IfSome (I.remaining image.old) (λ bytes. IfSome (S.remaining schedule.old) (λ turns.
-        WritesAnswer (image_answer asked.entry bytes turns) (W.written out.old) (W.written out.new)))) }
-    ensures refused { IfErr result (λ stop. IfSome (I.remaining image.old) (λ bytes. IfSome (S.remaining schedule.old) (λ turns.
-        AppearsInAnswer (image_answer asked.entry bytes turns) (W.written out.old) (W.written out.new) stop))) }
-    ensures kind { IfErr result IsImageStop }
-
-    // `out` receives nothing but the answer, flushed, and each failed read or write is counted.
-    ensures unwritten { IfErr result (WritesNothingUnlessStopped (W.written out.old) (W.written out.new)) }
-    ensures empty { OnOk result (W.buffered out.new ≡ 0) }
-    ensures stopped { IfErr result (λ stop. W.buffered out.old ≡ 0 → BufferedOnlyIfUnwritten stop (W.buffered out.new)) }
-    ensures read { result ≡ Err (AskStop.Machine RunFault.Read) → FailsToGive I.Source image.old image.new ⊎ FailsToGive S.Source schedule.old schedule.new }
-    ensures write { result ≡ Err AskStop.Write → Rose (W.failures out.old) (W.failures out.new) }
+    ensures { AnswersTwo I.Source S.Source W.Sink IsImageStop (image_answer asked.entry) image.old image.new schedule.old schedule.new out.old out.new result }
 {
     let mut ready = ready_on_image(alloc, image, schedule, lists_all(asked.question))?;
     answer_ready(alloc, asked, &mut ready, out)
@@ -274,16 +260,7 @@ pub fn ask_by<I: Source, W: Sink>(
     turns: &[u8],
     out: &mut W,
 ) -> Result<(), AskStop>
-    ensures answered { OnOk result (IfSome (I.remaining image.old) (λ bytes. WritesAnswer (image_answer asked.entry bytes (turns_text turns.now)) (W.written out.old) (W.written out.new))) }
-    ensures refused { IfErr result (λ stop. IfSome (I.remaining image.old) (λ bytes. AppearsInAnswer (image_answer asked.entry bytes (turns_text turns.now)) (W.written out.old) (W.written out.new) stop)) }
-    ensures kind { IfErr result IsImageStop }
-
-    // `out` receives nothing but the answer, flushed, and each failed read or write is counted.
-    ensures unwritten { IfErr result (WritesNothingUnlessStopped (W.written out.old) (W.written out.new)) }
-    ensures empty { OnOk result (W.buffered out.new ≡ 0) }
-    ensures stopped { IfErr result (λ stop. W.buffered out.old ≡ 0 → BufferedOnlyIfUnwritten stop (W.buffered out.new)) }
-    ensures read { result ≡ Err (AskStop.Machine RunFault.Read) → FailsToGive I.Source image.old image.new }
-    ensures write { result ≡ Err AskStop.Write → Rose (W.failures out.old) (W.failures out.new) }
+    ensures { AnswersOne I.Source W.Sink IsImageStop (λ bytes. image_answer asked.entry bytes (turns_text turns.now)) image.old image.new out.old out.new result }
 {
     let schedule = text_of_turns(alloc, turns)?;
     let mut ready = ready_by(alloc, image, schedule.as_slice(), lists_all(asked.question))?;
@@ -302,16 +279,7 @@ pub fn ask_bundle<S: Source, W: Sink>(
     bundle: &mut S,
     out: &mut W,
 ) -> Result<(), AskStop>
-    ensures answered { OnOk result (IfSome (S.remaining bundle.old) (λ bytes. WritesAnswer (bundle_answer asked.entry bytes) (W.written out.old) (W.written out.new))) }
-    ensures refused { IfErr result (λ stop. IfSome (S.remaining bundle.old) (λ bytes. AppearsInAnswer (bundle_answer asked.entry bytes) (W.written out.old) (W.written out.new) stop)) }
-    ensures kind { IfErr result IsBundleStop }
-
-    // `out` receives nothing but the answer, flushed, and each failed read or write is counted.
-    ensures unwritten { IfErr result (WritesNothingUnlessStopped (W.written out.old) (W.written out.new)) }
-    ensures empty { OnOk result (W.buffered out.new ≡ 0) }
-    ensures stopped { IfErr result (λ stop. W.buffered out.old ≡ 0 → BufferedOnlyIfUnwritten stop (W.buffered out.new)) }
-    ensures read { result ≡ Err (AskStop.Machine RunFault.Read) → FailsToGive S.Source bundle.old bundle.new }
-    ensures write { result ≡ Err AskStop.Write → Rose (W.failures out.old) (W.failures out.new) }
+    ensures { AnswersOne S.Source W.Sink IsBundleStop (bundle_answer asked.entry) bundle.old bundle.new out.old out.new result }
 {
     let mut ready = ready_on_bundle(alloc, bundle)?;
     answer_ready(alloc, asked, &mut ready, out)
@@ -330,18 +298,7 @@ pub fn ask_manifest_run<I: Source, S: Source, W: Sink>(
     schedule: &mut S,
     out: &mut W,
 ) -> Result<(), AskStop>
-    ensures answered { OnOk result (IfSome (I.remaining manifest.old) (λ bytes. IfSome (S.remaining schedule.old) (λ turns.
-        WritesAnswer (manifest_answer asked.entry bytes turns) (W.written out.old) (W.written out.new)))) }
-    ensures refused { IfErr result (λ stop. IfSome (I.remaining manifest.old) (λ bytes. IfSome (S.remaining schedule.old) (λ turns.
-        AppearsInAnswer (manifest_answer asked.entry bytes turns) (W.written out.old) (W.written out.new) stop))) }
-    ensures kind { IfErr result IsBundleStop }
-
-    // `out` receives nothing but the answer, flushed, and each failed read or write is counted.
-    ensures unwritten { IfErr result (WritesNothingUnlessStopped (W.written out.old) (W.written out.new)) }
-    ensures empty { OnOk result (W.buffered out.new ≡ 0) }
-    ensures stopped { IfErr result (λ stop. W.buffered out.old ≡ 0 → BufferedOnlyIfUnwritten stop (W.buffered out.new)) }
-    ensures read { result ≡ Err (AskStop.Machine RunFault.Read) → FailsToGive I.Source manifest.old manifest.new ⊎ FailsToGive S.Source schedule.old schedule.new }
-    ensures write { result ≡ Err AskStop.Write → Rose (W.failures out.old) (W.failures out.new) }
+    ensures { AnswersTwo I.Source S.Source W.Sink IsBundleStop (manifest_answer asked.entry) manifest.old manifest.new schedule.old schedule.new out.old out.new result }
 {
     let mut ready = ready_on_manifest(alloc, manifest, schedule)?;
     answer_ready(alloc, asked, &mut ready, out)
@@ -360,16 +317,7 @@ pub fn ask_manifest_by<I: Source, W: Sink>(
     turns: &[u8],
     out: &mut W,
 ) -> Result<(), AskStop>
-    ensures answered { OnOk result (IfSome (I.remaining manifest.old) (λ bytes. WritesAnswer (manifest_answer asked.entry bytes (turns_text turns.now)) (W.written out.old) (W.written out.new))) }
-    ensures refused { IfErr result (λ stop. IfSome (I.remaining manifest.old) (λ bytes. AppearsInAnswer (manifest_answer asked.entry bytes (turns_text turns.now)) (W.written out.old) (W.written out.new) stop)) }
-    ensures kind { IfErr result IsBundleStop }
-
-    // `out` receives nothing but the answer, flushed, and each failed read or write is counted.
-    ensures unwritten { IfErr result (WritesNothingUnlessStopped (W.written out.old) (W.written out.new)) }
-    ensures empty { OnOk result (W.buffered out.new ≡ 0) }
-    ensures stopped { IfErr result (λ stop. W.buffered out.old ≡ 0 → BufferedOnlyIfUnwritten stop (W.buffered out.new)) }
-    ensures read { result ≡ Err (AskStop.Machine RunFault.Read) → FailsToGive I.Source manifest.old manifest.new }
-    ensures write { result ≡ Err AskStop.Write → Rose (W.failures out.old) (W.failures out.new) }
+    ensures { AnswersOne I.Source W.Sink IsBundleStop (λ bytes. manifest_answer asked.entry bytes (turns_text turns.now)) manifest.old manifest.new out.old out.new result }
 {
     let schedule = text_of_turns(alloc, turns)?;
     let mut ready = ready_on_manifest_by(alloc, manifest, schedule.as_slice())?;

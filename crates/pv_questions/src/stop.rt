@@ -23,6 +23,8 @@ pub enum AskStop {
     Write,
     /// The whole text was written, but the search left a state out.
     Incomplete,
+    /// The whole text was written: a step differs between two inputs.
+    Different,
 }
 
 impl From<RunFault> for AskStop {
@@ -76,6 +78,7 @@ impl fmt::Display for AskStop {
             Self::File(AuditFault::NotFile) => write!(f, "cat: not a file"),
             Self::Write => write!(f, "write"),
             Self::Incomplete => write!(f, "not complete"),
+            Self::Different => write!(f, "different"),
         }
     }
 }

@@ -1,7 +1,6 @@
 //! Questions about a tree.
-ghost use Rattle.std.specs.Prelude.{◌≡◌, ◌⊎◌, ◌≤◌, length, Ok, Err, IfOk, IfErr, IfSome, OnOk};
-ghost use Rattle.pv_model.specs.Stream.{Rose};
-ghost use Rattle.pv_questions.specs.Asking.{Answers, BufferedOnlyIfUnwritten, IsImageTreeStop, IsManifestTreeStop, IsTreeStop, AppearsInAnswer, ReportsComplete, WritesAnswer, WritesNothingUnlessStopped};
+ghost use Rattle.std.specs.Prelude.{◌≡◌, ◌≤◌, length, Ok, Err, IfOk, IfErr, IfSome};
+ghost use Rattle.pv_questions.specs.Asking.{Answers, AnswersOne, IsImageTreeStop, IsManifestTreeStop, IsTreeStop, ReportsComplete};
 ghost use Rattle.pv_questions.specs.Trees.{image_tree, image_tree_answer, image_tree_is_complete, manifest_tree, manifest_tree_answer, manifest_tree_is_complete, read_manifest_of, tree_answer, tree_is_complete, GivesManifestOf};
 ghost use Rattle.pv_run.specs.Machines.{IsBundleMachineFault, IsMachineFault, RefusesMachine};
 ghost use Rattle.pv_run.specs.Run.{IsStartFault, RefusesStart};
@@ -167,17 +166,8 @@ pub fn ask_tree<S: Source, W: Sink, P: Progress>(
     progress: &mut P,
     out: &mut W,
 ) -> Result<(), AskStop>
-    ensures answered { OnOk result (IfSome (S.remaining image.old) (λ bytes. WritesAnswer (image_tree_answer question.entry bytes) (W.written out.old) (W.written out.new))) }
-    ensures refused { IfErr result (λ stop. IfSome (S.remaining image.old) (λ bytes. AppearsInAnswer (image_tree_answer question.entry bytes) (W.written out.old) (W.written out.new) stop)) }
-    ensures kind { IfErr result (IsImageTreeStop question.entry) }
+    ensures answered { AnswersOne S.Source W.Sink (IsImageTreeStop question.entry) (image_tree_answer question.entry) image.old image.new out.old out.new result }
     ensures complete { IfSome (S.remaining image.old) (λ bytes. ReportsComplete result (image_tree_is_complete question.entry bytes)) }
-
-    // `out` receives nothing but the answer, flushed, and each failed read or write is counted.
-    ensures unwritten { IfErr result (WritesNothingUnlessStopped (W.written out.old) (W.written out.new)) }
-    ensures empty { OnOk result (W.buffered out.new ≡ 0) }
-    ensures stopped { IfErr result (λ stop. W.buffered out.old ≡ 0 → BufferedOnlyIfUnwritten stop (W.buffered out.new)) }
-    ensures read { result ≡ Err (AskStop.Machine RunFault.Read) → FailsToGive S.Source image.old image.new }
-    ensures write { result ≡ Err AskStop.Write → Rose (W.failures out.old) (W.failures out.new) }
 {
     let store = store_of_image(alloc, image)?;
     answer(alloc, question, store, progress, out)
@@ -196,17 +186,8 @@ pub fn ask_manifest<S: Source, W: Sink, P: Progress>(
     progress: &mut P,
     out: &mut W,
 ) -> Result<(), AskStop>
-    ensures answered { OnOk result (IfSome (S.remaining manifest.old) (λ bytes. WritesAnswer (manifest_tree_answer question.entry bytes) (W.written out.old) (W.written out.new))) }
-    ensures refused { IfErr result (λ stop. IfSome (S.remaining manifest.old) (λ bytes. AppearsInAnswer (manifest_tree_answer question.entry bytes) (W.written out.old) (W.written out.new) stop)) }
-    ensures kind { IfErr result (IsManifestTreeStop question.entry) }
+    ensures answered { AnswersOne S.Source W.Sink (IsManifestTreeStop question.entry) (manifest_tree_answer question.entry) manifest.old manifest.new out.old out.new result }
     ensures complete { IfSome (S.remaining manifest.old) (λ bytes. ReportsComplete result (manifest_tree_is_complete question.entry bytes)) }
-
-    // `out` receives nothing but the answer, flushed, and each failed read or write is counted.
-    ensures unwritten { IfErr result (WritesNothingUnlessStopped (W.written out.old) (W.written out.new)) }
-    ensures empty { OnOk result (W.buffered out.new ≡ 0) }
-    ensures stopped { IfErr result (λ stop. W.buffered out.old ≡ 0 → BufferedOnlyIfUnwritten stop (W.buffered out.new)) }
-    ensures read { result ≡ Err (AskStop.Machine RunFault.Read) → FailsToGive S.Source manifest.old manifest.new }
-    ensures write { result ≡ Err AskStop.Write → Rose (W.failures out.old) (W.failures out.new) }
 {
     let store = store_of_manifest(alloc, manifest)?;
     answer(alloc, question, store, progress, out)

@@ -1,7 +1,9 @@
 //! Answers, written and flushed.
 ghost use Rattle.std.specs.Prelude.{◌≡◌, ◌≤◌, [], length, IfOk, None};
 ghost use Rattle.pv_answers.specs.Reaching.{reached_by};
+ghost use Rattle.pv_compare.specs.Answering.{compared_of};
 ghost use Rattle.pv_explain.specs.Errors.{explained_lines};
+ghost use Rattle.pv_model.specs.Answers.Compare.{comparison, comparison_lines};
 ghost use Rattle.pv_model.specs.Answers.Explore.{is_complete};
 ghost use Rattle.pv_model.specs.Answers.Lines.{answer_bytes};
 ghost use Rattle.pv_model.specs.Answers.ProcessRecord.{state_lines};
@@ -17,7 +19,7 @@ ghost use Rattle.pv_dirs.specs.Trees.{bytes_at};
 ghost use Rattle.pv_needs.specs.Granted.{lines_of_demands};
 ghost use Rattle.pv_needs.specs.Restraints.{restraints};
 ghost use Rattle.pv_questions.specs.Files.{IsFileAt};
-ghost use Rattle.pv_questions.specs.Asking.{Flushes, Reports};
+ghost use Rattle.pv_questions.specs.Asking.{Flushes, Reports, end_of_listing};
 ghost use Rattle.pv_questions.specs.Reasons.{reasons_report, with_reasons};
 ghost use Rattle.pv_questions.specs.Trees.{search_lines};
 ghost use Rattle.pv_session.specs.Running.{FailsBy, run_of};
@@ -30,6 +32,7 @@ use crate::stop::AskStop;
 use pv_access::write_access;
 use pv_answers::{write_reach, write_reach_of, write_state};
 use pv_calls_state::Parts;
+use pv_compare::{Compared, write_compare};
 use pv_explain::{Explainer, explain_schedule};
 use pv_explore::{FirstMachine, Progress, write_explore, write_graph};
 use pv_exposure::write_exposure;
@@ -57,6 +60,17 @@ fn flush_buffer<T: Drop, W: Sink>(end: Result<T, Stop>, out: &mut W) -> Result<T
             Err(AskStop::Machine(RunFault::Memory))
         }
         Err(Stop::Write) => Err(AskStop::Write),
+    }
+}
+
+// Returns the end of a listing as the end of any writer.
+fn listed(end: Result<(), ListStop>) -> Result<(), Stop>
+    ensures { result ≡ end_of_listing end }
+{
+    match end {
+        Ok(()) => Ok(()),
+        Err(ListStop::Memory) => Err(Stop::Memory),
+        Err(ListStop::Write) => Err(Stop::Write),
     }
 }
 
@@ -123,17 +137,8 @@ pub(crate) fn report_audit<W: Sink>(
 ) -> Result<(), AskStop>
     ensures { Reports W.Sink (report session.now) out.old out.new result }
 {
-    match write_report(alloc, session, out) {
-        Ok(()) => {
-            out.flush()?;
-            Ok(())
-        }
-        Err(ListStop::Memory) => {
-            out.flush()?;
-            Err(AskStop::Machine(RunFault::Memory))
-        }
-        Err(ListStop::Write) => Err(AskStop::Write),
-    }
+    let end = listed(write_report(alloc, session, out));
+    flush_buffer(end, out)
 }
 
 // Writes the verdict on a file, with every reason.
@@ -160,17 +165,8 @@ pub(crate) fn report_reasons<W: Sink>(
 ) -> Result<(), AskStop>
     ensures { Reports W.Sink (reasons_report session.now) out.old out.new result }
 {
-    match write_reasons_report(alloc, session, out) {
-        Ok(()) => {
-            out.flush()?;
-            Ok(())
-        }
-        Err(ListStop::Memory) => {
-            out.flush()?;
-            Err(AskStop::Machine(RunFault::Memory))
-        }
-        Err(ListStop::Write) => Err(AskStop::Write),
-    }
+    let end = listed(write_reasons_report(alloc, session, out));
+    flush_buffer(end, out)
 }
 
 // Writes the trace of the run of a schedule.
@@ -248,17 +244,8 @@ pub(crate) fn report_listing<W: Sink>(
 ) -> Result<(), AskStop>
     ensures { Reports W.Sink (listing tree.now.tree) out.old out.new result }
 {
-    match write_listing(alloc, tree, out) {
-        Ok(()) => {
-            out.flush()?;
-            Ok(())
-        }
-        Err(ListStop::Memory) => {
-            out.flush()?;
-            Err(AskStop::Machine(RunFault::Memory))
-        }
-        Err(ListStop::Write) => Err(AskStop::Write),
-    }
+    let end = listed(write_listing(alloc, tree, out));
+    flush_buffer(end, out)
 }
 
 // Writes a fair schedule of a machine.
@@ -325,4 +312,22 @@ pub(crate) fn report_file<W: Sink>(tree: &Tree, node: u16, out: &mut W) -> Resul
     write_file(out, tree, node)?;
     out.flush()?;
     Ok(())
+}
+
+// Writes the comparison of two machines. Returns its result.
+#[tactic(auto, using(pv_streams::proofs::Sinks::begins_whole))]
+pub(crate) fn report_comparison<W: Sink, P: Progress>(
+    alloc: Global,
+    first: &FirstMachine,
+    second: &FirstMachine,
+    pairs: u32,
+    progress: &mut P,
+    out: &mut W,
+) -> Result<Compared, AskStop>
+    requires { 1 ≤ pairs }
+    ensures written { Reports W.Sink (answer_bytes (comparison_lines (comparison program_of pairs first.now second.now))) out.old out.new result }
+    ensures compared { IfOk result (λ compared. compared ≡ compared_of (comparison program_of pairs first.now second.now)) }
+{
+    let end = write_compare(alloc, first, second, pairs, progress, out);
+    flush_buffer(end, out)
 }

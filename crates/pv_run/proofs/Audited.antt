@@ -1,19 +1,19 @@
 -- The output of an image's audit, from the machine after the run.
 use Rattle.std.proofs.Common.{◌≡◌, refl, Option, None, Some, Result, Ok, Err, IfErr, OnOk, inl, inr}
-use Rattle.std.specs.Prelude.{IfSome}
 use Rattle.pv_model.specs.declared.run_fault.RunFault.{RunFault}
 use Rattle.pv_model.specs.declared.run_fault.RunFault.TheVariants.{Read, Image, Manifest, Schedule, Init, Memory, WriteTrace, WriteImage}
 use Rattle.pv_model.specs.Bytes.{Bytes}
 use Rattle.pv_model.specs.Start.{image_started}
 use Rattle.pv_model.specs.State.{State}
 use Rattle.pv_run.specs.Machines.{IsLeftBy, RefusesMachine}
+use Rattle.pv_run.specs.Run.{IfBoth}
 use Rattle.pv_run.specs.declared.auditing.AuditStop.{AuditStop}
 use Rattle.pv_run.specs.declared.auditing.AuditStop.TheVariants.{Machine, Path, Write}
 use Rattle.pv_run.specs.Auditing.{IsAuditStop, OnLeft, AppearsInAudit, AppearsInState, WritesAudit, WritesNothingUnlessStopped}
 
 -- a fact about known bytes
 module _ {P Q : Bytes → Bytes → Type 0} (so : (b t : Bytes) → P b t → Q b t) where
-  pub of_both : (i s : Option Bytes) → IfSome i (λ b. IfSome s (λ t. P b t)) → IfSome i (λ b. IfSome s (λ t. Q b t))
+  pub of_both : (i s : Option Bytes) → IfBoth i s P → IfBoth i s Q
   of_both None s p = tt
   of_both (Some b) None p = tt
   of_both (Some b) (Some t) p = so b t p
@@ -31,8 +31,8 @@ module _ (path before : Option Bytes) where
   appears_refused b t WriteTrace refused = (refused, refl)
   appears_refused b t WriteImage refused = (refused, refl)
 
-  pub no_machine : (f : RunFault) (i s : Option Bytes) → IfSome i (λ b. IfSome s (λ t. RefusesMachine f (image_started b t)))
-      → IfSome i (λ b. IfSome s (λ t. AppearsInAudit b t path before before (Machine f)))
+  pub no_machine : (f : RunFault) (i s : Option Bytes) → IfBoth i s (λ b t. RefusesMachine f (image_started b t))
+      → IfBoth i s (λ b t. AppearsInAudit b t path before before (Machine f))
   no_machine f i s = of_both (λ b t refused. appears_refused b t f refused) i s
 
 pub nothing_written : (before : Option Bytes) (f : RunFault) → WritesNothingUnlessStopped before before (Machine f)
@@ -60,14 +60,14 @@ module _ (st : State) (path before after : Option Bytes) where
   appears_left b t left (Path f) it = ((st, left, it.0), it.1)
   appears_left b t left Write begun = (st, left, begun)
 
-  module _ (i s : Option Bytes) (left : IfSome i (λ b. IfSome s (λ t. IsLeftBy b t st))) where
+  module _ (i s : Option Bytes) (left : IfBoth i s (λ b t. IsLeftBy b t st)) where
     pub written_all : (result : Result (Unit {0}) AuditStop) → OnOk result (WritesAudit st path before after)
-        → OnOk result (IfSome i (λ b. IfSome s (λ t. OnLeft b t (λ u. WritesAudit u path before after))))
+        → OnOk result (IfBoth i s (λ b t. OnLeft b t (λ u. WritesAudit u path before after)))
     written_all (Ok done) written = of_both (λ b t is. (st, is, written)) i s left
     written_all (Err stop) written = tt
 
     pub stopped_all : (result : Result (Unit {0}) AuditStop) → IfErr result (AppearsInState st path before after)
-        → IfErr result (λ stop. IfSome i (λ b. IfSome s (λ t. AppearsInAudit b t path before after stop)))
+        → IfErr result (λ stop. IfBoth i s (λ b t. AppearsInAudit b t path before after stop))
     stopped_all (Ok done) it = tt
     stopped_all (Err stop) it = of_both (λ b t is. appears_left b t is stop it) i s left
 

@@ -1,5 +1,5 @@
 -- The input of a run, check by check.
-use Rattle.std.proofs.Common.{◌≡◌, ◌∙◌, ap, sym, refl, ℕ, ◌-◌, take, drop, length, arith, Some, Result, Ok, Err, IfErr, List, ◌⊎◌, inl, inr}
+use Rattle.std.proofs.Common.{◌≡◌, ◌∙◌, ap, sym, refl, ℕ, ◌-◌, take, drop, length, arith, Result, Ok, Err, IfErr, List, ◌⊎◌, inl, inr}
 use Rattle.pv_model.specs.declared.fault.ManifestFault.{ManifestFault}
 use Rattle.pv_model.specs.declared.fault.ManifestFault.TheVariants.{Form, Size, Parent, Exists, Source, Room, Memory as ManifestMemory}
 use Rattle.pv_model.specs.declared.fault.ImageFault.{ImageFault}
@@ -13,13 +13,11 @@ use Rattle.pv_model.specs.declared.run_fault.RunFault.TheVariants.{Read, Image a
 use Rattle.pv_model.specs.Bytes.{Bytes}
 use Rattle.pv_model.specs.Grammar.Lines.{lines_of}
 use Rattle.pv_model.specs.Grammar.Manifests.{Manifest, read_bundle, tree_of}
-use Rattle.pv_model.specs.Grammar.Programs.{program_of}
 use Rattle.pv_model.specs.Grammar.Schedules.{schedule_of_lines, read_schedule}
 use Rattle.pv_model.specs.Mount.{mounted}
 use Rattle.pv_model.specs.RunFault.{of_boot, of_image, of_manifest, of_schedule}
-use Rattle.pv_model.specs.Start.{and_then, booted, bundle_started, image_started, init_of, program_in, started_on}
-use Rattle.pv_model.specs.State.{Program, State, first_state}
-use Rattle.pv_model.specs.Step.{Schedule, boot}
+use Rattle.pv_model.specs.Start.{booted, bundle_started, image_started, started_on}
+use Rattle.pv_model.specs.Step.{Schedule}
 use Rattle.pv_model.specs.Tree.{Tree}
 use Rattle.pv_image_manifest.specs.Reading.{RefusesManifest, manifest_before}
 use Rattle.pv_image_manifest.specs.declared.manifest.Manifest.{Manifest as ParsedManifest}
@@ -27,7 +25,7 @@ use Rattle.pv_laws_states.specs.States.{IsFirstTree}
 use Rattle.pv_script.specs.Reading.{RefusesSchedule}
 use Rattle.pv_tree.specs.Present.{IsAtRest}
 use Rattle.pv_run.specs.Images.{IsImageFault}
-use Rattle.pv_run.specs.Run.{RefusesStart, IsFaultOnTree, IsStartFault, started_from}
+use Rattle.pv_run.specs.Run.{RefusesStart, IsFaultOnTree, IsStartFault}
 use Rattle.std.proofs.lemmas.List.{take_all, length-drop}
 
 -- ---- the checks of a run on a tree: its schedule, and then the first program

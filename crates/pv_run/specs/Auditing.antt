@@ -1,6 +1,8 @@
 -- The output of an image's audit.
-use Rattle.std.specs.Prelude.{◌≡◌, ◌⊎◌, ⊤, ℕ, Option, None, Some, Result, Ok, Err}
-use Rattle.pv_model.specs.declared.run_fault.RunFault.TheVariants.{Memory}
+use Rattle.std.specs.Prelude.{◌≡◌, ◌⊎◌, ⊤, ℕ, Option, None, Some, Result, Ok, Err, IfErr, OnOk}
+use Rattle.pv_model.specs.declared.run_fault.RunFault.TheVariants.{Read, Memory}
+use Rattle.pv_model.specs.declared.stream.Sink.{Ghosts as Writing}
+use Rattle.pv_model.specs.declared.stream.Source.{Ghosts as Reading}
 use Rattle.pv_model.specs.declared.verdict.AuditFault.{AuditFault}
 use Rattle.pv_model.specs.declared.verdict.Verdict.{Verdict}
 use Rattle.pv_model.specs.Bytes.{Bytes}
@@ -8,7 +10,9 @@ use Rattle.pv_model.specs.Listing.{report}
 use Rattle.pv_model.specs.Sealed.{audit, verdict_line}
 use Rattle.pv_model.specs.Start.{image_started}
 use Rattle.pv_model.specs.State.{State}
+use Rattle.pv_model.specs.Stream.{Rose}
 use Rattle.pv_run.specs.Machines.{IsLeftBy, IsMachineFault, RefusesMachine}
+use Rattle.pv_run.specs.Run.{EitherFailsToGive, IfBoth}
 use Rattle.pv_streams.specs.Sinks.{and_all, WritesPrefix}
 use Rattle.pv_run.specs.declared.auditing.AuditStop.{AuditStop}
 use Rattle.pv_run.specs.declared.auditing.AuditStop.TheVariants.{Machine, Path, Write}
@@ -66,3 +70,21 @@ WritesNothingUnlessStopped before after stop = after ≡ before
 abbrev pub BufferedOnlyIfUnwritten : AuditStop → ℕ → Type 0
 BufferedOnlyIfUnwritten Write waiting = ⊤
 BufferedOnlyIfUnwritten stop waiting = waiting ≡ 0
+
+-- the run of the schedule that a source gives on the image that another gives was audited: the file at a path or,
+-- without a path, all files
+pub record AuditsImage {A B W : Type 0} (reading : Reading A) (other : Reading B) (sink : Writing W) (path : Option Bytes) (first last : A) (second second_last : B)
+    (old new : W) (result : Result (Unit {0}) AuditStop) : Type 0 where
+  -- success: the sink received exactly the verdicts
+  pub audited : OnOk result (IfBoth (reading.remaining first) (other.remaining second) (λ bytes turns.
+      OnLeft bytes turns (λ s. WritesAudit s path (sink.written old) (sink.written new))))
+  -- failure: the error is the first of the bytes and the path, or the verdicts could not be written completely
+  pub refused : IfErr result (λ stop. IfBoth (reading.remaining first) (other.remaining second) (λ bytes turns.
+      AppearsInAudit bytes turns path (sink.written old) (sink.written new) stop))
+  pub kind : IfErr result IsAuditStop
+  pub unwritten : IfErr result (WritesNothingUnlessStopped (sink.written old) (sink.written new))
+  pub empty : OnOk result (sink.buffered new ≡ 0)
+  pub stopped : IfErr result (λ stop. sink.buffered old ≡ 0 → BufferedOnlyIfUnwritten stop (sink.buffered new))
+  -- a failed read or write was counted
+  pub read : result ≡ Err (Machine Read) → EitherFailsToGive reading other first last second second_last
+  pub write : result ≡ Err Write → Rose (sink.failures old) (sink.failures new)

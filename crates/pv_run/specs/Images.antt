@@ -1,13 +1,16 @@
 -- The output of a run on an image.
-use Rattle.std.specs.Prelude.{◌≡◌, ◌⊎◌, ⊤, Option, Result, Ok, Err}
+use Rattle.std.specs.Prelude.{◌≡◌, ◌⊎◌, ⊤, Option, Result, Ok, Err, IfErr, IfOk, OnOk}
 use Rattle.pv_model.specs.declared.run_fault.RunFault.{RunFault}
 use Rattle.pv_model.specs.declared.fault.ImageFault.TheVariants.{Memory as ImageMemory}
-use Rattle.pv_model.specs.declared.run_fault.RunFault.TheVariants.{Read, Image, Manifest, Schedule as ScheduleLine, Init, Memory, WriteTrace, WriteImage}
+use Rattle.pv_model.specs.declared.run_fault.RunFault.TheVariants.{Read, Image, Schedule as ScheduleLine, Init, Memory, WriteTrace, WriteImage}
+use Rattle.pv_model.specs.declared.stream.Sink.{Ghosts as Writing}
+use Rattle.pv_model.specs.declared.stream.Source.{Ghosts as Reading}
 use Rattle.pv_model.specs.Bytes.{Bytes}
 use Rattle.pv_model.specs.Held.{named_tree}
 use Rattle.pv_model.specs.Start.{Started, image_started}
+use Rattle.pv_model.specs.Stream.{Rose}
 use Rattle.pv_model.specs.Tree.{Tree}
-use Rattle.pv_run.specs.Run.{HasBegun, HasStopped, IsSummaryOf, IsTextOf, text_of}
+use Rattle.pv_run.specs.Run.{BufferedOnlyIfCut, EitherFailsToGive, HasBegun, HasStopped, IfBoth, IsSummaryOf, IsTextOf, text_of}
 use Rattle.pv_run.specs.declared.turns.Summary.{Summary}
 use Rattle.pv_laws_runs.specs.Asked.{AsksOfImage}
 use Rattle.pv_session.specs.Running.{run_of}
@@ -77,16 +80,12 @@ IsWriteFault Memory = ⊤
 IsWriteFault WriteImage = ⊤
 IsWriteFault fault = ⊥
 
--- the possible errors of a run on the bytes of an image
-abbrev pub IsImageRunFault : RunFault → Type 0
-IsImageRunFault WriteTrace = ⊤
-IsImageRunFault WriteImage = ⊤
-IsImageRunFault fault = IsImageFault fault
-
 -- the possible errors of a run on an image
 abbrev pub IsRunFault : RunFault → Type 0
 IsRunFault Read = ⊤
-IsRunFault fault = IsImageRunFault fault
+IsRunFault WriteTrace = ⊤
+IsRunFault WriteImage = ⊤
+IsRunFault fault = IsImageFault fault
 
 -- nothing was written, unless the run stopped; no image was written, unless its writing failed
 abbrev pub WritesNeitherUnlessCut : Option Bytes → Option Bytes → Option Bytes → Option Bytes → RunFault → Type 0
@@ -94,3 +93,32 @@ WritesNeitherUnlessCut tb ta ib ia WriteImage = ⊤
 WritesNeitherUnlessCut tb ta ib ia WriteTrace = ia ≡ ib
 WritesNeitherUnlessCut tb ta ib ia Memory = ia ≡ ib
 WritesNeitherUnlessCut tb ta ib ia fault = (ta ≡ tb) × (ia ≡ ib)
+
+-- a schedule was run on an image: `given` says what holds of the bytes of both if they are known, and `Unread` that a
+-- read failed
+pub record RunsGivenImage {W O : Type 0} (tracing : Writing W) (writing : Writing O) (given : (Bytes → Bytes → Type 0) → Type 0) (Unread : Type 0)
+    (trace trace_new : W) (image image_new : O) (result : Result Summary RunFault) : Type 0 where
+  -- success: the trace grew by exactly the text of the machine's run, and the sink received bytes that hold the tree
+  -- after it
+  pub ran : IfOk result (λ summary. given (λ bytes turns.
+      HasRunOn bytes turns (tracing.written trace) (tracing.written trace_new) (writing.written image) (writing.written image_new) summary))
+  -- failure: the error is the first of the bytes, or the trace or the image could not be written completely
+  pub refused : IfErr result (λ fault. given (λ bytes turns.
+      AppearsOn (image_started bytes turns) (tracing.written trace) (tracing.written trace_new) (writing.written image) (writing.written image_new) fault))
+  pub kind : IfErr result IsRunFault
+  pub unwritten : IfErr result (WritesNeitherUnlessCut (tracing.written trace) (tracing.written trace_new) (writing.written image) (writing.written image_new))
+  -- everything that was written is flushed
+  pub empty : OnOk result (tracing.buffered trace_new ≡ 0)
+  pub stopped : IfErr result (λ fault. tracing.buffered trace ≡ 0 → BufferedOnlyIfCut fault (tracing.buffered trace_new))
+  pub flushed : OnOk result (writing.buffered image_new ≡ 0)
+  -- a failed read or write was counted
+  pub read : result ≡ Err Read → Unread
+  pub write_trace : result ≡ Err WriteTrace → Rose (tracing.failures trace) (tracing.failures trace_new)
+  pub write_image : result ≡ Err WriteImage → Rose (writing.failures image) (writing.failures image_new)
+
+-- the schedule that a source gives was run on the image that another gives
+abbrev pub RunsImage : {A B W O : Type 0} → Reading A → Reading B → Writing W → Writing O → (first last : A) → (second second_last : B)
+    → (trace trace_new : W) → (image image_new : O) → Result Summary RunFault → Type 0
+RunsImage reading other tracing writing first last second second_last trace trace_new image image_new result =
+    RunsGivenImage tracing writing (IfBoth (reading.remaining first) (other.remaining second))
+    (EitherFailsToGive reading other first last second second_last) trace trace_new image image_new result

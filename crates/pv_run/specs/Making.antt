@@ -1,15 +1,19 @@
 -- The output of making an image.
-use Rattle.std.specs.Prelude.{◌≡◌, ⊤, Option, Result, Ok, Err}
+use Rattle.std.specs.Prelude.{◌≡◌, ⊤, Option, Result, Ok, Err, IfErr, IfSome, OnOk}
 use Rattle.pv_model.specs.declared.fault.ManifestFault.{ManifestFault}
 use Rattle.pv_model.specs.declared.fault.ManifestFault.TheVariants.{Memory as ManifestMemory}
 use Rattle.pv_model.specs.declared.run_fault.RunFault.{RunFault}
 use Rattle.pv_model.specs.declared.run_fault.RunFault.TheVariants.{Read, Manifest, Memory, WriteImage}
+use Rattle.pv_model.specs.declared.stream.Sink.{Ghosts as Writing}
+use Rattle.pv_model.specs.declared.stream.Source.{Ghosts as Reading}
 use Rattle.pv_model.specs.Bytes.{Bytes}
 use Rattle.pv_model.specs.Grammar.Manifests.{read_manifest, tree_of}
 use Rattle.pv_model.specs.Image.{IsWrittenImageOf}
 use Rattle.pv_model.specs.Start.{and_then}
+use Rattle.pv_model.specs.Stream.{Rose}
 use Rattle.pv_model.specs.Tree.{Tree}
 use Rattle.pv_streams.specs.Sinks.{and_all, WritesPrefix}
+use Rattle.pv_streams.specs.Sources.{FailsToGive}
 
 -- the tree that a manifest makes: its form and sizes are checked first, then its entries
 unfoldable pub tree_made : Bytes → Result Tree ManifestFault
@@ -37,20 +41,34 @@ AppearsInManifest made before after WriteImage = HasBegunMaking made before afte
 AppearsInManifest made before after (Manifest fault) = (made ≡ Err fault) × (after ≡ before)
 AppearsInManifest made before after fault = after ≡ before
 
--- the possible errors of making an image from bytes; out of memory is not nested in another error
-abbrev pub IsMakingFault : RunFault → Type 0
-IsMakingFault (Manifest ManifestMemory) = ⊥
-IsMakingFault (Manifest fault) = ⊤
-IsMakingFault Memory = ⊤
-IsMakingFault WriteImage = ⊤
-IsMakingFault fault = ⊥
-
--- the possible errors of making an image
+-- the possible errors of making an image; out of memory is not nested in another error
 abbrev pub IsMakeFault : RunFault → Type 0
 IsMakeFault Read = ⊤
-IsMakeFault fault = IsMakingFault fault
+IsMakeFault (Manifest ManifestMemory) = ⊥
+IsMakeFault (Manifest fault) = ⊤
+IsMakeFault Memory = ⊤
+IsMakeFault WriteImage = ⊤
+IsMakeFault fault = ⊥
 
 -- nothing was written, unless a write failed
 abbrev pub WritesNothingUnlessWritten : Option Bytes → Option Bytes → RunFault → Type 0
 WritesNothingUnlessWritten before after WriteImage = ⊤
 WritesNothingUnlessWritten before after fault = after ≡ before
+
+-- the image of a manifest was made: `given` says what holds of the bytes of the manifest if they are known, and `Unread`
+-- that a read failed
+pub record MakesGiven {W : Type 0} (sink : Writing W) (given : (Bytes → Type 0) → Type 0) (Unread : Type 0) (old new : W) (result : Result (Unit {0}) RunFault) : Type 0 where
+  -- success: the sink received exactly bytes that hold the manifest's tree
+  pub made : OnOk result (given (λ bytes. HasMade (tree_made bytes) (sink.written old) (sink.written new)))
+  -- failure: the error is the first of the bytes, or the image could not be written completely
+  pub refused : IfErr result (λ fault. given (λ bytes. AppearsInManifest (tree_made bytes) (sink.written old) (sink.written new) fault))
+  pub kind : IfErr result IsMakeFault
+  pub unwritten : IfErr result (WritesNothingUnlessWritten (sink.written old) (sink.written new))
+  pub flushed : OnOk result (sink.buffered new ≡ 0)
+  -- a failed read or write was counted
+  pub read : result ≡ Err Read → Unread
+  pub write : result ≡ Err WriteImage → Rose (sink.failures old) (sink.failures new)
+
+-- the image of the manifest that a source gives was made
+abbrev pub MakesImage : {S W : Type 0} → Reading S → Writing W → (first last : S) → (old new : W) → Result (Unit {0}) RunFault → Type 0
+MakesImage reading sink first last old new result = MakesGiven sink (IfSome (reading.remaining first)) (FailsToGive reading first last) old new result

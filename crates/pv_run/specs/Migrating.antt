@@ -1,12 +1,17 @@
 -- The output of an image's migration.
-use Rattle.std.specs.Prelude.{◌≡◌, ⊤, Option, Result, Ok, Err}
+use Rattle.std.specs.Prelude.{◌≡◌, ⊤, ℕ, Option, Result, Ok, Err, IfErr, IfSome, OnOk}
 use Rattle.pv_model.specs.declared.fault.ImageFault.TheVariants.{Memory as ImageMemory}
 use Rattle.pv_model.specs.declared.store_fault.MigrateFault.{MigrateFault}
 use Rattle.pv_model.specs.declared.store_fault.MigrateFault.TheVariants.{Image, Memory}
+use Rattle.pv_model.specs.declared.stream.Sink.{Ghosts as Writing}
+use Rattle.pv_model.specs.declared.stream.Source.{Ghosts as Reading}
 use Rattle.pv_model.specs.Bytes.{Bytes}
 use Rattle.pv_model.specs.Image.{IsWrittenImageOf}
+use Rattle.pv_model.specs.Stream.{Rose}
 use Rattle.pv_model.specs.Tree.{Tree}
+use Rattle.pv_image.specs.Migrated.{migrated}
 use Rattle.pv_streams.specs.Sinks.{and_all, WritesPrefix}
+use Rattle.pv_streams.specs.Sources.{FailsToGive}
 use Rattle.pv_run.specs.declared.migrating.MigrateStop.{MigrateStop}
 use Rattle.pv_run.specs.declared.migrating.MigrateStop.TheVariants.{Read, Refused, Write}
 
@@ -34,17 +39,10 @@ AppearsInOldImage new before after (Refused Memory) = after ≡ before
 AppearsInOldImage new before after (Refused fault) = (new ≡ Err fault) × (after ≡ before)
 AppearsInOldImage new before after Write = HasBegunMigrating new before after
 
--- the reasons why bytes are not migrated; out of memory is not nested in another error
-abbrev pub IsMigratingStop : MigrateStop → Type 0
-IsMigratingStop Read = ⊥
-IsMigratingStop (Refused (Image ImageMemory)) = ⊥
-IsMigratingStop (Refused fault) = ⊤
-IsMigratingStop Write = ⊤
-
--- the reasons why an image is not migrated
+-- the reasons why an image is not migrated; out of memory is not nested in another error
 abbrev pub IsMigrateStop : MigrateStop → Type 0
-IsMigrateStop Read = ⊤
-IsMigrateStop stop = IsMigratingStop stop
+IsMigrateStop (Refused (Image ImageMemory)) = ⊥
+IsMigrateStop stop = ⊤
 
 -- the possible errors of reading an image that do not depend on its bytes
 abbrev pub IsReadOrNoMemory : MigrateStop → Type 0
@@ -56,3 +54,22 @@ IsReadOrNoMemory stop = ⊥
 abbrev pub WritesNothingUnlessBroken : Option Bytes → Option Bytes → MigrateStop → Type 0
 WritesNothingUnlessBroken before after Write = ⊤
 WritesNothingUnlessBroken before after stop = after ≡ before
+
+-- an image was migrated: `given` says what holds of its bytes if they are known, and `Unread` that a read failed
+pub record MigratesGiven {W : Type 0} (sink : Writing W) (blocks inodes : ℕ) (given : (Bytes → Type 0) → Type 0) (Unread : Type 0) (old new : W)
+    (result : Result (Unit {0}) MigrateStop) : Type 0 where
+  -- success: the sink received exactly bytes that hold the migrated tree
+  pub made : OnOk result (given (λ bytes. HasMigrated (migrated bytes blocks inodes) (sink.written old) (sink.written new)))
+  -- failure: the error is the first of the bytes and the sizes, or the new image could not be written completely
+  pub refused : IfErr result (λ stop. given (λ bytes. AppearsInOldImage (migrated bytes blocks inodes) (sink.written old) (sink.written new) stop))
+  pub kind : IfErr result IsMigrateStop
+  pub unwritten : IfErr result (WritesNothingUnlessBroken (sink.written old) (sink.written new))
+  pub flushed : OnOk result (sink.buffered new ≡ 0)
+  -- a failed read or write was counted
+  pub read : result ≡ Err Read → Unread
+  pub write : result ≡ Err Write → Rose (sink.failures old) (sink.failures new)
+
+-- the image that a source gives was migrated to these sizes
+abbrev pub MigratesImage : {S W : Type 0} → Reading S → Writing W → (blocks inodes : ℕ) → (first last : S) → (old new : W) → Result (Unit {0}) MigrateStop → Type 0
+MigratesImage reading sink blocks inodes first last old new result =
+    MigratesGiven sink blocks inodes (IfSome (reading.remaining first)) (FailsToGive reading first last) old new result

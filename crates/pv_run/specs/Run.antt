@@ -1,8 +1,10 @@
 -- The input of a run, and its result.
-use Rattle.std.specs.Prelude.{◌≡◌, ◌⊎◌, ⊤, ℕ, length, Option, Some, Result, Ok, Err}
+use Rattle.std.specs.Prelude.{◌≡◌, ◌⊎◌, ⊤, ℕ, length, Option, Some, Result, Ok, Err, IfErr, IfOk, IfSome, OnOk}
 use Rattle.pv_model.specs.declared.fault.ManifestFault.TheVariants.{Memory as ManifestMemory}
 use Rattle.pv_model.specs.declared.run_fault.RunFault.{RunFault}
 use Rattle.pv_model.specs.declared.run_fault.RunFault.TheVariants.{Read, Manifest, Schedule as ScheduleLine, Init, Memory, WriteTrace}
+use Rattle.pv_model.specs.declared.stream.Sink.{Ghosts as Writing}
+use Rattle.pv_model.specs.declared.stream.Source.{Ghosts as Reading}
 use Rattle.pv_model.specs.Bytes.{Bytes}
 use Rattle.pv_model.specs.Grammar.Programs.{program_of}
 use Rattle.pv_model.specs.Start.{Started, bundle_started}
@@ -14,6 +16,7 @@ use Rattle.pv_laws_runs.specs.Asked.{AsksOfBundle}
 use Rattle.pv_session.specs.Running.{run_of}
 use Rattle.pv_session.specs.Stopping.{StopsAtExecve}
 use Rattle.pv_streams.specs.Sinks.{and_all, WritesPrefix}
+use Rattle.pv_streams.specs.Sources.{FailsToGive}
 use Rattle.pv_run.specs.declared.turns.Summary.{Summary}
 
 -- the start of a run
@@ -99,15 +102,11 @@ IsStartFault (Init n) = ⊤
 IsStartFault Memory = ⊤
 IsStartFault fault = ⊥
 
--- the possible errors of a run of bytes
-abbrev pub IsBytesFault : RunFault → Type 0
-IsBytesFault WriteTrace = ⊤
-IsBytesFault fault = IsStartFault fault
-
 -- the possible errors of a run of a bundle
 abbrev pub IsBundleFault : RunFault → Type 0
 IsBundleFault Read = ⊤
-IsBundleFault fault = IsBytesFault fault
+IsBundleFault WriteTrace = ⊤
+IsBundleFault fault = IsStartFault fault
 
 -- nothing was written, unless the trace could not be written completely, or a step needed memory
 abbrev pub WritesNothingUnlessCut : Option Bytes → Option Bytes → RunFault → Type 0
@@ -124,3 +123,31 @@ BufferedOnlyIfCut fault waiting = waiting ≡ 0
 abbrev pub RefusesStart : {A : Type 0} → RunFault → Result A RunFault → Type 0
 RefusesStart Memory asked = ⊤
 RefusesStart fault asked = asked ≡ Err fault
+
+-- ---- contracts of functions that run
+
+-- what holds of the bytes of two sources, if both are known
+abbrev pub IfBoth : Option Bytes → Option Bytes → (Bytes → Bytes → Type 0) → Type 0
+IfBoth first second holds = IfSome first (λ bytes. IfSome second (λ text. holds bytes text))
+
+-- one of two sources failed, or gave more bytes than allowed
+abbrev pub EitherFailsToGive : {A B : Type 0} → Reading A → Reading B → (first last : A) → (second second_last : B) → Type 0
+EitherFailsToGive reading other first last second second_last = FailsToGive reading first last ⊎ FailsToGive other second second_last
+
+-- a bundle was run: `given` says what holds of its bytes if they are known, and `Unread` that a read failed
+pub record RunsGiven {W : Type 0} (sink : Writing W) (given : (Bytes → Type 0) → Type 0) (Unread : Type 0) (old new : W) (result : Result Summary RunFault) : Type 0 where
+  -- success: the trace grew by exactly the text of the machine's run
+  pub ran : IfOk result (λ summary. given (λ bytes. HasRun bytes (sink.written old) (sink.written new) summary))
+  -- failure: the error is the first of the bytes, or the trace could not be written completely
+  pub refused : IfErr result (λ fault. given (λ bytes. AppearsIn (bundle_started bytes) (sink.written old) (sink.written new) fault))
+  pub kind : IfErr result IsBundleFault
+  pub unwritten : IfErr result (WritesNothingUnlessCut (sink.written old) (sink.written new))
+  pub empty : OnOk result (sink.buffered new ≡ 0)
+  pub stopped : IfErr result (λ fault. sink.buffered old ≡ 0 → BufferedOnlyIfCut fault (sink.buffered new))
+  -- a failed read or write was counted
+  pub read : result ≡ Err Read → Unread
+  pub write : result ≡ Err WriteTrace → Rose (sink.failures old) (sink.failures new)
+
+-- the bundle that a source gives was run
+abbrev pub RunsBundle : {S W : Type 0} → Reading S → Writing W → (first last : S) → (old new : W) → Result Summary RunFault → Type 0
+RunsBundle reading sink first last old new result = RunsGiven sink (IfSome (reading.remaining first)) (FailsToGive reading first last) old new result

@@ -1,12 +1,11 @@
 //! Audits of images.
-ghost use Rattle.std.specs.Prelude.{◌≡◌, ◌⊎◌, IfOk, IfErr, IfSome, OnOk, OnErr, Err, option_map};
+ghost use Rattle.std.specs.Prelude.{◌≡◌, IfErr, OnOk, OnErr, Err, option_map};
 ghost use Rattle.pv_model.specs.Listing.{report};
 ghost use Rattle.pv_model.specs.Sealed.{verdict_line};
-ghost use Rattle.pv_model.specs.Start.{image_started};
 ghost use Rattle.pv_model.specs.Stream.{Rose};
-ghost use Rattle.pv_streams.specs.Sources.{FailsToGive};
 ghost use Rattle.pv_streams.specs.Sinks.{and_all, WritesPrefix};
-ghost use Rattle.pv_run.specs.Auditing.{IsAuditStop, OnLeft, AppearsInAudit, AppearsInState, WritesAudit, WritesNothingUnlessStopped, BufferedOnlyIfUnwritten};
+ghost use Rattle.pv_run.specs.Listings.{WritesFlushed};
+ghost use Rattle.pv_run.specs.Auditing.{AppearsInState, AuditsImage, BufferedOnlyIfUnwritten, WritesAudit};
 ghost use Rattle.pv_run.specs.declared.auditing.AuditStop.TheVariants.{Machine as MachineStop, Path as PathStop, Write as WriteStop};
 
 use crate::machine::machine_after;
@@ -79,11 +78,7 @@ fn report_verdict<W: Sink>(verdict: &Verdict, out: &mut W) -> Result<(), Failed>
 // Writes the verdicts on all files of a machine, and flushes them.
 #[tactic(auto, using(pv_streams::proofs::Sinks::begins_whole))]
 fn report_verdicts<W: Sink>(alloc: Global, session: &Session, out: &mut W) -> Result<(), ListStop>
-    ensures whole { OnOk result (W.written out.new ≡ and_all (W.written out.old) (report session.now)) }
-    ensures empty { OnOk result (W.buffered out.new ≡ 0) }
-    ensures prefix { OnErr result (WritesPrefix (report session.now) (W.written out.old) (W.written out.new)) }
-    ensures stopped { result ≡ Err ListStop.Memory → W.buffered out.new ≡ 0 }
-    ensures failed { result ≡ Err ListStop.Write → Rose (W.failures out.old) (W.failures out.new) }
+    ensures { WritesFlushed W.Sink (report session.now) out.old out.new result }
 {
     match write_report(alloc, session, out) {
         Ok(()) => {
@@ -146,18 +141,7 @@ pub fn audit_image<I: Source, S: Source, W: Sink>(
     path: Option<&[u8]>,
     out: &mut W,
 ) -> Result<(), AuditStop>
-    ensures audited { OnOk result (IfSome (I.remaining image.old) (λ bytes. IfSome (S.remaining schedule.old) (λ turns.
-        OnLeft bytes turns (λ s. WritesAudit s (option_map (λ p. p.now) path.entry) (W.written out.old) (W.written out.new))))) }
-    ensures refused { IfErr result (λ stop. IfSome (I.remaining image.old) (λ bytes. IfSome (S.remaining schedule.old) (λ turns.
-        AppearsInAudit bytes turns (option_map (λ p. p.now) path.entry) (W.written out.old) (W.written out.new) stop))) }
-    ensures kind { IfErr result IsAuditStop }
-
-    // `out` receives nothing but the text, flushed, and each failed read or write is counted.
-    ensures unwritten { IfErr result (WritesNothingUnlessStopped (W.written out.old) (W.written out.new)) }
-    ensures empty { OnOk result (W.buffered out.new ≡ 0) }
-    ensures stopped { IfErr result (λ stop. W.buffered out.old ≡ 0 → BufferedOnlyIfUnwritten stop (W.buffered out.new)) }
-    ensures read { result ≡ Err (AuditStop.Machine RunFault.Read) → FailsToGive I.Source image.old image.new ⊎ FailsToGive S.Source schedule.old schedule.new }
-    ensures write { result ≡ Err AuditStop.Write → Rose (W.failures out.old) (W.failures out.new) }
+    ensures { AuditsImage I.Source S.Source W.Sink (option_map (λ p. p.now) path.entry) image.old image.new schedule.old schedule.new out.old out.new result }
 {
     let session = machine_after(alloc, image, schedule)?;
     audit_machine(alloc, &session, path, out)

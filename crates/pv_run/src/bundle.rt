@@ -1,11 +1,10 @@
 //! Runs of bundles.
-ghost use Rattle.std.specs.Prelude.{◌≡◌, ◌⊎◌, ◌≤◌, length, Some, Ok, Err, IfOk, IfErr, IfSome, OnOk};
+ghost use Rattle.std.specs.Prelude.{◌≡◌, ◌≤◌, length, Some, Ok, Err, IfOk, IfErr, IfSome};
 ghost use Rattle.pv_model.specs.Grammar.Programs.{program_of};
 ghost use Rattle.pv_model.specs.Start.{bundle_started};
 ghost use Rattle.pv_model.specs.Step.{boot};
-ghost use Rattle.pv_model.specs.Stream.{Rose};
 ghost use Rattle.pv_run.specs.Machines.{IsBundleMachineFault, RefusesMachine};
-ghost use Rattle.pv_run.specs.Run.{HasRun, IsBundleFault, IsBytesFault, IsStartFault, RefusesStart, AppearsIn, WritesNothingUnlessCut, BufferedOnlyIfCut, started_from};
+ghost use Rattle.pv_run.specs.Run.{IsStartFault, RefusesStart, RunsBundle, RunsGiven, started_from};
 ghost use Rattle.pv_streams.specs.Sources.{FailsToGive};
 
 use crate::turns::{Ready, Summary, make_turns, start_on};
@@ -53,13 +52,7 @@ pub fn ready_on_bundle<S: Source>(alloc: Global, bundle: &mut S) -> Result<Ready
 // Runs the bundle in `bytes`.
 fn run_bytes<W: Sink>(alloc: Global, bytes: &[u8], trace: &mut W) -> Result<Summary, RunFault>
     requires { length bytes.now ≤ SOURCE_BYTES }
-    ensures ran { IfOk result (λ summary. HasRun bytes.now (W.written trace.old) (W.written trace.new) summary) }
-    ensures refused { IfErr result (λ fault. AppearsIn (bundle_started bytes.now) (W.written trace.old) (W.written trace.new) fault) }
-    ensures kind { IfErr result IsBytesFault }
-    ensures unwritten { IfErr result (WritesNothingUnlessCut (W.written trace.old) (W.written trace.new)) }
-    ensures write { result ≡ Err RunFault.WriteTrace → Rose (W.failures trace.old) (W.failures trace.new) }
-    ensures empty { OnOk result (W.buffered trace.new ≡ 0) }
-    ensures stopped { IfErr result (λ fault. W.buffered trace.old ≡ 0 → BufferedOnlyIfCut fault (W.buffered trace.new)) }
+    ensures { RunsGiven W.Sink (λ holds. holds bytes.now) ⊥ trace.old trace.new result }
 {
     let mut ready = start_bundle(alloc, bytes)?;
     make_turns(alloc, &mut ready, trace)
@@ -87,16 +80,7 @@ pub fn run_tree<S: Source, W: Sink>(
     bundle: &mut S,
     trace: &mut W,
 ) -> Result<Summary, RunFault>
-    ensures ran { IfOk result (λ summary. IfSome (S.remaining bundle.old) (λ bytes. HasRun bytes (W.written trace.old) (W.written trace.new) summary)) }
-    ensures refused { IfErr result (λ fault. IfSome (S.remaining bundle.old) (λ bytes. AppearsIn (bundle_started bytes) (W.written trace.old) (W.written trace.new) fault)) }
-    ensures kind { IfErr result IsBundleFault }
-
-    // `trace` receives nothing but the text, and each failed read or write is counted.
-    ensures unwritten { IfErr result (WritesNothingUnlessCut (W.written trace.old) (W.written trace.new)) }
-    ensures read { result ≡ Err RunFault.Read → FailsToGive S.Source bundle.old bundle.new }
-    ensures write { result ≡ Err RunFault.WriteTrace → Rose (W.failures trace.old) (W.failures trace.new) }
-    ensures empty { OnOk result (W.buffered trace.new ≡ 0) }
-    ensures stopped { IfErr result (λ fault. W.buffered trace.old ≡ 0 → BufferedOnlyIfCut fault (W.buffered trace.new)) }
+    ensures { RunsBundle S.Source W.Sink bundle.old bundle.new trace.old trace.new result }
 {
     let bytes = read_whole(alloc, bundle)?;
     run_bytes(alloc, &bytes, trace)

@@ -1,13 +1,13 @@
 //! Runs on images.
-ghost use Rattle.std.specs.Prelude.{◌≡◌, ◌⊎◌, ◌≤◌, length, Some, Ok, Err, IfOk, IfErr, IfSome, OnOk, OnErr};
+ghost use Rattle.std.specs.Prelude.{◌≡◌, ◌⊎◌, ◌≤◌, length, Some, Ok, Err, IfOk, IfErr, IfSome, OnOk};
 ghost use Rattle.pv_model.specs.Grammar.Programs.{program_of};
 ghost use Rattle.pv_model.specs.Mount.{mounted};
 ghost use Rattle.pv_model.specs.Start.{image_started};
 ghost use Rattle.pv_model.specs.Step.{boot};
 ghost use Rattle.pv_model.specs.Stream.{Rose};
-ghost use Rattle.pv_run.specs.Images.{BeginsImage, HasRunOn, IsImageFault, IsImageRunFault, IsRunFault, IsWriteFault, AppearsOn, WritesNeitherUnlessCut, WrittenImage};
+ghost use Rattle.pv_run.specs.Images.{BeginsImage, IsImageFault, IsWriteFault, RunsGivenImage, RunsImage, WrittenImage};
 ghost use Rattle.pv_run.specs.Machines.{IsMachineFault, RefusesMachine};
-ghost use Rattle.pv_run.specs.Run.{IsStartFault, RefusesStart, BufferedOnlyIfCut, started_from};
+ghost use Rattle.pv_run.specs.Run.{RefusesStart, started_from};
 ghost use Rattle.pv_streams.specs.Sources.{FailsToGive};
 
 use crate::turns::{Ready, Summary, make_turns, start_on};
@@ -117,17 +117,7 @@ fn run_image<W: Sink, O: Sink>(
     image: &mut O,
 ) -> Result<Summary, RunFault>
     requires { length schedule.now ≤ SOURCE_BYTES }
-    ensures ran { IfOk result (λ summary. HasRunOn bytes.items schedule.now (W.written trace.old) (W.written trace.new) (O.written image.old) (O.written image.new) summary) }
-    ensures refused { IfErr result (λ fault. AppearsOn (image_started bytes.items schedule.now) (W.written trace.old) (W.written trace.new) (O.written image.old) (O.written image.new) fault) }
-    ensures kind { IfErr result IsImageRunFault }
-    ensures write_trace { result ≡ Err RunFault.WriteTrace → Rose (W.failures trace.old) (W.failures trace.new) }
-    ensures write_image { result ≡ Err RunFault.WriteImage → Rose (O.failures image.old) (O.failures image.new) }
-
-    // The sinks receive nothing but the text and the image, flushed.
-    ensures unwritten { IfErr result (WritesNeitherUnlessCut (W.written trace.old) (W.written trace.new) (O.written image.old) (O.written image.new)) }
-    ensures empty { OnOk result (W.buffered trace.new ≡ 0) }
-    ensures stopped { IfErr result (λ fault. W.buffered trace.old ≡ 0 → BufferedOnlyIfCut fault (W.buffered trace.new)) }
-    ensures flushed { OnOk result (O.buffered image.new ≡ 0) }
+    ensures { RunsGivenImage W.Sink O.Sink (λ holds. holds bytes.items schedule.now) ⊥ trace.old trace.new image.old image.new result }
 {
     let mut ready = start_image(alloc, bytes, schedule, true)?;
     let summary = make_turns(alloc, &mut ready, trace)?;
@@ -165,22 +155,7 @@ pub fn run<I: Source, S: Source, W: Sink, O: Sink>(
     trace: &mut W,
     image: &mut O,
 ) -> Result<Summary, RunFault>
-    ensures ran { IfOk result (λ summary. IfSome (I.remaining bytes.old) (λ b. IfSome (S.remaining schedule.old) (λ turns.
-        HasRunOn b turns (W.written trace.old) (W.written trace.new) (O.written image.old) (O.written image.new) summary))) }
-    ensures refused { IfErr result (λ fault. IfSome (I.remaining bytes.old) (λ b. IfSome (S.remaining schedule.old) (λ turns.
-        AppearsOn (image_started b turns) (W.written trace.old) (W.written trace.new) (O.written image.old) (O.written image.new) fault))) }
-    ensures kind { IfErr result IsRunFault }
-
-    // Each failed read or write is counted.
-    ensures read { result ≡ Err RunFault.Read → FailsToGive I.Source bytes.old bytes.new ⊎ FailsToGive S.Source schedule.old schedule.new }
-    ensures write_trace { result ≡ Err RunFault.WriteTrace → Rose (W.failures trace.old) (W.failures trace.new) }
-    ensures write_image { result ≡ Err RunFault.WriteImage → Rose (O.failures image.old) (O.failures image.new) }
-
-    // The sinks receive nothing but the text and the image, flushed.
-    ensures unwritten { IfErr result (WritesNeitherUnlessCut (W.written trace.old) (W.written trace.new) (O.written image.old) (O.written image.new)) }
-    ensures empty { OnOk result (W.buffered trace.new ≡ 0) }
-    ensures stopped { IfErr result (λ fault. W.buffered trace.old ≡ 0 → BufferedOnlyIfCut fault (W.buffered trace.new)) }
-    ensures flushed { OnOk result (O.buffered image.new ≡ 0) }
+    ensures { RunsImage I.Source S.Source W.Sink O.Sink bytes.old bytes.new schedule.old schedule.new trace.old trace.new image.old image.new result }
 {
     let bytes = read_whole(alloc, bytes)?;
     let schedule = read_whole(alloc, schedule)?;

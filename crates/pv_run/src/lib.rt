@@ -8,6 +8,9 @@
 //! after a run. Contracts cite the tree that bytes hold (`mounted`), the tree that a manifest makes (`tree_made`), the
 //! migrated tree (`migrated`), the start of a run (`image_started`, `bundle_started`), the bytes that sources give and
 //! those that sinks receive.
+//!
+//! The contract of a function that reads sources and writes to sinks is one relation between them and its result, as
+//! `RunsBundle`, `RunsImage`, `ListsImage`, `AuditsImage`, `MigratesImage` and `MakesImage`.
 #![tactic(auto)]
 
 pub mod auditing;

@@ -1,11 +1,8 @@
 //! Listings of images.
-ghost use Rattle.std.specs.Prelude.{◌≡◌, ◌⊎◌, IfOk, IfErr, IfSome, OnOk, OnErr, Err};
+ghost use Rattle.std.specs.Prelude.{◌≡◌, IfOk, IfErr, IfSome, Err};
 ghost use Rattle.pv_model.specs.Listing.{listing};
-ghost use Rattle.pv_model.specs.Mount.{mounted};
-ghost use Rattle.pv_model.specs.Stream.{Rose};
 ghost use Rattle.pv_streams.specs.Sources.{FailsToGive};
-ghost use Rattle.pv_streams.specs.Sinks.{and_all, WritesPrefix};
-ghost use Rattle.pv_run.specs.Listings.{HasListed, IsListFault, IsListingFault, IsReadOrOutOfMemory, AppearsInImage, WritesNothingUnlessBegun, BufferedOnlyIfUnlisted};
+ghost use Rattle.pv_run.specs.Listings.{IsReadOrOutOfMemory, ListsGiven, ListsImage, WritesFlushed};
 
 use pv_image_mount::mount;
 use pv_listing::{ListStop, write_listing};
@@ -30,11 +27,7 @@ fn read_image<S: Source>(alloc: Global, image: &mut S) -> Result<Vec<u8>, ListFa
 // Writes the listing of a tree, and flushes it.
 #[tactic(auto, using(pv_streams::proofs::Sinks::begins_whole))]
 fn write_all<W: Sink>(alloc: Global, tree: &Tree, out: &mut W) -> Result<(), ListStop>
-    ensures whole { OnOk result (W.written out.new ≡ and_all (W.written out.old) (listing tree.now.tree)) }
-    ensures empty { OnOk result (W.buffered out.new ≡ 0) }
-    ensures prefix { OnErr result (WritesPrefix (listing tree.now.tree) (W.written out.old) (W.written out.new)) }
-    ensures stopped { result ≡ Err ListStop.Memory → W.buffered out.new ≡ 0 }
-    ensures failed { result ≡ Err ListStop.Write → Rose (W.failures out.old) (W.failures out.new) }
+    ensures { WritesFlushed W.Sink (listing tree.now.tree) out.old out.new result }
 {
     match write_listing(alloc, tree, out) {
         Ok(()) => {
@@ -51,13 +44,7 @@ fn write_all<W: Sink>(alloc: Global, tree: &Tree, out: &mut W) -> Result<(), Lis
 
 // Writes the listing of the tree in an image, given its bytes.
 fn list_bytes<W: Sink>(alloc: Global, bytes: Vec<u8>, out: &mut W) -> Result<(), ListFault>
-    ensures listed { OnOk result (HasListed (mounted bytes.items) (W.written out.old) (W.written out.new)) }
-    ensures refused { IfErr result (AppearsInImage (mounted bytes.items) (W.written out.old) (W.written out.new)) }
-    ensures kind { IfErr result IsListingFault }
-    ensures unwritten { IfErr result (WritesNothingUnlessBegun (W.written out.old) (W.written out.new)) }
-    ensures write { result ≡ Err ListFault.Write → Rose (W.failures out.old) (W.failures out.new) }
-    ensures empty { OnOk result (W.buffered out.new ≡ 0) }
-    ensures stopped { IfErr result (λ fault. W.buffered out.old ≡ 0 → BufferedOnlyIfUnlisted fault (W.buffered out.new)) }
+    ensures { ListsGiven W.Sink (λ holds. holds bytes.items) ⊥ out.old out.new result }
 {
     let mut store = mount(alloc, bytes)?;
     store.order_entries();
@@ -83,16 +70,7 @@ fn list_bytes<W: Sink>(alloc: Global, bytes: Vec<u8>, out: &mut W) -> Result<(),
 ///
 /// After any other error nothing was written. Except after `Write`, everything that was written is flushed.
 pub fn list<S: Source, W: Sink>(alloc: Global, image: &mut S, out: &mut W) -> Result<(), ListFault>
-    ensures listed { OnOk result (IfSome (S.remaining image.old) (λ bytes. HasListed (mounted bytes) (W.written out.old) (W.written out.new))) }
-    ensures refused { IfErr result (λ fault. IfSome (S.remaining image.old) (λ bytes. AppearsInImage (mounted bytes) (W.written out.old) (W.written out.new) fault)) }
-    ensures kind { IfErr result IsListFault }
-
-    // `out` receives nothing but the listing, and each failed read or write is counted.
-    ensures unwritten { IfErr result (WritesNothingUnlessBegun (W.written out.old) (W.written out.new)) }
-    ensures read { result ≡ Err ListFault.Read → FailsToGive S.Source image.old image.new }
-    ensures write { result ≡ Err ListFault.Write → Rose (W.failures out.old) (W.failures out.new) }
-    ensures empty { OnOk result (W.buffered out.new ≡ 0) }
-    ensures stopped { IfErr result (λ fault. W.buffered out.old ≡ 0 → BufferedOnlyIfUnlisted fault (W.buffered out.new)) }
+    ensures { ListsImage S.Source W.Sink image.old image.new out.old out.new result }
 {
     let bytes = read_image(alloc, image)?;
     list_bytes(alloc, bytes, out)

@@ -1,8 +1,6 @@
 //! Images of manifests.
-ghost use Rattle.std.specs.Prelude.{◌≡◌, ◌⊎◌, ◌≤◌, length, IfErr, IfSome, OnOk, Err};
-ghost use Rattle.pv_model.specs.Stream.{Rose};
-ghost use Rattle.pv_streams.specs.Sources.{FailsToGive};
-ghost use Rattle.pv_run.specs.Making.{HasMade, IsMakeFault, IsMakingFault, AppearsInManifest, WritesNothingUnlessWritten, tree_made};
+ghost use Rattle.std.specs.Prelude.{◌≤◌, length};
+ghost use Rattle.pv_run.specs.Making.{MakesGiven, MakesImage};
 
 use crate::image::write_image;
 use pv_image_manifest::{Manifest, build};
@@ -13,12 +11,7 @@ use std::alloc::Global;
 // Writes the image of the manifest in `bytes`.
 fn make_bytes<W: Sink>(alloc: Global, bytes: &[u8], image: &mut W) -> Result<(), RunFault>
     requires { length bytes.now ≤ SOURCE_BYTES }
-    ensures made { OnOk result (HasMade (tree_made bytes.now) (W.written image.old) (W.written image.new)) }
-    ensures refused { IfErr result (AppearsInManifest (tree_made bytes.now) (W.written image.old) (W.written image.new)) }
-    ensures kind { IfErr result IsMakingFault }
-    ensures unwritten { IfErr result (WritesNothingUnlessWritten (W.written image.old) (W.written image.new)) }
-    ensures write { result ≡ Err RunFault.WriteImage → Rose (W.failures image.old) (W.failures image.new) }
-    ensures flushed { OnOk result (W.buffered image.new ≡ 0) }
+    ensures { MakesGiven W.Sink (λ holds. holds bytes.now) ⊥ image.old image.new result }
 {
     let manifest = Manifest::parse(alloc, bytes)?;
     let store = build(alloc, &manifest)?;
@@ -46,15 +39,7 @@ pub fn make_image<S: Source, W: Sink>(
     manifest: &mut S,
     image: &mut W,
 ) -> Result<(), RunFault>
-    ensures made { OnOk result (IfSome (S.remaining manifest.old) (λ bytes. HasMade (tree_made bytes) (W.written image.old) (W.written image.new))) }
-    ensures refused { IfErr result (λ fault. IfSome (S.remaining manifest.old) (λ bytes. AppearsInManifest (tree_made bytes) (W.written image.old) (W.written image.new) fault)) }
-    ensures kind { IfErr result IsMakeFault }
-
-    // `image` receives nothing but the image, and each failed read or write is counted.
-    ensures unwritten { IfErr result (WritesNothingUnlessWritten (W.written image.old) (W.written image.new)) }
-    ensures read { result ≡ Err RunFault.Read → FailsToGive S.Source manifest.old manifest.new }
-    ensures write { result ≡ Err RunFault.WriteImage → Rose (W.failures image.old) (W.failures image.new) }
-    ensures flushed { OnOk result (W.buffered image.new ≡ 0) }
+    ensures { MakesImage S.Source W.Sink manifest.old manifest.new image.old image.new result }
 {
     let bytes = read_whole(alloc, manifest)?;
     make_bytes(alloc, &bytes, image)

@@ -1,9 +1,7 @@
 //! Migration of images from version 1 to version 2.
-ghost use Rattle.std.specs.Prelude.{◌≡◌, ◌⊎◌, IfOk, IfErr, IfSome, OnOk, Err};
-ghost use Rattle.pv_model.specs.Stream.{Rose};
-ghost use Rattle.pv_image.specs.Migrated.{migrated};
+ghost use Rattle.std.specs.Prelude.{◌≡◌, IfOk, IfErr, IfSome, Err};
 ghost use Rattle.pv_streams.specs.Sources.{FailsToGive};
-ghost use Rattle.pv_run.specs.Migrating.{HasMigrated, IsMigrateStop, IsMigratingStop, IsReadOrNoMemory, AppearsInOldImage, WritesNothingUnlessBroken};
+ghost use Rattle.pv_run.specs.Migrating.{IsReadOrNoMemory, MigratesGiven, MigratesImage};
 
 use pv_image::{MigratingStop, write_migrated};
 use pv_model::{MigrateFault, RunFault};
@@ -54,12 +52,7 @@ fn migrate_bytes<W: Sink>(
     inodes: u32,
     out: &mut W,
 ) -> Result<(), MigrateStop>
-    ensures migrated { OnOk result (HasMigrated (migrated bytes.items blocks inodes) (W.written out.old) (W.written out.new)) }
-    ensures refused { IfErr result (AppearsInOldImage (migrated bytes.items blocks inodes) (W.written out.old) (W.written out.new)) }
-    ensures kind { IfErr result IsMigratingStop }
-    ensures unwritten { IfErr result (WritesNothingUnlessBroken (W.written out.old) (W.written out.new)) }
-    ensures write { result ≡ Err MigrateStop.Write → Rose (W.failures out.old) (W.failures out.new) }
-    ensures flushed { OnOk result (W.buffered out.new ≡ 0) }
+    ensures { MigratesGiven W.Sink blocks inodes (λ holds. holds bytes.items) ⊥ out.old out.new result }
 {
     match write_migrated(alloc, bytes, blocks, inodes, out) {
         Ok(()) => Ok(()),
@@ -89,15 +82,7 @@ pub fn migrate_image<S: Source, W: Sink>(
     inodes: u32,
     out: &mut W,
 ) -> Result<(), MigrateStop>
-    ensures migrated { OnOk result (IfSome (S.remaining image.old) (λ bytes. HasMigrated (migrated bytes blocks inodes) (W.written out.old) (W.written out.new))) }
-    ensures refused { IfErr result (λ stop. IfSome (S.remaining image.old) (λ bytes. AppearsInOldImage (migrated bytes blocks inodes) (W.written out.old) (W.written out.new) stop)) }
-    ensures kind { IfErr result IsMigrateStop }
-
-    // `out` receives nothing but the image, and each failed read or write is counted.
-    ensures unwritten { IfErr result (WritesNothingUnlessBroken (W.written out.old) (W.written out.new)) }
-    ensures read { result ≡ Err MigrateStop.Read → FailsToGive S.Source image.old image.new }
-    ensures write { result ≡ Err MigrateStop.Write → Rose (W.failures out.old) (W.failures out.new) }
-    ensures flushed { OnOk result (W.buffered out.new ≡ 0) }
+    ensures { MigratesImage S.Source W.Sink blocks inodes image.old image.new out.old out.new result }
 {
     let bytes = read_image(alloc, image)?;
     migrate_bytes(alloc, bytes, blocks, inodes, out)

@@ -10,4 +10,5 @@ returns-clause-none c is =
     (c.import_in.ensures.none (none_by c.import_in.result c.in_default-import_in.not-Some))
     (c.turns_in.ensures.none (none_by c.turns_in.result c.in_default-turns_in.not-Some))
     (c.search_in.ensures.none (none_by c.search_in.result c.in_default-search_in.not-Some))
+    (c.compare_in.ensures.none (none_by c.compare_in.result c.in_default-compare_in.not-Some))
     (c.question_in.ensures.none is)

@@ -1,4 +1,4 @@
-use Rattle.std.proofs.Common.{◌≡◌, ◌∙◌, subst}
+use Rattle.std.proofs.Common.{◌∙◌, subst}
 use Rattle.pv_model.specs.Step.{Schedule}
 use Rattle.pv_model.specs.Trace.{trace_bytes}
 use Rattle.pv_session.specs.Running.{WrittenLines, run_of}
