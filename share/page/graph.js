@@ -62,6 +62,15 @@ function prefixTo(state) {
   return steps;
 }
 
+// The steps of a witness, given its turns: of each a process and a number of steps.
+function stepsOf(turns) {
+  const steps = [];
+  for (const [process, many] of turns) {
+    for (let k = 0; k < many; k++) steps.push(stepOf(steps.length ? steps[steps.length - 1].to : 0, process));
+  }
+  return steps;
+}
+
 // The names of a state's tree: of each its kind, node, size and path, and the bytes of a file or link as a text. A tree and its contents
 // are the same in many states.
 const namesOf = memo(key => {

@@ -38,6 +38,24 @@ function reachOf(may) {
       : paths.slice(0, 6).join(' ') + (paths.length > 6 ? ` and ${paths.length - 6} more` : '')));
 }
 
+// The files that a process of this program is not closed to at this line, under some schedule: of each its name, with a link to a witness
+// at the last such line, and the reason. Null if the lines of the program are not known.
+function exposedAt(program, line, process) {
+  const own = program && data.exposed.find(one => one.nodes.includes(program.node));
+  if (!own) return null;
+  return own.files.filter(({ lines }) => lines.some(([from, to]) => from <= line && line <= to)).map(({ file, lines, reason, turns }) => {
+    const last = Math.max(...lines.map(([, to]) => to));
+    return make('span', {}, linkTo(stepsOf(turns), file, `exposed${process} ${file}`),
+      make('span', { class: 'quiet' }, `, ${reason}${last === line ? '' : ` at line ${last}`}`));
+  });
+}
+
+function exposedField(program, line, process) {
+  const found = exposedAt(program, line, process);
+  if (!found) return [];
+  return field('exposed', found.length ? found : [data.complete ? 'no file, under any schedule' : 'no file in the visited states']);
+}
+
 // An ended process that waits to be waited for.
 function endedCard(one, fact, old) {
   const status = Number((/status (\d+)/.exec(fact.PROC) || [0, 0])[1]);
@@ -62,6 +80,7 @@ function cardOf(one, previous, programs) {
     ...field('descriptors', fact.descriptors.map(descriptorLine), fact.descriptors.map(value => fresh('descriptors', value))),
     ...single('directory', 'CWD', plain(fact.CWD)),
     ...field('can reach', reachOf(one.may)),
+    ...exposedField(program, fact.line, one.process),
     ...single('registers', 'REGS'), ...fact.BUF === '0' && !fresh('BUF') ? [] : single('buffer', 'BUF', bytesOf(fact.BUF))));
 }
 

@@ -52,8 +52,7 @@ impl<'a> Screen<'a> {
     // Shows the progress of a search in place of the current line.
     fn show(&self, found: usize, left: usize) {
         let (found, left) = (Grouped(found), Grouped(left));
-        let Ok(text) = format!(in self.rt.alloc(); "pvsim: {found} states visited, {left} queued")
-        else {
+        let Ok(text) = format!(in self.rt.alloc(); "pvsim: {found} visited, {left} queued") else {
             return;
         };
         let Ok(line) = format!(in self.rt.alloc(); "\r{text:<60}") else {

@@ -72,10 +72,10 @@ question_rules = bundle_rule ∷ source_rule ∷ schedule_rules ++ optional_rule
 abbrev pub search_rules : List Rule
 search_rules = tree_rules ++ long_rule (codes "states") ∷ []
 
--- the commands: on bundles and sources; to make and list an image; to run and audit an image; questions about the state
--- after a run, about its steps, and about a tree and all states; to migrate an image; to import and export a directory
-abbrev pub command_apps : List App
-command_apps =
+-- the commands on bundles and sources; to make and list an image; to run and audit an image; questions about the state
+-- after a run, about its steps, and about a tree
+abbrev pub schedule_apps : List App
+schedule_apps =
     command_app (codes "run-tree") (source_flag_rule ∷ text_rule (codes "FILE") ∷ schedule_rules)
     ∷ command_app (codes "source") (text_rule (codes "FILE") ∷ flag_rule (codes "lines") ∷ [])
     ∷ command_app (codes "mkimg") (text_rule (codes "MANIFEST") ∷ text_rule (codes "IMAGE") ∷ [])
@@ -88,10 +88,16 @@ command_apps =
     ∷ command_app (codes "needs") (question_rules ++ flag_rule (codes "granted") ∷ flag_rule (codes "lines") ∷ [])
     ∷ command_app (codes "cat") (tree_rules ++ optional_rule (codes "PATH") ∷ [])
     ∷ command_app (codes "turns") (tree_rules ++ long_rule (codes "slice") ∷ long_rule (codes "steps") ∷ [])
-    ∷ command_app (codes "explore") search_rules
+    ∷ []
+
+-- the questions about all schedules; the commands to migrate an image, and to import and export a directory
+abbrev pub search_apps : List App
+search_apps =
+    command_app (codes "explore") search_rules
     ∷ command_app (codes "access") search_rules
     ∷ command_app (codes "exposure") search_rules
     ∷ command_app (codes "policy") search_rules
+    ∷ command_app (codes "compare") (bundle_rule ∷ optional_rule (codes "IMAGE") ∷ optional_rule (codes "OTHER") ∷ long_rule (codes "states") ∷ [])
     ∷ command_app (codes "graph") (search_rules ++ flag_rule (codes "tree") ∷ [])
     ∷ command_app (codes "migrate")
     (text_rule (codes "IMAGE") ∷ text_rule (codes "OUT") ∷ text_rule (codes "BLOCKS") ∷ text_rule (codes "INODES") ∷ [])
@@ -112,7 +118,7 @@ with_command app command = with_subcommand app command.top
 
 -- the program with its commands
 abbrev pub pvsim_app : App
-pvsim_app = fold with_command bare_app command_apps
+pvsim_app = fold with_command (fold with_command bare_app schedule_apps) search_apps
 
 -- the rule of an argument in the table
 abbrev pub rule_of_argument : Argument → Rule

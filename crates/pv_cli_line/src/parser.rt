@@ -3,7 +3,7 @@ ghost use Rattle.std.specs.Prelude.{◌≡◌, false, IfOk, map};
 ghost use Rattle.std.specs.Option.{option_or};
 ghost use Rattle.clap.specs.Words.{app_of, rule_of};
 ghost use Rattle.clap.specs.declared.builder.command.Command.TheViews.{out-Command as fields_of};
-ghost use Rattle.pv_cli_line.specs.Parser.{IsParserOf, app_of_row, bare_app, command_apps, long_rule, pvsim_app, rule_of_argument, with_flags, with_rows};
+ghost use Rattle.pv_cli_line.specs.Parser.{IsParserOf, app_of_row, bare_app, long_rule, pvsim_app, rule_of_argument, schedule_apps, search_apps, with_flags, with_rows};
 
 use clap::{Arg, ArgAction, Command as Parser};
 use std::alloc::{AllocError, Global};
@@ -97,6 +97,28 @@ const FIRST: Argument = Named {
     help: "run only the first N steps of the schedule",
 };
 
+// The first of two images, which is omitted if a bundle is given.
+const FIRST_IMAGE: Argument = Optional("IMAGE", "the first image; with -b, the second bundle");
+
+// The second of two images.
+const OTHER: Argument = Optional("OTHER", "the second image");
+
+// The first of two bundles, in place of the first of two images.
+const FIRST_BUNDLE: Argument = Named {
+    name: "bundle",
+    short: Some('b'),
+    value: "FILE",
+    help: "the first bundle; IMAGE is then the second bundle; '-' is standard input",
+};
+
+// The maximum number of pairs of states that a comparison visits.
+const PAIRS: Argument = Named {
+    name: "states",
+    short: None,
+    value: "N",
+    help: "the maximum number of pairs of states: 1 to 4294967295 (default 1000000); the exit status is 5 if a pair is left out",
+};
+
 // The maximum number of states that a search visits.
 const STATES: Argument = Named {
     name: "states",
@@ -105,8 +127,8 @@ const STATES: Argument = Named {
     help: "the maximum number of states: 1 to 4294967295 (default 1000000); the exit status is 5 if a state is left out",
 };
 
-// The commands, in the order in which the help lists them.
-const COMMANDS: &[CommandRow] = &[
+// The commands on a tree and on one run, in the order in which the help lists them.
+const RUNS: &[CommandRow] = &[
     CommandRow {
         name: "run-tree",
         about: "Run a bundle and write its trace",
@@ -270,6 +292,10 @@ const COMMANDS: &[CommandRow] = &[
             },
         ],
     },
+];
+
+// The commands on all schedules and those that convert images, which the help lists after the others.
+const SEARCHES: &[CommandRow] = &[
     CommandRow {
         name: "explore",
         about: "Print everything that can happen under any schedule of an image, each with a shortest schedule",
@@ -289,6 +315,11 @@ const COMMANDS: &[CommandRow] = &[
         name: "policy",
         about: "Print the promises and permissions that each program needs under any schedule, and those that it never uses",
         arguments: &[BUNDLE, SOURCE, IMAGE, STATES],
+    },
+    CommandRow {
+        name: "compare",
+        about: "Say whether two images let the same happen under any schedule, calls of pledge and unveil aside",
+        arguments: &[FIRST_BUNDLE, FIRST_IMAGE, OTHER, PAIRS],
     },
     CommandRow {
         name: "graph",
@@ -459,16 +490,24 @@ fn bare_parser<'a>(alloc: Global) -> Result<Parser<'a>, AllocError>
     with_flags(alloc, bare)
 }
 
-// Returns the table of the commands.
-fn commands() -> &'static [CommandRow]
-    ensures { map app_of_row result.now ≡ command_apps }
+// Returns the table of the commands on a tree and on one run.
+fn runs() -> &'static [CommandRow]
+    ensures { map app_of_row result.now ≡ schedule_apps }
 {
-    COMMANDS
+    RUNS
+}
+
+// Returns the table of the commands on all schedules and of those that convert images.
+fn searches() -> &'static [CommandRow]
+    ensures { map app_of_row result.now ≡ search_apps }
+{
+    SEARCHES
 }
 
 // Returns the parser of the command line.
 pub(crate) fn parser<'a>(alloc: Global) -> Result<Parser<'a>, AllocError>
     ensures { IfOk result (λ parser. app_of parser ≡ pvsim_app) }
 {
-    with_commands(alloc, bare_parser(alloc)?, commands())
+    let parser = with_commands(alloc, bare_parser(alloc)?, runs())?;
+    with_commands(alloc, parser, searches())
 }
