@@ -1,5 +1,6 @@
 -- A text in memory that a source gives, and the translation of a source.
-use Rattle.std.proofs.Common.{◌≡◌, ◌∙◌, ap, subst, inl, inr, refl, Bool, [], Option, None, Some, Result, Ok, Err}
+use Rattle.std.proofs.Common.{◌≡◌, ◌∙◌, ap, subst, inl, inr, refl, ℕ, Bool, [], Option, None, Some, Result, Ok, Err}
+use Rattle.std.specs.Global.{Vec}
 use Rattle.std.specs.Prelude.{◌⊎◌, unwrap_or}
 use Rattle.pv_model.specs.declared.stream.Sink.{Ghosts as Writing}
 use Rattle.pv_model.specs.declared.stream.Source.{Ghosts as Reading}
@@ -8,6 +9,7 @@ use Rattle.pv_questions.specs.Answering.{Answer as Text}
 use Rattle.pv_questions.specs.Asking.{AnswersOne, AnswersTwo}
 use Rattle.pv_questions.specs.declared.question.RunQuestion.{RunQuestion}
 use Rattle.pv_questions.specs.declared.stop.AskStop.{AskStop}
+use Rattle.pv_source.specs.Given.{TranslatesSource}
 use Rattle.pv_source.specs.declared.source.SourceStop.{SourceStop}
 use Rattle.pv_streams.specs.Sources.{FailsToGive}
 use Rattle.pv_cli_commands.specs.declared.command.ScheduleInput.{ScheduleInput}
@@ -15,7 +17,6 @@ use Rattle.pv_cli_commands.specs.declared.command.ScheduleInput.TheVariants.{Fil
 use Rattle.pv_cli_commands.specs.declared.fault.Fault.TheVariants.{Run, Listing, Migrating, Auditing, Asking, Source, Importing, Exporting}
 use Rattle.pv_cli_commands.specs.Asking.{AsksBeside, AsksGiven, AsksUnder, AsksSource, AsksTranslation, AsksTreeSource, GivenText, given_text, whole_text}
 use Rattle.pv_cli_commands.specs.Faults.{Answer, IsAsked}
-use Rattle.pv_cli_commands.specs.Sources.{Translates}
 use Rattle.pv_cli_commands.specs.Streams.{Disk}
 
 -- what follows from the result of any question follows from that of this one
@@ -127,11 +128,11 @@ given_answer {reading = reading} {writing = writing} {disk = disk} {files = file
 
 module _ {S E W : Type 0} (reading : Reading S) (reporting : Writing E) (name : Bytes) (asks : (first last : GivenText) → Type 0) (first last : S) (before after : W) (unreported reported : E) (answer : Answer) where
   -- the question was asked about the text
-  pub translation_asked : (given text : Bytes) → given ≡ text → Translates reading reporting name first last unreported reported (Ok text)
+  pub translation_asked : (given : Bytes) (text : Vec ℕ) → given ≡ text.items → TranslatesSource reading reporting name first last unreported reported (Ok text)
       → (t : GivenText) × asks (whole_text given) t → AsksTranslation reading reporting name asks first last before after unreported reported answer
   translation_asked given text same translates asked = (Ok text, translates, subst (λ bytes. (t : GivenText) × asks (whole_text bytes) t) same asked)
 
   -- the source was not translated
-  pub translation_stopped : (stop : SourceStop) → Translates reading reporting name first last unreported reported (Err stop) → answer ≡ Err (Source stop) → after ≡ before
+  pub translation_stopped : (stop : SourceStop) → TranslatesSource reading reporting name first last unreported reported (Err stop) → answer ≡ Err (Source stop) → after ≡ before
       → AsksTranslation reading reporting name asks first last before after unreported reported answer
   translation_stopped stop translates is unwritten = (Err stop, translates, (is, unwritten))

@@ -1,5 +1,6 @@
 -- Questions about runs and trees.
 use Rattle.std.specs.Prelude.{◌≡◌, ◌≢◌, ◌⊎◌, ⊤, ℕ, Bool, [], codes, Option, None, Some, Result, Ok, Err, IfSome}
+use Rattle.std.specs.Global.{Vec}
 use Rattle.pv_model.specs.declared.run_fault.RunFault.TheVariants.{Read}
 use Rattle.pv_model.specs.declared.stream.Sink.{Ghosts as Writing}
 use Rattle.pv_model.specs.declared.stream.Source.{Ghosts as Reading}
@@ -12,6 +13,7 @@ use Rattle.pv_questions.specs.declared.question.RunQuestion.{RunQuestion}
 use Rattle.pv_questions.specs.declared.question.TreeQuestion.{TreeQuestion}
 use Rattle.pv_questions.specs.declared.stop.AskStop.{AskStop}
 use Rattle.pv_questions.specs.declared.stop.AskStop.TheVariants.{Machine}
+use Rattle.pv_source.specs.Given.{TranslatesSource}
 use Rattle.pv_source.specs.declared.source.SourceStop.{SourceStop}
 use Rattle.pv_source.specs.declared.source.SourceStop.TheVariants.{Read as ReadSource}
 use Rattle.pv_cli_commands.specs.declared.command.RunInput.{RunInput}
@@ -24,7 +26,6 @@ use Rattle.pv_cli_commands.specs.declared.command.TreeInput.{TreeInput}
 use Rattle.pv_cli_commands.specs.declared.command.TreeInput.TheVariants.{Image, Manifest}
 use Rattle.pv_cli_commands.specs.declared.fault.Fault.TheVariants.{Asking, Source}
 use Rattle.pv_cli_commands.specs.Faults.{Answer, IsAsked}
-use Rattle.pv_cli_commands.specs.Sources.{Translates}
 use Rattle.pv_cli_commands.specs.Status.{Flushes}
 use Rattle.pv_cli_commands.specs.Streams.{Disk, Inputs, IsOpened, IsUnknown, inputs_of}
 
@@ -126,14 +127,14 @@ abbrev pub given_text : Reading GivenText
 given_text = record { remaining = λ t. Some t.rest; given = λ t. t.given; failures = λ t. 0 }
 
 -- the question was asked about the text, or the error of the translation is the answer, and nothing was written
-abbrev pub AnswersTranslated : {W : Type 0} → Result Bytes SourceStop → ((first last : GivenText) → Type 0) → W → W → Answer → Type 0
-AnswersTranslated (Ok text) asks before after answer = (last : GivenText) × asks (whole_text text) last
+abbrev pub AnswersTranslated : {W : Type 0} → Result (Vec ℕ) SourceStop → ((first last : GivenText) → Type 0) → W → W → Answer → Type 0
+AnswersTranslated (Ok text) asks before after answer = (last : GivenText) × asks (whole_text text.items) last
 AnswersTranslated (Err stop) asks before after answer = (answer ≡ Err (Source stop)) × (after ≡ before)
 
 -- a source was translated, and a question was asked about the text; or the lines in error of the source were reported
 abbrev pub AsksTranslation : {S E W : Type 0} → Reading S → Writing E → Bytes → ((first last : GivenText) → Type 0) → S → S → W → W → E → E → Answer → Type 0
 AsksTranslation reading reporting name asks first last before after unreported reported answer =
-    (translated : Result Bytes SourceStop) × Translates reading reporting name first last unreported reported translated
+    (translated : Result (Vec ℕ) SourceStop) × TranslatesSource reading reporting name first last unreported reported translated
     × AnswersTranslated translated asks before after answer
 
 -- the same for the source in a file, whose name is in the reports, or on the standard input; or a file whose bytes are

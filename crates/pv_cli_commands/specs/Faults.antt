@@ -45,10 +45,11 @@ IsAsked holds (Ok done) = holds (Ok done)
 IsAsked holds (Err (Asking stop)) = holds (Err stop)
 IsAsked holds (Err fault) = ⊥
 
--- the error is of a source and satisfies the predicate
-abbrev pub IsOfSource : (SourceStop → Type 0) → Fault → Type 0
-IsOfSource holds (Source stop) = holds stop
-IsOfSource holds fault = ⊥
+-- the result of a command is that of the output for a source, which satisfies the predicate
+abbrev pub IsWritten : (Result (Unit {0}) SourceStop → Type 0) → Answer → Type 0
+IsWritten holds (Ok done) = holds (Ok done)
+IsWritten holds (Err (Source stop)) = holds (Err stop)
+IsWritten holds (Err fault) = ⊥
 
 -- the error is of an import and satisfies the predicate
 abbrev pub IsOfImporting : (ImportStop → Type 0) → Fault → Type 0

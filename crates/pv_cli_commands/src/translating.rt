@@ -1,7 +1,7 @@
 //! Questions about the translations of sources.
-ghost use Rattle.std.specs.Prelude.{◌≡◌, ◌≢◌, codes, IfOk, IfErr, Ok, Err};
+ghost use Rattle.std.specs.Prelude.{◌≡◌, ◌≢◌, codes};
+ghost use Rattle.pv_source.specs.Given.{TranslatesSource};
 ghost use Rattle.pv_cli_commands.specs.Asking.{GivenText, AsksGiven, AsksManifest, AsksRunOfSource, AsksTranslation, AsksTranslationOf, given_text, whole_text};
-ghost use Rattle.pv_cli_commands.specs.Sources.{Translates};
 ghost use Rattle.pv_cli_commands.specs.Status.{Flushes};
 ghost use Rattle.pv_cli_commands.specs.Streams.{disk_of};
 
@@ -21,13 +21,9 @@ fn translated<S: Source, E: Sink>(
     source: &mut S,
     errors: &mut E,
 ) -> Result<Vec<u8>, SourceStop>
-    ensures text { IfOk result (λ text. Translates S.Source E.Sink name.now source.old source.new errors.old errors.new (Ok text.items)) }
-    ensures stop { IfErr result (λ stop. Translates S.Source E.Sink name.now source.old source.new errors.old errors.new (Err stop)) }
+    ensures { TranslatesSource S.Source E.Sink name.now source.old source.new errors.old errors.new result }
 {
-    match translate(alloc, name.as_bytes(), source, errors) {
-        Ok(text) => Ok(text),
-        Err(stop) => Err(stop),
-    }
+    translate(alloc, name.as_bytes(), source, errors)
 }
 
 // Answers a question about the run of the bundle that a source gives, or of a schedule on the tree of its manifest.

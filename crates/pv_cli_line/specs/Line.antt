@@ -34,11 +34,20 @@ use Rattle.pv_cli_line.specs.declared.matches.Parsed.TheVariants as found
 use Rattle.pv_cli_line.specs.declared.command.LineFault.{LineFault}
 use Rattle.pv_cli_line.specs.declared.command.LineFault.TheVariants as line
 use Rattle.pv_cli_line.specs.declared.matches.Migration.{Migration}
+use Rattle.pv_cli_line.specs.declared.texts.RunTexts.{RunTexts}
+use Rattle.pv_cli_line.specs.declared.texts.TreeTexts.{TreeTexts}
 use Rattle.pv_cli_line.specs.declared.texts.Given.{Given}
 use Rattle.pv_cli_line.specs.declared.texts.Given.TheVariants.{Nothing, One, Both}
 use Rattle.pv_source.specs.declared.source.Output.{Output}
 use Rattle.pv_source.specs.declared.source.Output.TheVariants.{Translation, ProgramLines}
 use Rattle.pv_cli_line.specs.Parser.{pvsim_app}
+
+-- nothing satisfies a predicate, or a relation
+abbrev pub Never : {A : Type 0} → (A → Type 0) → Type 0
+Never {A} holds = (x : A) → holds x → ⊥
+
+abbrev pub NeverBoth : {A B : Type 0} → (A → B → Type 0) → Type 0
+NeverBoth {A} {B} hold = (x : A) (y : B) → hold x y → ⊥
 
 -- the text of an argument, if the command was entered
 abbrev pub entered_text : Option (Text × List Row) → Text → Text → Option Text
@@ -143,6 +152,9 @@ IsRunIn entered command last (OfManifest manifest (AsTurns turns)) further =
     IsTextIn entered command manifest × (entered_text entered command (codes "by") ≡ Some turns.now)
     × (entered_text entered command (codes "IMAGE") ≡ further) × (entered_text entered command (codes "SCHEDULE") ≡ None)
 
+abbrev pub AreRunTextsIn : Option (Text × List Row) → (command last : Text) → RunTexts → Type 0
+AreRunTextsIn entered command last texts = IsRunIn entered command last texts.run (option_map (λ text. text.now) texts.further)
+
 -- the same for a command without a further argument
 abbrev pub IsValidRunIn : Option (Text × List Row) → Text → RunInput → Type 0
 IsValidRunIn entered command (OfImage image schedule) =
@@ -164,6 +176,9 @@ IsTreeIn entered command last (Image image) further =
 IsTreeIn entered command last (Manifest manifest) further =
     IsTextIn entered command manifest × (entered_text entered command (codes "IMAGE") ≡ further)
     × (entered_text entered command last ≡ None)
+
+abbrev pub AreTreeTextsIn : Option (Text × List Row) → (command last : Text) → TreeTexts → Type 0
+AreTreeTextsIn entered command last texts = IsTreeIn entered command last texts.tree (option_map (λ text. text.now) texts.further)
 
 -- the same for a command without a further argument
 abbrev pub IsValidTreeIn : Option (Text × List Row) → Text → TreeInput → Type 0
@@ -331,6 +346,9 @@ pub record HasTexts (entered : Option (Text × List Row)) (image out blocks inod
   pub has_out : entered_text entered (codes "migrate") (codes "OUT") ≡ Some out
   pub has_blocks : entered_text entered (codes "migrate") (codes "BLOCKS") ≡ Some blocks
   pub has_inodes : entered_text entered (codes "migrate") (codes "INODES") ≡ Some inodes
+
+abbrev pub AreMigrationTextsIn : Option (Text × List Row) → Migration → Type 0
+AreMigrationTextsIn entered texts = HasTexts entered texts.image.now texts.out.now texts.blocks.now texts.inodes.now
 
 -- the command with these texts, if both numbers are numbers
 abbrev pub IsMigrationOf : Migration → Command → Type 0

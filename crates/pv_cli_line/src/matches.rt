@@ -1,7 +1,7 @@
 //! The command in the matches of the parser.
 ghost use Rattle.std.specs.Prelude.{◌≡◌, ◌⊎◌, ℕ, List, codes, Option, None, Some, IfSome};
-ghost use Rattle.clap.specs.Words.{subcommand_rows_of};
-ghost use Rattle.pv_cli_line.specs.Line.{AreComparedIn, HasFlags, HasTexts, IsCommandIn, IsCommandOf, IsFoundIn, IsMigrationOf, IsPlain, IsQuestionIn, IsRunIn, IsTracedIn, IsTracedTextIn, IsTreeIn, IsValidRunIn, IsValidTreeIn, IsWithoutNumbers, entered_text, output_entered, question_name, search_name, size_in};
+ghost use Rattle.clap.specs.Words.{subcommand_rows_of as entered};
+ghost use Rattle.pv_cli_line.specs.Line.{AreComparedIn, AreMigrationTextsIn, HasFlags, HasTexts, IsCommandIn, IsCommandOf, IsFoundIn, IsMigrationOf, IsPlain, IsQuestionIn, IsRunIn, IsTracedIn, IsTracedTextIn, IsTreeIn, IsValidRunIn, IsValidTreeIn, IsWithoutNumbers, Never, NeverBoth, entered_text, output_entered, question_name, search_name, size_in};
 
 use crate::texts::{
     RunTexts, TreeTexts, count_of, is_flag_given, run_in, run_texts_in, size_of, states_of,
@@ -15,10 +15,10 @@ use pv_questions::{Question, RunQuestion, Search, TreeQuestion};
 
 // Returns the `mkimg` command, if the matches are of it.
 fn make_image_in<'a>(matches: &ArgMatches<'a>) -> Option<Command<'a>>
-    ensures found { IfSome result (IsCommandIn (subcommand_rows_of matches.now)) }
+    ensures found { IfSome result (IsCommandIn (entered matches.now)) }
     ensures none { result ≡ None → (manifest image : List ℕ)
-        → entered_text (subcommand_rows_of matches.now) (codes "mkimg") (codes "MANIFEST") ≡ Some manifest
-        → entered_text (subcommand_rows_of matches.now) (codes "mkimg") (codes "IMAGE") ≡ Some image → ⊥ }
+        → entered_text (entered matches.now) (codes "mkimg") (codes "MANIFEST") ≡ Some manifest
+        → entered_text (entered matches.now) (codes "mkimg") (codes "IMAGE") ≡ Some image → ⊥ }
 {
     let manifest = text_of(matches, "mkimg", "MANIFEST")?;
     let image = text_of(matches, "mkimg", "IMAGE")?;
@@ -27,11 +27,11 @@ fn make_image_in<'a>(matches: &ArgMatches<'a>) -> Option<Command<'a>>
 
 // Returns the `run` command, if the matches are of it.
 fn run_image_in<'a>(matches: &ArgMatches<'a>) -> Option<Command<'a>>
-    ensures found { IfSome result (IsCommandIn (subcommand_rows_of matches.now)) }
+    ensures found { IfSome result (IsCommandIn (entered matches.now)) }
     ensures none { result ≡ None → (image schedule out : List ℕ)
-        → entered_text (subcommand_rows_of matches.now) (codes "run") (codes "IMAGE") ≡ Some image
-        → entered_text (subcommand_rows_of matches.now) (codes "run") (codes "SCHEDULE") ≡ Some schedule
-        → entered_text (subcommand_rows_of matches.now) (codes "run") (codes "OUT") ≡ Some out → ⊥ }
+        → entered_text (entered matches.now) (codes "run") (codes "IMAGE") ≡ Some image
+        → entered_text (entered matches.now) (codes "run") (codes "SCHEDULE") ≡ Some schedule
+        → entered_text (entered matches.now) (codes "run") (codes "OUT") ≡ Some out → ⊥ }
 {
     let image = text_of(matches, "run", "IMAGE")?;
     let schedule = text_of(matches, "run", "SCHEDULE")?;
@@ -45,10 +45,10 @@ fn run_image_in<'a>(matches: &ArgMatches<'a>) -> Option<Command<'a>>
 
 // Returns the `export` command, if the matches are of it.
 fn export_in<'a>(matches: &ArgMatches<'a>) -> Option<Command<'a>>
-    ensures found { IfSome result (IsCommandIn (subcommand_rows_of matches.now)) }
+    ensures found { IfSome result (IsCommandIn (entered matches.now)) }
     ensures none { result ≡ None → (image directory : List ℕ)
-        → entered_text (subcommand_rows_of matches.now) (codes "export") (codes "IMAGE") ≡ Some image
-        → entered_text (subcommand_rows_of matches.now) (codes "export") (codes "DIR") ≡ Some directory → ⊥ }
+        → entered_text (entered matches.now) (codes "export") (codes "IMAGE") ≡ Some image
+        → entered_text (entered matches.now) (codes "export") (codes "DIR") ≡ Some directory → ⊥ }
 {
     let image = text_of(matches, "export", "IMAGE")?;
     let directory = text_of(matches, "export", "DIR")?;
@@ -83,8 +83,8 @@ impl<'a> Migration<'a> {
 
 // Returns the texts of `migrate`, if the matches are of it.
 fn migration_in<'a>(matches: &ArgMatches<'a>) -> Option<Migration<'a>>
-    ensures found { IfSome result (λ texts. HasTexts (subcommand_rows_of matches.now) texts.image.now texts.out.now texts.blocks.now texts.inodes.now) }
-    ensures none { result ≡ None → (image out blocks inodes : List ℕ) → HasTexts (subcommand_rows_of matches.now) image out blocks inodes → ⊥ }
+    ensures found { IfSome result (AreMigrationTextsIn (entered matches.now)) }
+    ensures none { result ≡ None → (image out blocks inodes : List ℕ) → HasTexts (entered matches.now) image out blocks inodes → ⊥ }
 {
     let image = text_of(matches, "migrate", "IMAGE")?;
     let out = text_of(matches, "migrate", "OUT")?;
@@ -184,8 +184,8 @@ fn command_of_question<'a>(question: RunQuestion<'a>, run: RunInput<'a>) -> Comm
 // Returns the command of a question about a run that is in the matches, with its number of steps.
 #[tactic(auto, using(crate::proofs::QuestionLemmas::found_command, crate::proofs::QuestionLemmas::no_number))]
 fn with_steps<'a>(matches: &ArgMatches<'a>, question: Question<'a>, run: RunInput<'a>) -> Parsed<'a>
-    requires { IsQuestionIn (subcommand_rows_of matches.now) question run }
-    ensures { IsFoundIn (subcommand_rows_of matches.now) result }
+    requires { IsQuestionIn (entered matches.now) question run }
+    ensures { IsFoundIn (entered matches.now) result }
 {
     let Some(word) = text_of(matches, name_of(question), "steps") else {
         let steps = None;
@@ -200,8 +200,8 @@ fn with_steps<'a>(matches: &ArgMatches<'a>, question: Question<'a>, run: RunInpu
 
 // Returns the `reach` command, if the matches are of it.
 fn reach_in<'a>(matches: &ArgMatches<'a>) -> Option<Parsed<'a>>
-    ensures found { IfSome result (IsFoundIn (subcommand_rows_of matches.now)) }
-    ensures none { result ≡ None → (pid : Option ℕ) (run : RunInput) → IsQuestionIn (subcommand_rows_of matches.now) (Question.Reach pid) run → ⊥ }
+    ensures found { IfSome result (IsFoundIn (entered matches.now)) }
+    ensures none { result ≡ None → NeverBoth (λ pid. IsQuestionIn (entered matches.now) (Question.Reach pid)) }
 {
     let RunTexts { run, further } = run_texts_in(matches, "reach", "PID")?;
     let Some(word) = further else {
@@ -215,8 +215,8 @@ fn reach_in<'a>(matches: &ArgMatches<'a>) -> Option<Parsed<'a>>
 
 // Returns the `audit` command, if the matches are of it.
 fn audit_in<'a>(matches: &ArgMatches<'a>) -> Option<Parsed<'a>>
-    ensures found { IfSome result (IsFoundIn (subcommand_rows_of matches.now)) }
-    ensures none { result ≡ None → (run : RunInput) (further : Option (List ℕ)) → IsRunIn (subcommand_rows_of matches.now) (codes "audit") (codes "PATH") run further → ⊥ }
+    ensures found { IfSome result (IsFoundIn (entered matches.now)) }
+    ensures none { result ≡ None → NeverBoth (IsRunIn (entered matches.now) (codes "audit") (codes "PATH")) }
 {
     let RunTexts { run, further } = run_texts_in(matches, "audit", "PATH")?;
     let path = further.map(|path| path.as_bytes());
@@ -230,8 +230,8 @@ fn audit_in<'a>(matches: &ArgMatches<'a>) -> Option<Parsed<'a>>
 
 // Returns the file of `run-tree`, if the matches are of it.
 fn traced_text_in<'a>(matches: &ArgMatches<'a>) -> Option<TextInput<'a>>
-    ensures found { IfSome result (IsTracedTextIn (subcommand_rows_of matches.now)) }
-    ensures none { result ≡ None → (text : TextInput) → IsTracedTextIn (subcommand_rows_of matches.now) text → ⊥ }
+    ensures found { IfSome result (IsTracedTextIn (entered matches.now)) }
+    ensures none { result ≡ None → Never (IsTracedTextIn (entered matches.now)) }
 {
     let file = text_of(matches, "run-tree", "FILE")?;
     if is_flag_given(matches, "run-tree", "source") {
@@ -243,8 +243,8 @@ fn traced_text_in<'a>(matches: &ArgMatches<'a>) -> Option<TextInput<'a>>
 
 // Returns the input of `run-tree`, if the matches are of it.
 fn traced_in<'a>(matches: &ArgMatches<'a>) -> Option<RunInput<'a>>
-    ensures found { IfSome result (IsTracedIn (subcommand_rows_of matches.now)) }
-    ensures none { result ≡ None → (run : RunInput) → IsTracedIn (subcommand_rows_of matches.now) run → ⊥ }
+    ensures found { IfSome result (IsTracedIn (entered matches.now)) }
+    ensures none { result ≡ None → Never (IsTracedIn (entered matches.now)) }
 {
     let manifest = traced_text_in(matches)?;
     let Some(turns) = text_of(matches, "run-tree", "by") else {
@@ -256,8 +256,8 @@ fn traced_in<'a>(matches: &ArgMatches<'a>) -> Option<RunInput<'a>>
 
 // Returns the `needs` command, if the matches are of it.
 fn needs_in<'a>(matches: &ArgMatches<'a>) -> Option<Parsed<'a>>
-    ensures found { IfSome result (IsFoundIn (subcommand_rows_of matches.now)) }
-    ensures none { result ≡ None → (run : RunInput) → IsValidRunIn (subcommand_rows_of matches.now) (codes "needs") run → ⊥ }
+    ensures found { IfSome result (IsFoundIn (entered matches.now)) }
+    ensures none { result ≡ None → Never (IsValidRunIn (entered matches.now) (codes "needs")) }
 {
     let run = run_in(matches, "needs")?;
     let question = Question::Needs {
@@ -269,8 +269,8 @@ fn needs_in<'a>(matches: &ArgMatches<'a>) -> Option<Parsed<'a>>
 
 // Returns the `explain` command, if the matches are of it.
 fn explain_in<'a>(matches: &ArgMatches<'a>) -> Option<Parsed<'a>>
-    ensures found { IfSome result (IsFoundIn (subcommand_rows_of matches.now)) }
-    ensures none { result ≡ None → (run : RunInput) → IsValidRunIn (subcommand_rows_of matches.now) (codes "explain") run → ⊥ }
+    ensures found { IfSome result (IsFoundIn (entered matches.now)) }
+    ensures none { result ≡ None → Never (IsValidRunIn (entered matches.now) (codes "explain")) }
 {
     let run = run_in(matches, "explain")?;
     let errors = is_flag_given(matches, "explain", "errors");
@@ -280,8 +280,8 @@ fn explain_in<'a>(matches: &ArgMatches<'a>) -> Option<Parsed<'a>>
 // Returns the command of a question about a run, if the matches are of one.
 #[tactic(auto, using(crate::proofs::QuestionLemmas::no_question))]
 fn question_in<'a>(matches: &ArgMatches<'a>) -> Option<Parsed<'a>>
-    ensures found { IfSome result (IsFoundIn (subcommand_rows_of matches.now)) }
-    ensures none { result ≡ None → (question : Question) (run : RunInput) → IsQuestionIn (subcommand_rows_of matches.now) question run → ⊥ }
+    ensures found { IfSome result (IsFoundIn (entered matches.now)) }
+    ensures none { result ≡ None → NeverBoth (IsQuestionIn (entered matches.now)) }
 {
     if let Some(run) = traced_in(matches) {
         return Some(with_steps(matches, Question::Trace, run));
@@ -303,8 +303,8 @@ fn question_in<'a>(matches: &ArgMatches<'a>) -> Option<Parsed<'a>>
 
 // Returns the `ls` command, if the matches are of it.
 fn list_in<'a>(matches: &ArgMatches<'a>) -> Option<Command<'a>>
-    ensures found { IfSome result (IsCommandIn (subcommand_rows_of matches.now)) }
-    ensures none { result ≡ None → (tree : TreeInput) → IsValidTreeIn (subcommand_rows_of matches.now) (codes "ls") tree → ⊥ }
+    ensures found { IfSome result (IsCommandIn (entered matches.now)) }
+    ensures none { result ≡ None → Never (IsValidTreeIn (entered matches.now) (codes "ls")) }
 {
     let tree = tree_in(matches, "ls")?;
     match tree {
@@ -318,8 +318,8 @@ fn list_in<'a>(matches: &ArgMatches<'a>) -> Option<Command<'a>>
 
 // Returns the `cat` command, if the matches are of it.
 fn cat_in<'a>(matches: &ArgMatches<'a>) -> Option<Command<'a>>
-    ensures found { IfSome result (IsCommandIn (subcommand_rows_of matches.now)) }
-    ensures none { result ≡ None → (path : List ℕ) (tree : TreeInput) → IsTreeIn (subcommand_rows_of matches.now) (codes "cat") (codes "PATH") tree (Some path) → ⊥ }
+    ensures found { IfSome result (IsCommandIn (entered matches.now)) }
+    ensures none { result ≡ None → (path : List ℕ) (tree : TreeInput) → IsTreeIn (entered matches.now) (codes "cat") (codes "PATH") tree (Some path) → ⊥ }
 {
     let TreeTexts { tree, further } = tree_texts_in(matches, "cat", "PATH")?;
     Some(Command::AskTree {
@@ -330,8 +330,8 @@ fn cat_in<'a>(matches: &ArgMatches<'a>) -> Option<Command<'a>>
 
 // Returns the `turns` command, if the matches are of it.
 fn turns_in<'a>(matches: &ArgMatches<'a>) -> Option<Parsed<'a>>
-    ensures found { IfSome result (IsFoundIn (subcommand_rows_of matches.now)) }
-    ensures none { result ≡ None → (tree : TreeInput) → IsValidTreeIn (subcommand_rows_of matches.now) (codes "turns") tree → ⊥ }
+    ensures found { IfSome result (IsFoundIn (entered matches.now)) }
+    ensures none { result ≡ None → Never (IsValidTreeIn (entered matches.now) (codes "turns")) }
 {
     let tree = tree_in(matches, "turns")?;
     let Some(slice) = count_of(text_of(matches, "turns", "slice"), 1) else {
@@ -361,9 +361,9 @@ fn name_of_search(search: Search) -> &'static str
 
 // Returns the command of a search, if the matches are of it.
 fn search_by<'a>(matches: &ArgMatches<'a>, search: Search) -> Option<Parsed<'a>>
-    requires { HasFlags (subcommand_rows_of matches.now) search }
-    ensures found { IfSome result (IsFoundIn (subcommand_rows_of matches.now)) }
-    ensures none { result ≡ None → (tree : TreeInput) → IsValidTreeIn (subcommand_rows_of matches.now) (search_name search) tree → ⊥ }
+    requires { HasFlags (entered matches.now) search }
+    ensures found { IfSome result (IsFoundIn (entered matches.now)) }
+    ensures none { result ≡ None → Never (IsValidTreeIn (entered matches.now) (search_name search)) }
 {
     let command = name_of_search(search);
     let tree = tree_in(matches, command)?;
@@ -378,8 +378,8 @@ fn search_by<'a>(matches: &ArgMatches<'a>, search: Search) -> Option<Parsed<'a>>
 
 // Returns the command of a search, if there is one in the matches.
 fn search_in<'a>(matches: &ArgMatches<'a>) -> Option<Parsed<'a>>
-    ensures found { IfSome result (IsFoundIn (subcommand_rows_of matches.now)) }
-    ensures none { result ≡ None → (search : Search) (tree : TreeInput) → IsValidTreeIn (subcommand_rows_of matches.now) (search_name search) tree → ⊥ }
+    ensures found { IfSome result (IsFoundIn (entered matches.now)) }
+    ensures none { result ≡ None → NeverBoth (λ search. IsValidTreeIn (entered matches.now) (search_name search)) }
 {
     if let Some(found) = search_by(matches, Search::Explore) {
         return Some(found);
@@ -399,8 +399,8 @@ fn search_in<'a>(matches: &ArgMatches<'a>) -> Option<Parsed<'a>>
 
 // Returns the two inputs of `compare`, if the matches are of it.
 fn compared_in<'a>(matches: &ArgMatches<'a>) -> Option<CompareInput<'a>>
-    ensures found { IfSome result (AreComparedIn (subcommand_rows_of matches.now)) }
-    ensures none { result ≡ None → (inputs : CompareInput) → AreComparedIn (subcommand_rows_of matches.now) inputs → ⊥ }
+    ensures found { IfSome result (AreComparedIn (entered matches.now)) }
+    ensures none { result ≡ None → Never (AreComparedIn (entered matches.now)) }
 {
     let image = text_of(matches, "compare", "IMAGE")?;
     let other = text_of(matches, "compare", "OTHER");
@@ -421,8 +421,8 @@ fn compared_in<'a>(matches: &ArgMatches<'a>) -> Option<CompareInput<'a>>
 
 // Returns the `compare` command, if the matches are of it.
 fn compare_in<'a>(matches: &ArgMatches<'a>) -> Option<Parsed<'a>>
-    ensures found { IfSome result (IsFoundIn (subcommand_rows_of matches.now)) }
-    ensures none { result ≡ None → (inputs : CompareInput) → AreComparedIn (subcommand_rows_of matches.now) inputs → ⊥ }
+    ensures found { IfSome result (IsFoundIn (entered matches.now)) }
+    ensures none { result ≡ None → Never (AreComparedIn (entered matches.now)) }
 {
     let inputs = compared_in(matches)?;
     let Some(pairs) = states_of(text_of(matches, "compare", "states")) else {
@@ -433,7 +433,7 @@ fn compare_in<'a>(matches: &ArgMatches<'a>) -> Option<Parsed<'a>>
 
 // Returns the output of `source`.
 fn output_in(matches: &ArgMatches<'_>) -> Output
-    ensures { result ≡ output_entered (subcommand_rows_of matches.now) }
+    ensures { result ≡ output_entered (entered matches.now) }
 {
     if is_flag_given(matches, "source", "lines") {
         Output::ProgramLines
@@ -445,8 +445,8 @@ fn output_in(matches: &ArgMatches<'_>) -> Output
 // Returns the plain command in the matches, if there is one.
 #[tactic(auto, using(crate::proofs::LineLemmas::no_plain_command))]
 fn plain_command_in<'a>(matches: &ArgMatches<'a>) -> Option<Command<'a>>
-    ensures found { IfSome result (IsCommandIn (subcommand_rows_of matches.now)) }
-    ensures none { result ≡ None → (command : Command) → IsPlain command → IsCommandIn (subcommand_rows_of matches.now) command → ⊥ }
+    ensures found { IfSome result (IsCommandIn (entered matches.now)) }
+    ensures none { result ≡ None → (command : Command) → IsPlain command → IsCommandIn (entered matches.now) command → ⊥ }
 {
     if let Some(file) = text_of(matches, "source", "FILE") {
         return Some(Command::WriteSource {
@@ -465,8 +465,8 @@ fn plain_command_in<'a>(matches: &ArgMatches<'a>) -> Option<Command<'a>>
 
 // Returns the `migrate` command, if the matches are of it.
 fn migrate_in<'a>(matches: &ArgMatches<'a>) -> Option<Parsed<'a>>
-    ensures found { IfSome result (IsFoundIn (subcommand_rows_of matches.now)) }
-    ensures none { result ≡ None → (image out blocks inodes : List ℕ) → HasTexts (subcommand_rows_of matches.now) image out blocks inodes → ⊥ }
+    ensures found { IfSome result (IsFoundIn (entered matches.now)) }
+    ensures none { result ≡ None → (image out blocks inodes : List ℕ) → HasTexts (entered matches.now) image out blocks inodes → ⊥ }
 {
     let migration = migration_in(matches)?;
     match migration.command() {
@@ -477,10 +477,10 @@ fn migrate_in<'a>(matches: &ArgMatches<'a>) -> Option<Parsed<'a>>
 
 // Returns the `import` command, if the matches are of it.
 fn import_in<'a>(matches: &ArgMatches<'a>) -> Option<Parsed<'a>>
-    ensures found { IfSome result (IsFoundIn (subcommand_rows_of matches.now)) }
+    ensures found { IfSome result (IsFoundIn (entered matches.now)) }
     ensures none { result ≡ None → (directory image : List ℕ)
-        → entered_text (subcommand_rows_of matches.now) (codes "import") (codes "DIR") ≡ Some directory
-        → entered_text (subcommand_rows_of matches.now) (codes "import") (codes "IMAGE") ≡ Some image → ⊥ }
+        → entered_text (entered matches.now) (codes "import") (codes "DIR") ≡ Some directory
+        → entered_text (entered matches.now) (codes "import") (codes "IMAGE") ≡ Some image → ⊥ }
 {
     let directory = text_of(matches, "import", "DIR")?;
     let image = text_of(matches, "import", "IMAGE")?;
@@ -499,8 +499,8 @@ fn import_in<'a>(matches: &ArgMatches<'a>) -> Option<Parsed<'a>>
 // Returns the command without numeric arguments in the matches, if there is one.
 #[tactic(auto, using(crate::proofs::LineLemmas::no_command))]
 fn command_in<'a>(matches: &ArgMatches<'a>) -> Option<Command<'a>>
-    ensures found { IfSome result (IsCommandIn (subcommand_rows_of matches.now)) }
-    ensures none { result ≡ None → (command : Command) → IsWithoutNumbers command → IsCommandIn (subcommand_rows_of matches.now) command → ⊥ }
+    ensures found { IfSome result (IsCommandIn (entered matches.now)) }
+    ensures none { result ≡ None → (command : Command) → IsWithoutNumbers command → IsCommandIn (entered matches.now) command → ⊥ }
 {
     if let Some(command) = plain_command_in(matches) {
         return Some(command);
@@ -514,8 +514,8 @@ fn command_in<'a>(matches: &ArgMatches<'a>) -> Option<Command<'a>>
 // Returns the command in the matches, if there is one.
 #[tactic(auto, using(crate::proofs::LineLemmas::no_command_at_all))]
 pub(crate) fn found_in<'a>(matches: &ArgMatches<'a>) -> Option<Parsed<'a>>
-    ensures found { IfSome result (IsFoundIn (subcommand_rows_of matches.now)) }
-    ensures none { result ≡ None → (command : Command) → IsCommandIn (subcommand_rows_of matches.now) command → ⊥ }
+    ensures found { IfSome result (IsFoundIn (entered matches.now)) }
+    ensures none { result ≡ None → Never (IsCommandIn (entered matches.now)) }
 {
     if let Some(command) = command_in(matches) {
         return Some(Parsed::Command(command));

@@ -1,7 +1,7 @@
 //! The texts and numbers of a command in the parser's matches.
-ghost use Rattle.std.specs.Prelude.{◌≡◌, ℕ, List, codes, Option, None, Some, IfSome, option_map};
-ghost use Rattle.clap.specs.Words.{found_of, rows_of, subcommand_rows_of};
-ghost use Rattle.pv_cli_line.specs.Line.{IsGivenIn, IsRunIn, IsScheduleOf, IsTextIn, IsTextless, IsTreeIn, IsValidRunIn, IsValidTreeIn, count_in, entered_text, is_given, is_set, is_set_in, is_verbose_in, size_in, states_in, version_in};
+ghost use Rattle.std.specs.Prelude.{◌≡◌, Option, None, Some, IfSome, option_map};
+ghost use Rattle.clap.specs.Words.{found_of, rows_of, subcommand_rows_of as entered};
+ghost use Rattle.pv_cli_line.specs.Line.{AreRunTextsIn, AreTreeTextsIn, IsGivenIn, IsRunIn, IsScheduleOf, IsTextIn, IsTextless, IsTreeIn, IsValidRunIn, IsValidTreeIn, Never, NeverBoth, count_in, entered_text, is_given, is_set, is_set_in, is_verbose_in, size_in, states_in, version_in};
 
 use clap::ArgMatches;
 use pv_cli_commands::{RunInput, ScheduleInput, TextInput, TreeInput};
@@ -14,7 +14,7 @@ pub(crate) fn text_of<'a>(
     command: &str,
     argument: &str,
 ) -> Option<&'a str>
-    ensures { option_map (λ text. text.now) result ≡ entered_text (subcommand_rows_of matches.now) command.now argument.now }
+    ensures { option_map (λ text. text.now) result ≡ entered_text (entered matches.now) command.now argument.now }
 {
     let inner = matches.subcommand_matches(command)?;
     inner.get_str(argument)
@@ -32,7 +32,7 @@ fn is_set(matches: &ArgMatches<'_>, flag: &str) -> bool
 
 // Returns whether a flag is set in the matches, before or after the name of a command.
 fn is_set_in(matches: &ArgMatches<'_>, flag: &str) -> bool
-    ensures { result ≡ is_set_in (rows_of (found_of matches.now)) (subcommand_rows_of matches.now) flag.now }
+    ensures { result ≡ is_set_in (rows_of (found_of matches.now)) (entered matches.now) flag.now }
 {
     let above = is_set(matches, flag);
     match matches.subcommand() {
@@ -43,7 +43,7 @@ fn is_set_in(matches: &ArgMatches<'_>, flag: &str) -> bool
 
 // Returns whether errors are explained: by default or because of the flag `verbose`, unless the flag `quiet` is set.
 pub(crate) fn is_verbose(matches: &ArgMatches<'_>, by_default: bool) -> bool
-    ensures { result ≡ is_verbose_in by_default (rows_of (found_of matches.now)) (subcommand_rows_of matches.now) }
+    ensures { result ≡ is_verbose_in by_default (rows_of (found_of matches.now)) (entered matches.now) }
 {
     (by_default || is_set_in(matches, "verbose")) && !is_set_in(matches, "quiet")
 }
@@ -109,7 +109,7 @@ pub(crate) fn version_of(word: Option<&str>) -> Option<Version>
 
 // Returns whether a flag is set, if the matches are of the given command.
 pub(crate) fn is_flag_given(matches: &ArgMatches<'_>, command: &str, flag: &str) -> bool
-    ensures { result ≡ is_given (entered_text (subcommand_rows_of matches.now) command.now flag.now) }
+    ensures { result ≡ is_given (entered_text (entered matches.now) command.now flag.now) }
 {
     match text_of(matches, command, flag) {
         Some(text) => text == "true",
@@ -131,7 +131,7 @@ pub(crate) enum Given<'a> {
 // Returns the manifests and bundles that are given, if the matches are of the given command.
 #[tactic(auto, using(crate::proofs::LineLemmas::text_none, crate::proofs::LineLemmas::text_both))]
 fn given_in<'a>(matches: &ArgMatches<'a>, command: &str) -> Given<'a>
-    ensures { IsGivenIn (subcommand_rows_of matches.now) command.now result }
+    ensures { IsGivenIn (entered matches.now) command.now result }
 {
     match (
         text_of(matches, command, "bundle"),
@@ -153,10 +153,10 @@ pub(crate) struct RunTexts<'a> {
 
 // Returns the image with its schedule and the argument after them, if the matches are of the given command.
 fn image_texts_in<'a>(matches: &ArgMatches<'a>, command: &str, last: &str) -> Option<RunTexts<'a>>
-    requires none { IsTextless (subcommand_rows_of matches.now) command.now }
-    requires text { (text : TextInput) → IsTextIn (subcommand_rows_of matches.now) command.now text → ⊥ }
-    ensures found { IfSome result (λ texts. IsRunIn (subcommand_rows_of matches.now) command.now last.now texts.run (option_map (λ text. text.now) texts.further)) }
-    ensures none { result ≡ None → (run : RunInput) (further : Option (List ℕ)) → IsRunIn (subcommand_rows_of matches.now) command.now last.now run further → ⊥ }
+    requires none { IsTextless (entered matches.now) command.now }
+    requires text { Never (IsTextIn (entered matches.now) command.now) }
+    ensures found { IfSome result (AreRunTextsIn (entered matches.now) command.now last.now) }
+    ensures none { result ≡ None → NeverBoth (IsRunIn (entered matches.now) command.now last.now) }
 {
     let image = text_of(matches, command, "IMAGE")?;
     let second = text_of(matches, command, "SCHEDULE");
@@ -186,10 +186,10 @@ fn bundle_texts_in<'a>(
     last: &str,
     manifest: TextInput<'a>,
 ) -> Option<RunTexts<'a>>
-    requires text { IsTextIn (subcommand_rows_of matches.now) command.now manifest }
-    requires some { IsTextless (subcommand_rows_of matches.now) command.now → ⊥ }
-    ensures found { IfSome result (λ texts. IsRunIn (subcommand_rows_of matches.now) command.now last.now texts.run (option_map (λ text. text.now) texts.further)) }
-    ensures none { result ≡ None → (run : RunInput) (further : Option (List ℕ)) → IsRunIn (subcommand_rows_of matches.now) command.now last.now run further → ⊥ }
+    requires text { IsTextIn (entered matches.now) command.now manifest }
+    requires some { IsTextless (entered matches.now) command.now → ⊥ }
+    ensures found { IfSome result (AreRunTextsIn (entered matches.now) command.now last.now) }
+    ensures none { result ≡ None → NeverBoth (IsRunIn (entered matches.now) command.now last.now) }
 {
     let first = text_of(matches, command, "IMAGE");
     let second = text_of(matches, command, "SCHEDULE");
@@ -226,8 +226,8 @@ pub(crate) fn run_texts_in<'a>(
     command: &str,
     last: &str,
 ) -> Option<RunTexts<'a>>
-    ensures found { IfSome result (λ texts. IsRunIn (subcommand_rows_of matches.now) command.now last.now texts.run (option_map (λ text. text.now) texts.further)) }
-    ensures none { result ≡ None → (run : RunInput) (further : Option (List ℕ)) → IsRunIn (subcommand_rows_of matches.now) command.now last.now run further → ⊥ }
+    ensures found { IfSome result (AreRunTextsIn (entered matches.now) command.now last.now) }
+    ensures none { result ≡ None → NeverBoth (IsRunIn (entered matches.now) command.now last.now) }
 {
     match given_in(matches, command) {
         Given::Nothing => image_texts_in(matches, command, last),
@@ -238,8 +238,8 @@ pub(crate) fn run_texts_in<'a>(
 
 // Returns the input of a run of a command without a further argument, if the matches are of that command.
 pub(crate) fn run_in<'a>(matches: &ArgMatches<'a>, command: &str) -> Option<RunInput<'a>>
-    ensures found { IfSome result (λ run. IsValidRunIn (subcommand_rows_of matches.now) command.now run) }
-    ensures none { result ≡ None → (run : RunInput) → IsValidRunIn (subcommand_rows_of matches.now) command.now run → ⊥ }
+    ensures found { IfSome result (λ run. IsValidRunIn (entered matches.now) command.now run) }
+    ensures none { result ≡ None → Never (IsValidRunIn (entered matches.now) command.now) }
 {
     match given_in(matches, command) {
         Given::Nothing => image_run_in(matches, command),
@@ -250,10 +250,10 @@ pub(crate) fn run_in<'a>(matches: &ArgMatches<'a>, command: &str) -> Option<RunI
 
 // Returns the image with its schedule of a command without a further argument, if the matches are of that command.
 fn image_run_in<'a>(matches: &ArgMatches<'a>, command: &str) -> Option<RunInput<'a>>
-    requires none { IsTextless (subcommand_rows_of matches.now) command.now }
-    requires text { (text : TextInput) → IsTextIn (subcommand_rows_of matches.now) command.now text → ⊥ }
-    ensures found { IfSome result (λ run. IsValidRunIn (subcommand_rows_of matches.now) command.now run) }
-    ensures none { result ≡ None → (run : RunInput) → IsValidRunIn (subcommand_rows_of matches.now) command.now run → ⊥ }
+    requires none { IsTextless (entered matches.now) command.now }
+    requires text { Never (IsTextIn (entered matches.now) command.now) }
+    ensures found { IfSome result (λ run. IsValidRunIn (entered matches.now) command.now run) }
+    ensures none { result ≡ None → Never (IsValidRunIn (entered matches.now) command.now) }
 {
     let image = text_of(matches, command, "IMAGE")?;
     let schedule = one_schedule(
@@ -270,10 +270,10 @@ fn bundle_run_in<'a>(
     command: &str,
     manifest: TextInput<'a>,
 ) -> Option<RunInput<'a>>
-    requires text { IsTextIn (subcommand_rows_of matches.now) command.now manifest }
-    requires some { IsTextless (subcommand_rows_of matches.now) command.now → ⊥ }
-    ensures found { IfSome result (λ run. IsValidRunIn (subcommand_rows_of matches.now) command.now run) }
-    ensures none { result ≡ None → (run : RunInput) → IsValidRunIn (subcommand_rows_of matches.now) command.now run → ⊥ }
+    requires text { IsTextIn (entered matches.now) command.now manifest }
+    requires some { IsTextless (entered matches.now) command.now → ⊥ }
+    ensures found { IfSome result (λ run. IsValidRunIn (entered matches.now) command.now run) }
+    ensures none { result ≡ None → Never (IsValidRunIn (entered matches.now) command.now) }
 {
     let turns = text_of(matches, command, "by");
     let first = text_of(matches, command, "IMAGE");
@@ -290,7 +290,7 @@ fn bundle_run_in<'a>(
 // Returns the schedule, if exactly one of a file and turns is given.
 fn one_schedule<'a>(file: Option<&'a str>, turns: Option<&'a str>) -> Option<ScheduleInput<'a>>
     ensures found { IfSome result (λ schedule. IsScheduleOf (option_map (λ text. text.now) file.entry) (option_map (λ text. text.now) turns.entry) schedule) }
-    ensures none { result ≡ None → (schedule : ScheduleInput) → IsScheduleOf (option_map (λ text. text.now) file.entry) (option_map (λ text. text.now) turns.entry) schedule → ⊥ }
+    ensures none { result ≡ None → Never (IsScheduleOf (option_map (λ text. text.now) file.entry) (option_map (λ text. text.now) turns.entry)) }
 {
     match (file, turns) {
         (Some(file), None) => Some(ScheduleInput::File(file)),
@@ -313,8 +313,8 @@ pub(crate) fn tree_texts_in<'a>(
     command: &str,
     last: &str,
 ) -> Option<TreeTexts<'a>>
-    ensures found { IfSome result (λ texts. IsTreeIn (subcommand_rows_of matches.now) command.now last.now texts.tree (option_map (λ text. text.now) texts.further)) }
-    ensures none { result ≡ None → (tree : TreeInput) (further : Option (List ℕ)) → IsTreeIn (subcommand_rows_of matches.now) command.now last.now tree further → ⊥ }
+    ensures found { IfSome result (AreTreeTextsIn (entered matches.now) command.now last.now) }
+    ensures none { result ≡ None → NeverBoth (IsTreeIn (entered matches.now) command.now last.now) }
 {
     let first = text_of(matches, command, "IMAGE");
     let further = text_of(matches, command, last);
@@ -335,8 +335,8 @@ pub(crate) fn tree_texts_in<'a>(
 // Returns the input that has a tree, if the matches are of the given command, which has no further argument.
 #[tactic(auto, using(crate::proofs::LineLemmas::tree_further))]
 pub(crate) fn tree_in<'a>(matches: &ArgMatches<'a>, command: &str) -> Option<TreeInput<'a>>
-    ensures found { IfSome result (λ tree. IsValidTreeIn (subcommand_rows_of matches.now) command.now tree) }
-    ensures none { result ≡ None → (tree : TreeInput) → IsValidTreeIn (subcommand_rows_of matches.now) command.now tree → ⊥ }
+    ensures found { IfSome result (λ tree. IsValidTreeIn (entered matches.now) command.now tree) }
+    ensures none { result ≡ None → Never (IsValidTreeIn (entered matches.now) command.now) }
 {
     let texts = tree_texts_in(matches, command, "PATH")?;
     if texts.further.is_some() {

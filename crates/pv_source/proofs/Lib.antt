@@ -1,7 +1,7 @@
 -- Lemmas of sources: SourceWords (the words of a line), SourceLines (lines with words, and the lines of a body),
 -- SourceBlocks (blocks), SourceEntries (the entries of blocks), SourcePrograms (labels and instructions), ReportedLines
--- (the lines that are reported), SaidBytes (their messages), WrittenTexts (the translation), LocatedLines (the
--- instructions with their lines).
+-- (the lines that are reported), SaidBytes (their messages), WrittenReports (the reports that are written), WrittenTexts
+-- (the translation), LocatedLines (the instructions with their lines).
 pub mod LocatedLines
 pub mod SaidBytes
 pub mod SourceBlocks
@@ -10,4 +10,5 @@ pub mod SourceLines
 pub mod SourcePrograms
 pub mod SourceWords
 pub mod ReportedLines
+pub mod WrittenReports
 pub mod WrittenTexts

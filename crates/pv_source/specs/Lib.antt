@@ -1,3 +1,4 @@
+pub mod Given
 pub mod LineCheck
 pub mod Located
 pub mod Outcome

@@ -1,14 +1,9 @@
 //! Reading a source to its end and writing its translation, or the lines of its programs.
-ghost use Rattle.std.specs.Prelude.{◌≡◌, ◌≢◌, ◌⊎◌, ◌++◌, ◌+◌, ◌<◌, ◌≤◌, ◌^◌, [], length, map, IfOk, IfErr, IfSome, OnOk, Err};
-ghost use Rattle.pv_model.specs.Source.Blocks.{blocks_of};
-ghost use Rattle.pv_model.specs.Source.Written.{text_of_blocks};
-ghost use Rattle.pv_model.specs.Stream.{Rose};
-ghost use Rattle.pv_source.specs.Outcome.{reported_of, fault_line, fault_lines, output_of, AreLines, WritesText, ReportsFaults, BeginsText, BeginsFaults, IsBefore, stop_of};
+ghost use Rattle.std.specs.Prelude.{◌≡◌, ◌++◌, ◌+◌, ◌<◌, ◌≤◌, ◌^◌, length, map, IfOk, OnOk};
+ghost use Rattle.pv_source.specs.Given.{WritesGiven, WritesOutput, WritesRight, output_of_source};
+ghost use Rattle.pv_source.specs.Outcome.{AreLines, fault_line, fault_lines, reported_of, stop_of};
 ghost use Rattle.pv_source.specs.Saying.{IsPrintable};
-ghost use Rattle.pv_source.specs.Warnings.{BeginsWarnings, Warns, warned_lines};
 ghost use Rattle.pv_source.specs.declared.source.SourceStop.TheVariants.{Memory as MemoryStop, Write as WriteStop};
-ghost use Rattle.pv_streams.specs.Sinks.{WritesPrefix, and_all};
-ghost use Rattle.pv_streams.specs.Sources.{FailsToGive};
 
 use crate::faults::Fault;
 use crate::located::located_lines;
@@ -112,7 +107,7 @@ pub(crate) fn faults_text(
 // Returns the output for a source without errors.
 fn output_of(alloc: Global, output: Output, source: &[u8]) -> Result<Vec<u8>, AllocError>
     requires { length source.now + 1 < 2 ^ 31 }
-    ensures { IfOk result (λ text. text.items ≡ output_of output source.now (text_of_blocks (blocks_of source.now))) }
+    ensures { IfOk result (λ text. text.items ≡ output_of_source output source.now) }
 {
     match output {
         Output::Translation => text_of(alloc, source),
@@ -130,16 +125,7 @@ fn write_right<W: Sink, E: Sink>(
     reported: &mut E,
 ) -> Result<(), SourceStop>
     requires { length source.now + 1 < 2 ^ 31 }
-    ensures written { OnOk result (W.written out.new ≡ and_all (W.written out.old) (output_of output source.now (text_of_blocks (blocks_of source.now)))) }
-    ensures warned { OnOk result (Warns name.now source.now (E.written reported.old) (E.written reported.new)) }
-    ensures silent { OnOk result (warned_lines source.now ≡ [] → reported.new ≡ reported.old) }
-    ensures empty { OnOk result (W.buffered out.new ≡ 0) }
-    ensures kind { IfErr result (λ stop. (stop ≡ SourceStop.Memory) ⊎ (stop ≡ SourceStop.Write)) }
-    ensures stopped { result ≡ Err SourceStop.Memory → (out.new ≡ out.old) × (reported.new ≡ reported.old) }
-    ensures write { result ≡ Err SourceStop.Write → (Rose (W.failures out.old) (W.failures out.new) × (reported.new ≡ reported.old))
-        ⊎ (Rose (E.failures reported.old) (E.failures reported.new) × (W.written out.new ≡ and_all (W.written out.old) (output_of output source.now (text_of_blocks (blocks_of source.now))))) }
-    ensures begun { result ≡ Err SourceStop.Write → (WritesPrefix (output_of output source.now (text_of_blocks (blocks_of source.now))) (W.written out.old) (W.written out.new) × (reported.new ≡ reported.old))
-        ⊎ (BeginsWarnings name.now source.now (E.written reported.old) (E.written reported.new) × (W.written out.new ≡ and_all (W.written out.old) (output_of output source.now (text_of_blocks (blocks_of source.now))))) }
+    ensures { WritesRight W.Sink E.Sink (output_of_source output source.now) name.now source.now out.old out.new reported.old reported.new result }
 {
     let text = output_of(alloc, output, source)?;
     let warnings = warnings_of(alloc, source)?;
@@ -162,19 +148,7 @@ fn write_bytes<W: Sink, E: Sink>(
     reported: &mut E,
 ) -> Result<(), SourceStop>
     requires { length source.now ≤ SOURCE_BYTES }
-    ensures written { OnOk result (WritesText output source.now (W.written out.old) (W.written out.new)) }
-    ensures refused { result ≡ Err SourceStop.Refused → ReportsFaults name.now source.now (E.written reported.old) (E.written reported.new) }
-    ensures empty { OnOk result (W.buffered out.new ≡ 0) }
-    ensures unwritten { result ≡ Err SourceStop.Refused → out.new ≡ out.old }
-    ensures warned { OnOk result (Warns name.now source.now (E.written reported.old) (E.written reported.new)) }
-    ensures silent { OnOk result (warned_lines source.now ≡ [] → reported.new ≡ reported.old) }
-    ensures unread { result ≢ Err SourceStop.Read }
-    ensures stopped { result ≡ Err SourceStop.Memory → (out.new ≡ out.old) × (reported.new ≡ reported.old) }
-    ensures write { result ≡ Err SourceStop.Write → (Rose (W.failures out.old) (W.failures out.new) × (reported.new ≡ reported.old))
-        ⊎ (Rose (E.failures reported.old) (E.failures reported.new) × ((out.new ≡ out.old) ⊎ WritesText output source.now (W.written out.old) (W.written out.new))) }
-    ensures begun { result ≡ Err SourceStop.Write → (BeginsText output source.now (W.written out.old) (W.written out.new) × (reported.new ≡ reported.old))
-        ⊎ ((BeginsFaults name.now source.now (E.written reported.old) (E.written reported.new) × (out.new ≡ out.old))
-        ⊎ (BeginsWarnings name.now source.now (E.written reported.old) (E.written reported.new) × WritesText output source.now (W.written out.old) (W.written out.new))) }
+    ensures { WritesGiven W.Sink E.Sink (λ holds. holds source.now) ⊥ output name.now out.old out.new reported.old reported.new result }
 {
     let faults = faults_of(alloc, source)?;
     if faults.is_empty() {
@@ -207,23 +181,7 @@ pub fn write_source<S: Source, W: Sink, E: Sink>(
     out: &mut W,
     reported: &mut E,
 ) -> Result<(), SourceStop>
-    ensures written { OnOk result (IfSome (S.remaining source.old) (λ bytes. WritesText output bytes (W.written out.old) (W.written out.new))) }
-    ensures refused { result ≡ Err SourceStop.Refused → IfSome (S.remaining source.old) (λ bytes. ReportsFaults name.now bytes (E.written reported.old) (E.written reported.new)) }
-    ensures empty { OnOk result (W.buffered out.new ≡ 0) }
-
-    // If lines have errors, nothing is written to `out`. If no line has one, only warnings are written to `reported`.
-    ensures unwritten { result ≡ Err SourceStop.Refused → out.new ≡ out.old }
-    ensures warned { OnOk result (IfSome (S.remaining source.old) (λ bytes. Warns name.now bytes (E.written reported.old) (E.written reported.new))) }
-    ensures silent { OnOk result (IfSome (S.remaining source.old) (λ bytes. warned_lines bytes ≡ [] → reported.new ≡ reported.old)) }
-    ensures read { result ≡ Err SourceStop.Read → FailsToGive S.Source source.old source.new }
-    ensures stopped { IfErr result (λ stop. IsBefore stop → (out.new ≡ out.old) × (reported.new ≡ reported.old)) }
-
-    // After a failed write nothing was written to the other sink, except that warnings follow the whole output.
-    ensures write { result ≡ Err SourceStop.Write → IfSome (S.remaining source.old) (λ bytes. (Rose (W.failures out.old) (W.failures out.new) × (reported.new ≡ reported.old))
-        ⊎ (Rose (E.failures reported.old) (E.failures reported.new) × ((out.new ≡ out.old) ⊎ WritesText output bytes (W.written out.old) (W.written out.new)))) }
-    ensures begun { result ≡ Err SourceStop.Write → IfSome (S.remaining source.old) (λ bytes. (BeginsText output bytes (W.written out.old) (W.written out.new) × (reported.new ≡ reported.old))
-        ⊎ ((BeginsFaults name.now bytes (E.written reported.old) (E.written reported.new) × (out.new ≡ out.old))
-        ⊎ (BeginsWarnings name.now bytes (E.written reported.old) (E.written reported.new) × WritesText output bytes (W.written out.old) (W.written out.new)))) }
+    ensures { WritesOutput S.Source W.Sink E.Sink output name.now source.old source.new out.old out.new reported.old reported.new result }
 {
     let bytes = read_whole(alloc, source)?;
     write_bytes(alloc, output, name, &bytes, out, reported)

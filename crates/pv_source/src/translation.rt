@@ -1,12 +1,6 @@
 //! Reading a source to its end and translating it in memory.
-ghost use Rattle.std.specs.Prelude.{◌≡◌, ◌≢◌, ◌⊎◌, ◌+◌, ◌<◌, ◌≤◌, ◌^◌, [], length, IfOk, IfErr, IfSome, OnOk, Ok, Err};
-ghost use Rattle.pv_model.specs.Source.Blocks.{blocks_of};
-ghost use Rattle.pv_model.specs.Source.Judged.{read_source};
-ghost use Rattle.pv_model.specs.Source.Written.{text_of_blocks};
-ghost use Rattle.pv_model.specs.Stream.{Rose};
-ghost use Rattle.pv_source.specs.Outcome.{BeginsFaults, IsBefore, ReportsFaults};
-ghost use Rattle.pv_source.specs.Warnings.{BeginsWarnings, Warns, warned_lines};
-ghost use Rattle.pv_streams.specs.Sources.{FailsToGive};
+ghost use Rattle.std.specs.Prelude.{◌+◌, ◌<◌, ◌≤◌, ◌^◌, length};
+ghost use Rattle.pv_source.specs.Given.{TranslatesGiven, TranslatesRight, TranslatesSource};
 
 use crate::source::{SourceStop, faults_text};
 use crate::texts::text_of;
@@ -23,13 +17,7 @@ fn translated_right<E: Sink>(
     reported: &mut E,
 ) -> Result<Vec<u8>, SourceStop>
     requires { length source.now + 1 < 2 ^ 31 }
-    ensures text { IfOk result (λ text. text.items ≡ text_of_blocks (blocks_of source.now)) }
-    ensures warned { OnOk result (Warns name.now source.now (E.written reported.old) (E.written reported.new)) }
-    ensures silent { OnOk result (warned_lines source.now ≡ [] → reported.new ≡ reported.old) }
-    ensures kind { IfErr result (λ stop. (stop ≡ SourceStop.Memory) ⊎ (stop ≡ SourceStop.Write)) }
-    ensures stopped { result ≡ Err SourceStop.Memory → reported.new ≡ reported.old }
-    ensures write { result ≡ Err SourceStop.Write → Rose (E.failures reported.old) (E.failures reported.new) }
-    ensures begun { result ≡ Err SourceStop.Write → BeginsWarnings name.now source.now (E.written reported.old) (E.written reported.new) }
+    ensures { TranslatesRight E.Sink name.now source.now reported.old reported.new result }
 {
     let text = text_of(alloc, source)?;
     let warnings = warnings_of(alloc, source)?;
@@ -49,15 +37,7 @@ fn translated<E: Sink>(
     reported: &mut E,
 ) -> Result<Vec<u8>, SourceStop>
     requires { length source.now ≤ SOURCE_BYTES }
-    ensures text { IfOk result (λ text. read_source source.now ≡ Ok text.items) }
-    ensures refused { result ≡ Err SourceStop.Refused → ReportsFaults name.now source.now (E.written reported.old) (E.written reported.new) }
-    ensures warned { OnOk result (Warns name.now source.now (E.written reported.old) (E.written reported.new)) }
-    ensures silent { OnOk result (warned_lines source.now ≡ [] → reported.new ≡ reported.old) }
-    ensures unread { IfErr result (λ stop. stop ≢ SourceStop.Read) }
-    ensures stopped { result ≡ Err SourceStop.Memory → reported.new ≡ reported.old }
-    ensures write { result ≡ Err SourceStop.Write → Rose (E.failures reported.old) (E.failures reported.new) }
-    ensures begun { result ≡ Err SourceStop.Write → BeginsFaults name.now source.now (E.written reported.old) (E.written reported.new)
-        ⊎ BeginsWarnings name.now source.now (E.written reported.old) (E.written reported.new) }
+    ensures { TranslatesGiven E.Sink (λ holds. holds source.now) ⊥ name.now reported.old reported.new result }
 {
     let faults = faults_of(alloc, source)?;
     if faults.is_empty() {
@@ -87,15 +67,7 @@ pub fn translate<S: Source, E: Sink>(
     source: &mut S,
     reported: &mut E,
 ) -> Result<Vec<u8>, SourceStop>
-    ensures text { IfOk result (λ text. IfSome (S.remaining source.old) (λ bytes. read_source bytes ≡ Ok text.items)) }
-    ensures refused { result ≡ Err SourceStop.Refused → IfSome (S.remaining source.old) (λ bytes. ReportsFaults name.now bytes (E.written reported.old) (E.written reported.new)) }
-    ensures warned { OnOk result (IfSome (S.remaining source.old) (λ bytes. Warns name.now bytes (E.written reported.old) (E.written reported.new))) }
-    ensures silent { OnOk result (IfSome (S.remaining source.old) (λ bytes. warned_lines bytes ≡ [] → reported.new ≡ reported.old)) }
-    ensures read { result ≡ Err SourceStop.Read → FailsToGive S.Source source.old source.new }
-    ensures stopped { IfErr result (λ stop. IsBefore stop → reported.new ≡ reported.old) }
-    ensures write { result ≡ Err SourceStop.Write → Rose (E.failures reported.old) (E.failures reported.new) }
-    ensures begun { result ≡ Err SourceStop.Write → IfSome (S.remaining source.old) (λ bytes. BeginsFaults name.now bytes (E.written reported.old) (E.written reported.new)
-        ⊎ BeginsWarnings name.now bytes (E.written reported.old) (E.written reported.new)) }
+    ensures { TranslatesSource S.Source E.Sink name.now source.old source.new reported.old reported.new result }
 {
     let bytes = read_whole(alloc, source)?;
     translated(alloc, name, &bytes, reported)

@@ -1,34 +1,17 @@
-use Rattle.std.proofs.Common.{◌∙◌, [], ap, inr, subst, sym}
-use Rattle.std.specs.Prelude.{map}
-use Rattle.pv_streams.proofs.Reporting.{written_none}
-use Rattle.pv_streams.specs.Sinks.{and_all, WritesPrefix}
-use Rattle.pv_source.specs.Outcome.{reported_of}
-use Rattle.pv_source.proofs.ReportedLines.{no_fault, reported_faults}
+use Rattle.std.proofs.Common.{◌∙◌, ap, rules}
+use Rattle.pv_streams.specs.Sinks.{and_all}
+use Rattle.pv_source.proofs.WrittenReports.{begins_warnings, warns}
 use Rattle.pv_source.proofs.source.write_right.Goals as goal
 
-pub returns-then-is_empty-clause-warned : goal.returns-then-is_empty-clause-warned
-returns-then-is_empty-clause-warned g c = (
-  [],
-  sym c.in_ok-warnings.ensures ∙ no_fault _ _ c.is_empty.ensures.value c.if-is_empty.true,
-  written_none (g.E.Sink.written c.args.reported.now),
-  tt,
-)
+pub returns-in_err-write_through-2 : goal.returns-in_err-write_through-2
+returns-in_err-write_through-2 g c =
+    let whole = c.in_ok-write_through.ensures.written.whole ∙ ap (and_all (g.W.Sink.written c.args.out.now)) (c.deref.ensures.value ∙ c.in_ok-text.ensures) in
+    let begun = begins_warnings c.args.name.now c.args.source.now c.reported.result.now _ (c.deref-2.ensures.value ∙ c.in_ok-warned.ensures.text) c.in_ok-warned.ensures.lines
+    _ _ (c.reported.ensures ∙ c.in_ok-warnings.ensures) c.in_err-write_through-2.ensures.written.prefix in
+    search (rules, whole, begun)
 
-pub returns-clause-warned : goal.returns-clause-warned
-returns-clause-warned g c = (
-  map reported_of c.reported.result.now,
-  sym (reported_faults c.reported.result.now ∙ c.reported.ensures ∙ c.in_ok-warnings.ensures),
-  c.in_ok-write_through-2.ensures.written.whole ∙ ap (and_all (g.E.Sink.written c.args.reported.now)) (c.deref-2.ensures.value ∙ c.in_ok-warned.ensures.text),
-  c.in_ok-warned.ensures.lines,
-)
-
-pub returns-in_err-write_through-2-clause-begun : goal.returns-in_err-write_through-2-clause-begun
-returns-in_err-write_through-2-clause-begun g c = λ _. inr (
-  (
-    map reported_of c.reported.result.now,
-    sym (reported_faults c.reported.result.now ∙ c.reported.ensures ∙ c.in_ok-warnings.ensures),
-    subst (λ text. WritesPrefix text (g.E.Sink.written c.args.reported.now) (g.E.Sink.written c.write_through-2.new.sink)) (c.deref-2.ensures.value ∙ c.in_ok-warned.ensures.text) c.in_err-write_through-2.ensures.written.prefix,
-    c.in_ok-warned.ensures.lines,
-  ),
-  c.in_ok-write_through.ensures.written.whole ∙ ap (and_all (g.W.Sink.written c.args.out.now)) (c.deref.ensures.value ∙ c.in_ok-text.ensures),
-)
+pub returns : goal.returns
+returns g c =
+    let warned = warns c.args.name.now c.args.source.now c.reported.result.now _ (c.deref-2.ensures.value ∙ c.in_ok-warned.ensures.text) c.in_ok-warned.ensures.lines
+    _ _ (c.reported.ensures ∙ c.in_ok-warnings.ensures) c.in_ok-write_through-2.ensures.written.whole in
+    search (rules, warned)

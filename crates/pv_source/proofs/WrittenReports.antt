@@ -1,0 +1,33 @@
+-- Reports of errors and of warnings that were written.
+use Rattle.std.proofs.Common.{◌≡◌, ◌∙◌, Ok, Err, ap, subst, inl, inr, ⊎_elim, ℕ, List, [], sym, refl}
+use Rattle.std.specs.Prelude.{Option, map}
+use Rattle.pv_model.specs.Bytes.{Bytes}
+use Rattle.pv_model.specs.Source.Judged.{read_source}
+use Rattle.pv_streams.proofs.Reporting.{written_none}
+use Rattle.pv_streams.specs.Sinks.{WritesPrefix, and_all}
+use Rattle.pv_source.specs.declared.faults.Fault.{Fault}
+use Rattle.pv_source.specs.Outcome.{AreLines, BeginsFaults, ReportsFaults, fault_lines, reported_of}
+use Rattle.pv_source.specs.Reporting.{line_of}
+use Rattle.pv_source.specs.Warnings.{BeginsWarnings, Warns, warned_lines}
+use Rattle.pv_source.proofs.ReportedLines.{reported_faults}
+
+-- without a warning, nothing is reported
+pub warns_nothing : (name source : Bytes) (written : Option Bytes) → warned_lines source ≡ [] → Warns name source written written
+warns_nothing name source written none = ([], none, written_none written, tt)
+
+module _ (name source : Bytes) (faults : List Fault) (text : Bytes) (is : text ≡ fault_lines name (map reported_of faults)) (lines : AreLines (map reported_of faults)) (before after : Option Bytes) where
+  -- the text of warnings, or a prefix of it, was written
+  module _ (warned : map line_of faults ≡ warned_lines source) where
+    pub warns : after ≡ and_all before text → Warns name source before after
+    warns whole = (map reported_of faults, sym (reported_faults faults ∙ warned), whole ∙ ap (and_all before) is, lines)
+
+    pub begins_warnings : WritesPrefix text before after → BeginsWarnings name source before after
+    begins_warnings prefix = (map reported_of faults, sym (reported_faults faults ∙ warned), subst (λ bytes. WritesPrefix bytes before after) is prefix, lines)
+
+  -- the text of errors, or a prefix of it, was written
+  module _ (invalid : read_source source ≡ Err (map (λ (t : ℕ × Bytes). t.0) (map reported_of faults))) where
+    pub reports_faults : after ≡ and_all before text → ReportsFaults name source before after
+    reports_faults whole = (map reported_of faults, invalid, whole ∙ ap (and_all before) is, lines)
+
+    pub begins_faults : WritesPrefix text before after → BeginsFaults name source before after
+    begins_faults prefix = (map reported_of faults, invalid, subst (λ bytes. WritesPrefix bytes before after) is prefix, lines)
