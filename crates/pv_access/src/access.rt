@@ -1,12 +1,12 @@
 //! The accesses of all schedules.
-ghost use Rattle.std.specs.Prelude.{◌≡◌, ◌≤◌, IfErr, IfOk, OnErr, OnOk};
+ghost use Rattle.std.specs.Prelude.{◌≡◌, ◌≤◌, IfOk};
 ghost use Rattle.pv_access.specs.Unread.{last_lines};
 ghost use Rattle.pv_model.specs.Answers.Access.{access_lines};
 ghost use Rattle.pv_model.specs.Answers.Explore.{is_complete};
 ghost use Rattle.pv_model.specs.Answers.Lines.{answer_bytes};
 ghost use Rattle.pv_model.specs.Grammar.Programs.{program_of};
 ghost use Rattle.pv_session.specs.Running.{FailsBy};
-ghost use Rattle.pv_streams.specs.Sinks.{and_all, WritesPrefix};
+ghost use Rattle.pv_streams.specs.Sinks.{Writes, WritesOr};
 
 use crate::observer::AccessObserver;
 use crate::unread::write_unread;
@@ -23,10 +23,7 @@ fn write_last<W: Sink>(
     searched: &Searched,
     out: &mut W,
 ) -> Result<(), Stop>
-    ensures whole { OnOk result (W.written out.new ≡ and_all (W.written out.old) (answer_bytes (last_lines tree.now.tree searched.now.texts searched.now.states searched.now.complete))) }
-    ensures prefix { OnErr result (WritesPrefix (answer_bytes (last_lines tree.now.tree searched.now.texts searched.now.states searched.now.complete)) (W.written out.old) (W.written out.new)) }
-    ensures failed { IfErr result (λ stop. FailsBy stop (W.failures out.old) (W.failures out.new)) }
-    ensures quiet { OnOk result (W.failures out.new ≡ W.failures out.old) }
+    ensures { WritesOr W.Sink FailsBy (answer_bytes (last_lines tree.now.tree searched.now.texts searched.now.states searched.now.complete)) out.old out.new result }
 {
     write_unread(alloc, tree, searched, out)?;
     Ok(write_states(out, searched.states, searched.complete)?)
@@ -61,10 +58,7 @@ pub fn write_access<W: Sink, P: Progress>(
     out: &mut W,
 ) -> Result<bool, Stop>
     requires { 1 ≤ states }
-    ensures whole { OnOk result (W.written out.new ≡ and_all (W.written out.old) (answer_bytes (access_lines program_of states first_machine.now))) }
-    ensures prefix { OnErr result (WritesPrefix (answer_bytes (access_lines program_of states first_machine.now)) (W.written out.old) (W.written out.new)) }
-    ensures failed { IfErr result (λ stop. FailsBy stop (W.failures out.old) (W.failures out.new)) }
-    ensures quiet { OnOk result (W.failures out.new ≡ W.failures out.old) }
+    ensures written { WritesOr W.Sink FailsBy (answer_bytes (access_lines program_of states first_machine.now)) out.old out.new result }
     ensures complete { IfOk result (λ complete. complete ≡ is_complete program_of states first_machine.now) }
 {
     let observer = AccessObserver;

@@ -8,10 +8,9 @@ ghost use Rattle.pv_access.specs.Texts.{access_at, all_prepared, line_in, note, 
 ghost use Rattle.pv_access.specs.declared.condition.Condition.TheVariants.{Success};
 
 use crate::condition::Condition;
-use crate::word::{NodeBrief, NodeWord};
-use pv_answers::{Fragment, Line, NameWords};
+use crate::word::NodeWord;
+use pv_answers::{Line, NameWords, NodeBrief, text_of};
 use pv_model::Outcome;
-use pv_streams::Gathered;
 use pv_tree::Tree;
 use std::alloc::{AllocError, Global};
 
@@ -24,21 +23,6 @@ pub(crate) struct Candidate {
     pub(crate) noted: Option<u16>,
     /// The line of the access.
     pub(crate) line: Vec<u8>,
-}
-
-/// Returns the bytes of a fragment.
-///
-/// # Errors
-///
-/// `AllocError`, if there is no memory.
-pub(crate) fn text_of<P: Fragment>(alloc: Global, fragment: &P) -> Result<Vec<u8>, AllocError>
-    ensures { IfOk result (λ bytes. bytes.items ≡ P.text fragment.now) }
-{
-    let mut text = Gathered::new(alloc);
-    match fragment.write(&mut text) {
-        Ok(()) => Ok(text.bytes),
-        Err(_) => Err(AllocError),
-    }
 }
 
 /// Returns the note of a file.

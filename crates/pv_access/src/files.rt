@@ -44,8 +44,8 @@ fn nodes_of_names(alloc: Global, tree: &Tree) -> Result<Vec<u16>, AllocError>
     Ok(nodes)
 }
 
-// Returns whether a number is the node of a file.
-fn is_file(tree: &Tree, node: u16) -> bool
+/// Returns whether a number is the node of a file.
+pub fn is_file(tree: &Tree, node: u16) -> bool
     ensures { result ≡ is_file_at tree.now.tree node }
 {
     tree.is_used(node) && matches!(tree.kind(node), Kind::File | Kind::Executable)

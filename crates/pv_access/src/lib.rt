@@ -20,5 +20,5 @@ mod unread;
 mod word;
 
 pub use access::write_access;
-pub use files::named_files;
+pub use files::{is_file, named_files};
 pub use step::step_with_accesses;

@@ -11,11 +11,10 @@ ghost use Rattle.pv_procs.specs.Turns.{CallsNext};
 ghost use Rattle.pv_session.specs.Running.{stepped};
 ghost use Rattle.pv_access.specs.Texts.{access_texts, line_in, texts_by, texts_in};
 
-use crate::candidate::{text_of, texts_of};
+use crate::candidate::texts_of;
 use crate::candidates::candidates_of;
 use crate::ends::node_at_descriptor;
-use crate::word::NodeBrief;
-use pv_answers::{Line, ModeLetters, Plain};
+use pv_answers::{Line, ModeLetters, NodeBrief, Plain, text_of};
 use pv_calls_state::Parts;
 use pv_model::{CallRef, Mode, Outcome, StepFault};
 use pv_procs::Fetched;

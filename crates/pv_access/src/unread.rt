@@ -1,11 +1,11 @@
 //! The files that no step of a search reads or executes.
-ghost use Rattle.std.specs.Prelude.{◌≡◌, ◌++◌, ◌∷◌, [], codes, filter, map, IfErr, IfOk, OnErr, OnOk};
+ghost use Rattle.std.specs.Prelude.{◌≡◌, ◌++◌, ◌∷◌, [], codes, filter, map, IfOk, OnOk};
 ghost use Rattle.pv_access.specs.Unread.{files_without_note, is_without_note, one_if, unread_file_line, unread_lines};
 ghost use Rattle.pv_model.specs.Answers.Files.{named_files};
 ghost use Rattle.pv_model.specs.Answers.Lines.{answer_bytes, answer_line_bytes};
 ghost use Rattle.pv_model.specs.Tree.{find_entry, root};
 ghost use Rattle.pv_session.specs.Running.{FailsBy};
-ghost use Rattle.pv_streams.specs.Sinks.{and_all, Writes, WritesOr, WritesPrefix};
+ghost use Rattle.pv_streams.specs.Sinks.{Writes, WritesOr};
 
 use crate::candidate::note_of;
 use crate::files::named_files;
@@ -139,10 +139,7 @@ pub(crate) fn write_unread<W: Sink>(
     searched: &Searched,
     out: &mut W,
 ) -> Result<(), Stop>
-    ensures whole { OnOk result (W.written out.new ≡ and_all (W.written out.old) (answer_bytes (unread_lines tree.now.tree searched.now.texts searched.now.complete))) }
-    ensures prefix { OnErr result (WritesPrefix (answer_bytes (unread_lines tree.now.tree searched.now.texts searched.now.complete)) (W.written out.old) (W.written out.new)) }
-    ensures failed { IfErr result (λ stop. FailsBy stop (W.failures out.old) (W.failures out.new)) }
-    ensures quiet { OnOk result (W.failures out.new ≡ W.failures out.old) }
+    ensures { WritesOr W.Sink FailsBy (answer_bytes (unread_lines tree.now.tree searched.now.texts searched.now.complete)) out.old out.new result }
 {
     if searched.complete {
         return write_unread_files(alloc, tree, searched, out);

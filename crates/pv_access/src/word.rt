@@ -1,10 +1,8 @@
-//! The words of lines, and nodes in brief.
+//! The words of lines.
 ghost use Rattle.std.specs.Prelude.{◌≡◌};
 ghost use Rattle.pv_access.specs.Texts.{note_if, word_letters};
 
-use pv_answers::{Decimal, Fragment, PathOf, Plain, has_path};
-use pv_streams::{Failed, Sink};
-use pv_tree::Tree;
+pub(crate) use pv_answers::NodeBrief;
 
 /// The word of an access to a node.
 #[derive(Clone, Copy, Debug, PartialEq, Eq)]
@@ -39,30 +37,6 @@ impl NodeWord {
         match self {
             NodeWord::Read | NodeWord::Execute => Some(node),
             NodeWord::Write | NodeWord::Report => None,
-        }
-    }
-}
-
-/// A node in brief: its path as a quoted text, or `node` and its number if it has no path.
-#[derive(Clone, Copy)]
-pub(crate) struct NodeBrief<'a> {
-    /// The tree of the node.
-    pub(crate) tree: &'a Tree,
-    /// The number of the node.
-    pub(crate) node: u16,
-}
-
-impl<'a> Fragment for NodeBrief<'a> {
-    ghost use Rattle.pv_model.specs.Answers.Files.{node_brief};
-
-    ghost text = { λ p. node_brief p.tree.now.tree p.node };
-
-    fn write<W: Sink>(&self, out: &mut W) -> Result<(), Failed> {
-        let NodeBrief { tree, node } = *self;
-        if has_path(tree, node) {
-            PathOf { tree, node }.write(out)
-        } else {
-            (Plain(b"node "), Decimal(u32::from(node))).write(out)
         }
     }
 }

@@ -3,7 +3,7 @@ use Rattle.std.proofs.Common.{◌≡◌, ◌-◌, true, [], codes, Option, None,
 use Rattle.pv_model.specs.declared.instruction.Instruction.{Instruction}
 use Rattle.pv_model.specs.declared.instruction.Instruction.TheVariants.{Set, Add, Put, Peek, Jump, JumpIfZero, JumpIfNotZero, JumpIfNegative}
 use Rattle.pv_model.specs.Answers.ProcessRecord.{next_text}
-use Rattle.pv_model.specs.Program.{perform, next_by}
+use Rattle.pv_model.specs.Program.{inside, next, next_by, perform}
 use Rattle.pv_model.specs.State.{Process}
 use Rattle.pv_script.specs.Context.{is_some_on_registers}
 use Rattle.pv_procs.specs.Turns.{RegisterNext}
@@ -12,18 +12,23 @@ use Rattle.pv_answers.specs.Texts.{next_words}
 pub gone-words : (lives : Option Process) → lives ≡ None → next_words lives ≡ []
 gone-words lives is = ap next_words is
 
-inside-words : (p : Process) (o : Option Instruction) → is_some_on_registers o ≡ true → next_text (next_by p o) ≡ codes "registers"
+-- an instruction on registers is no call
+pub inside-next : (p : Process) (o : Option Instruction) → is_some_on_registers o ≡ true → (after : Process) × (next_by p o ≡ inside after)
 unfolding perform
-inside-words p None is = cc is
-inside-words p (Some (Set r n)) is = refl
-inside-words p (Some (Add r n)) is = refl
-inside-words p (Some (Put bytes)) is = refl
-inside-words p (Some (Peek r k)) is = refl
-inside-words p (Some (Jump line)) is = refl
-inside-words p (Some (JumpIfZero r line)) is = refl
-inside-words p (Some (JumpIfNotZero r line)) is = refl
-inside-words p (Some (JumpIfNegative r line)) is = refl
-inside-words p (Some instruction) is = cc is
+inside-next p None is = cc is
+inside-next p (Some (Set r n)) is = (_, refl)
+inside-next p (Some (Add r n)) is = (_, refl)
+inside-next p (Some (Put bytes)) is = (_, refl)
+inside-next p (Some (Peek r k)) is = (_, refl)
+inside-next p (Some (Jump line)) is = (_, refl)
+inside-next p (Some (JumpIfZero r line)) is = (_, refl)
+inside-next p (Some (JumpIfNotZero r line)) is = (_, refl)
+inside-next p (Some (JumpIfNegative r line)) is = (_, refl)
+inside-next p (Some instruction) is = cc is
+
+-- a process whose next step is on registers makes no call
+pub register-next : (lives : Option Process) → RegisterNext lives → (me : Process) × (lives ≡ Some me) × (after : Process) × (next me ≡ inside after)
+register-next lives (me, is, on_registers) = let it = inside-next me (slice_get me.program (me.line - 1)) on_registers in (me, is, it.0, it.1)
 
 pub register-words : (lives : Option Process) → RegisterNext lives → next_words lives ≡ codes "registers"
-register-words lives (me, is, inside) = ap next_words is ∙ inside-words me (slice_get me.program (me.line - 1)) inside
+register-words lives at = let it = register-next lives at in ap next_words it.1 ∙ ap next_text it.3

@@ -182,7 +182,7 @@ fn write_descriptor<W: Sink>(
     };
     let listed = Listed(files.last_name(file));
     let number = Decimal(u32::from(number));
-    let front = (number, Plain(b", file "), Count(file), Plain(b", "));
+    let front = (number, Plain(b", file "), Count(file as u64), Plain(b", "));
     let opened = (front, mode, append, close_on_exec, Plain(b", offset "));
     let text = (opened, offset, Plain(b", "), node, listed);
     Line {

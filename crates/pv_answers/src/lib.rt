@@ -4,13 +4,14 @@
 //! descriptors and memory (`holding`). `reach` writes the permissions that the next call of each process has at each
 //! place. The texts are built from fragments (`fragments`): lines and their words (`lines`), short lines that are
 //! buffered (`short`), escaped texts (`escaped`), lists of numbers and bytes (`numbers`), and nodes, names and targets
-//! with their paths (`nodes`). Nothing here allocates. Contracts cite the lines that the definitions in `pv_model`
-//! give.
+//! with their paths (`nodes`). Only `gathered` allocates: it has the bytes of fragments in memory. Contracts cite the
+//! lines that the definitions in `pv_model` give.
 #![tactic(auto)]
 
 mod calls;
 mod escaped;
 mod fragments;
+mod gathered;
 mod holding;
 mod lines;
 mod location;
@@ -20,14 +21,16 @@ mod reach;
 mod short;
 mod state;
 
+pub use calls::{is_pledge, is_unveil};
 pub use fragments::{Fragment, Plain};
+pub use gathered::{append, text_of};
 pub use lines::{
-    Decimal, Letters, Line, ModeLetters, Pledged, Quoted, write_decimal, write_front, write_mode,
-    write_permissions, write_pledged, write_promises, write_quoted,
+    Count, Decimal, Letters, Line, ModeLetters, Pledged, Quoted, write_decimal, write_front,
+    write_mode, write_permissions, write_pledged, write_promises, write_quoted,
 };
 pub use nodes::{
-    NameWords, NodeWords, PathOf, TargetWords, has_path, write_name, write_node, write_path_of,
-    write_target,
+    NameWords, NodeBrief, NodeWords, PathOf, TargetWords, has_path, write_name, write_node,
+    write_path_of, write_target,
 };
 pub use reach::{write_reach, write_reach_of};
 pub use state::{write_locations, write_state};

@@ -316,9 +316,9 @@ impl Fragment for Pledged {
     }
 }
 
-// A count in decimal digits.
+/// A count in decimal digits.
 #[derive(Clone, Copy)]
-pub(crate) struct Count(pub(crate) usize);
+pub struct Count(pub u64);
 
 impl Fragment for Count {
     ghost text = { λ p. decimal p.0 };

@@ -21,7 +21,7 @@ fn write_live<W: Sink>(out: &mut W, parts: &Parts, pid: u32) -> Result<(), Faile
     let processes = parts.processes();
     let parent = Decimal(processes.parent_of(pid).unwrap_or(0));
     let line = Decimal(u32::from(parts.record(pid).context.line()));
-    let count = Count(processes.program(pid).len());
+    let count = Count(processes.program(pid).len() as u64);
     (
         Plain(b"live, parent "),
         parent,

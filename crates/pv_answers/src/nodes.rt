@@ -171,6 +171,30 @@ impl<'a> Fragment for NodeWords<'a> {
     }
 }
 
+/// A node in brief: its path as a quoted text, or `node` and its number if it has no path.
+#[derive(Clone, Copy)]
+pub struct NodeBrief<'a> {
+    /// The tree of the node.
+    pub tree: &'a Tree,
+    /// The number of the node.
+    pub node: u16,
+}
+
+impl<'a> Fragment for NodeBrief<'a> {
+    ghost use Rattle.pv_model.specs.Answers.Files.{node_brief};
+
+    ghost text = { λ p. node_brief p.tree.now.tree p.node };
+
+    fn write<W: Sink>(&self, out: &mut W) -> Result<(), Failed> {
+        let NodeBrief { tree, node } = *self;
+        if has_path(tree, node) {
+            PathOf { tree, node }.write(out)
+        } else {
+            (Plain(b"node "), Decimal(u32::from(node))).write(out)
+        }
+    }
+}
+
 /// Writes a name of a directory in words, whether or not the name exists: its path as a quoted text, or, if the
 /// directory is removed, the bare name and the number of the directory.
 ///

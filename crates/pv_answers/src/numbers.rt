@@ -74,7 +74,7 @@ impl<'a> Fragment for BufferFront<'a> {
         if front.is_empty() {
             return write_whole(out, b"0");
         }
-        (Count(front.len()), Plain(b" "), Hex(front)).write(out)
+        (Count(front.len() as u64), Plain(b" "), Hex(front)).write(out)
     }
 }
 

@@ -1,5 +1,5 @@
 -- Blocks and their free flags.
-use Rattle.std.specs.Prelude.{◌≡◌, ℕ, ◌*◌, ◌<◌, ◌≤◌, Bool, true, false, not, ◌&&◌, nat_le, List, map, length, count_by, slice_get, slice_set, Some}
+use Rattle.std.specs.Prelude.{◌≡◌, ℕ, ◌*◌, ◌<◌, ◌≤◌, Bool, true, false, not, ◌&&◌, if◌then◌else◌, nat_le, nat_lt, List, [], map, length, count_by, slice_get, slice_index_or, slice_set, Some}
 use Rattle.std.specs.List.{range_with_len}
 use Rattle.pv_model.specs.declared.limits.TheConstants.{BLOCK}
 use Rattle.pv_model.specs.Bytes.{Bytes}
@@ -43,6 +43,21 @@ give_back s k = record s { free = slice_set s.free k true }
 
 abbrev pub with_block : BlockStore → ℕ → Bytes → BlockStore
 with_block s k bytes = record s { blocks = slice_set s.blocks k bytes }
+
+-- the bytes of block k
+abbrev pub block_of : BlockStore → ℕ → Bytes
+block_of s k = slice_index_or s.blocks k []
+
+-- the bytes of block j after the first `count` blocks that are in use in a store were copied to another one
+abbrev pub used_or_old : (from old : BlockStore) → (count j : ℕ) → Bytes
+used_or_old from old count j = if nat_lt j count && not (slice_index_or from.free j true) then block_of from j else block_of old j
+
+-- the flags and the blocks in use of a store were copied to another one
+pub record CopiesUsed (from old new : BlockStore) : Type 0 where
+  pub free : new.free ≡ from.free
+  pub first : new.first ≡ from.first
+  pub long : length new.blocks ≡ length from.blocks
+  pub each : (k : ℕ) → block_of new k ≡ used_or_old from old (length from.blocks) k
 
 -- the invariant of a store of blocks
 pub record IsConsistent (bytes : Bytes) (taken : BlockSet) (first count free least : ℕ) : Type 0 where

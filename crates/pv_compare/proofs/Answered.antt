@@ -1,26 +1,19 @@
 -- The text of a comparison.
-use Rattle.std.proofs.Common.{◌≡◌, ◌≤◌, ◌∙◌, sym, subst, ap, ap₂, ℕ, Bool, true, false, List, [], ◌∷◌, ◌++◌, length, map, flat_map, append_assoc, append-nil, codes, Option, None, Some, Result, Err, refl}
+use Rattle.std.proofs.Common.{◌≡◌, ◌≤◌, ◌∙◌, sym, subst, ap, ap₂, ℕ, Bool, true, false, List, [], ◌∷◌, ◌++◌, length, map, flat_map, append_assoc, append-nil, codes, Option, None, Some, refl}
 use Rattle.std.proofs.lemmas.Grind.{flat_map-append}
 use Rattle.pv_compare.specs.Answering.{compared_by, compared_if, compared_of, difference_text, result_text, side_line}
 use Rattle.pv_compare.specs.Pairs.{IsCompared, IsDifference, PairsFound, first_pair, found_in, pairs_of}
 use Rattle.pv_compare.specs.Plan.{compared_pairs}
 use Rattle.pv_compare.proofs.Searched.{comparison-planned}
-use Rattle.pv_compare.specs.declared.compare.Compared.{Compared}
 use Rattle.pv_compare.specs.declared.differences.Difference.{Difference}
 use Rattle.pv_compare.specs.declared.pairs.Pairs.{Pairs}
 use Rattle.pv_model.specs.Answers.Compare.{Comparison, PairMove, alike, alike_text, comparison, comparison_lines, different, pairs_line, side_lines}
 use Rattle.pv_model.specs.Answers.Explore.{witness_text}
 use Rattle.pv_model.specs.Answers.Lines.{AnswerLine, answer_bytes, answer_line, answer_line_bytes, of_trace}
-use Rattle.pv_model.specs.declared.stream.Sink.{Ghosts as Writing}
 use Rattle.pv_model.specs.Bytes.{Bytes}
 use Rattle.pv_model.specs.Grammar.Programs.{program_of}
 use Rattle.pv_model.specs.State.{State}
 use Rattle.pv_model.specs.Trace.{Line, line_bytes, trace_bytes}
-use Rattle.pv_session.specs.Running.{FailsBy}
-use Rattle.pv_session.specs.declared.session.Stop.{Stop}
-use Rattle.pv_session.specs.declared.session.Stop.TheVariants.{Memory}
-use Rattle.pv_streams.specs.Sinks.{WritesOr}
-use Rattle.pv_streams.proofs.Sinks.{written_nothing}
 
 trace-lines : (ls : List Line) → answer_bytes (map of_trace ls) ≡ trace_bytes ls
 trace-lines [] = refl
@@ -95,9 +88,3 @@ result-is limit c new (Some d) pairs complete it long all =
 pub compared-is : (limit : ℕ) (c : Comparison) (new : Pairs) (found : Option Difference) (complete : Bool) → IsCompared limit c new found → complete ≡ new.complete → compared_by complete found ≡ compared_of c
 compared-is limit c new None complete it all = ap compared_if all ∙ ap compared_of (sym it)
 compared-is limit c new (Some d) complete it all = ap compared_of (sym it.2)
-
--- if there is no memory, nothing was written
-pub unwritten : {W : Type 0} (sink : Writing W) (text : Bytes) (out : W) (result : Result Compared Stop) (stop : Stop) → result ≡ Err stop → stop ≡ Memory → WritesOr sink FailsBy text out out result
-unwritten sink text out result stop is memory =
-    subst (λ (r : Result Compared Stop). WritesOr sink FailsBy text out out r) (sym (is ∙ ap (λ (s : Stop). Err s) memory))
-    (record { whole = tt; prefix = (0, sym (written_nothing text (sink.written out))); failed = refl; quiet = tt })

@@ -4,8 +4,9 @@ use Rattle.std.specs.List.{range_with_len}
 use Rattle.std.proofs.lemmas.Bool.{and_parts, eq-eqb, eqb-true, leb-true}
 use Rattle.std.proofs.lemmas.Bool.Decides.{nat_tests}
 use Rattle.std.proofs.lemmas.List.Elements.{filter-append}
+use Rattle.std.proofs.lemmas.List.Folds.{list_any-append}
 use Rattle.pv_explore.proofs.Planned.{same-tests}
-use Rattle.pv_explore.proofs.Ranges.{range-suc}
+use Rattle.pv_explore.proofs.Ranges.{among-most, range-suc}
 use Rattle.pv_laws_answers.proofs.Lists.{Among, among-any, among-map, any-among, map-among}
 use Rattle.pv_laws_answers.proofs.LiveOnes.{listed-live, live-listed}
 use Rattle.pv_laws_states.proofs.Members.{find_number-list_all, live-found}
@@ -50,18 +51,6 @@ live-within s pid whole is = by (process_at s pid) refl is
 
 -- ---- the greatest number
 
-most-from : (xs : List ℕ) (a : ℕ) → a ≤ fold max a xs
-most-from [] a = omega arith
-most-from (x ∷ xs) a = let later = most-from xs (max a x) in omega (arith, later)
-
-among-most : (xs : List ℕ) (a n : ℕ) → among xs n ≡ true → n ≤ fold max a xs
-among-most [] a n is = cc
-among-most (x ∷ xs) a n is = by (x == n) refl is (among-most xs (max a x) n)
-  where
-    by : (b : Bool) → (x == n) ≡ b → (b || among xs n) ≡ true → (among xs n ≡ true → n ≤ fold max (max a x) xs) → n ≤ fold max (max a x) xs
-    by true same there later = let first = most-from xs (max a x) in let is : x ≡ n = eqb-true x n same in omega (arith, first, is)
-    by false other there later = later there
-
 most-within : (xs : List ℕ) (a limit : ℕ) → a ≤ limit → ((n : ℕ) → among xs n ≡ true → n ≤ limit) → fold max a xs ≤ limit
 most-within [] a limit first each = first
 most-within (x ∷ xs) a limit first each =
@@ -94,32 +83,25 @@ filter-to : (p : ℕ → Bool) (m n : ℕ) → m ≤ n → ((i : ℕ) → p i �
 filter-to p m n few within = let same : m + (n - m) ≡ n = omega (arith, few) in sym (filter-further p m (n - m) within) ∙ ap (λ k. filter p (range_with_len 1 k)) same
 
 pub either-live : (b : Pair) (xs ys : List ℕ) → IsValid b.first → IsValid b.second → xs ≡ live_numbers b.first → ys ≡ live_numbers b.second
-    → filter (λ n. among xs n || among ys n) (range_with_len 1 (max (fold max 0 xs) (fold max 0 ys))) ≡ live_in_either b
+    → filter (among (xs ++ ys)) (range_with_len 1 (fold max 0 (xs ++ ys))) ≡ live_in_either b
 either-live b xs ys first second xs_are ys_are =
-    filter-to in_either (max (fold max 0 xs) (fold max 0 ys)) (max b.first.last_process b.second.last_process) few within
-    ∙ ap (λ (p : ℕ → Bool). filter p (range_with_len 1 (max b.first.last_process b.second.last_process))) (λ i n. same n i)
+    filter-to (among all) (fold max 0 all) limit (most-within all 0 limit (omega arith) within) (among-most all 0)
+    ∙ ap (λ (p : ℕ → Bool). filter p (range_with_len 1 limit)) (λ i n. same n i)
   where
-    in_either : ℕ → Bool
-    in_either n = among xs n || among ys n
+    all : List ℕ
+    all = xs ++ ys
 
-    in-first : (n : ℕ) → among xs n ≡ is_live b.first n
-    in-first n = ap (λ ns. among ns n) xs_are ∙ sym (live-is b.first n first)
+    limit : ℕ
+    limit = max b.first.last_process b.second.last_process
 
-    in-second : (n : ℕ) → among ys n ≡ is_live b.second n
-    in-second n = ap (λ ns. among ns n) ys_are ∙ sym (live-is b.second n second)
+    same : (n : ℕ) → among all n ≡ (is_live b.first n || is_live b.second n)
+    same n =
+        list_any-append (λ m. m == n) xs ys
+        ∙ ap₂ (λ x y. x || y) (ap (λ ns. among ns n) xs_are ∙ sym (live-is b.first n first)) (ap (λ ns. among ns n) ys_are ∙ sym (live-is b.second n second))
 
-    same : (n : ℕ) → in_either n ≡ (is_live b.first n || is_live b.second n)
-    same n = ap₂ (λ x y. x || y) (in-first n) (in-second n)
-
-    few : max (fold max 0 xs) (fold max 0 ys) ≤ max b.first.last_process b.second.last_process
-    few =
-        let low = most-within xs 0 b.first.last_process (omega arith) (λ n is. live-within b.first n first (sym (in-first n) ∙ is)) in
-        let high = most-within ys 0 b.second.last_process (omega arith) (λ n is. live-within b.second n second (sym (in-second n) ∙ is)) in
-        omega (arith, low, high)
-
-    within : (n : ℕ) → in_either n ≡ true → n ≤ max (fold max 0 xs) (fold max 0 ys)
-    within n is = by (among xs n) refl is
+    within : (n : ℕ) → among all n ≡ true → n ≤ limit
+    within n is = by (is_live b.first n) refl (sym (same n) ∙ is)
       where
-        by : (c : Bool) → among xs n ≡ c → (c || among ys n) ≡ true → n ≤ max (fold max 0 xs) (fold max 0 ys)
-        by true there is = let low = among-most xs 0 n there in omega (arith, low)
-        by false none is = let high = among-most ys 0 n is in omega (arith, high)
+        by : (c : Bool) → is_live b.first n ≡ c → (c || is_live b.second n) ≡ true → n ≤ limit
+        by true lives is = let low = live-within b.first n first lives in omega (arith, low)
+        by false none is = let high = live-within b.second n second is in omega (arith, high)

@@ -7,21 +7,10 @@ use Rattle.std.proofs.lemmas.Grind.{flat_map-append}
 use Rattle.std.proofs.lemmas.List.{take_all}
 use Rattle.std.proofs.lemmas.Option.{slice_get_cases}
 use Rattle.pv_model.specs.Answers.Search.{with_move, found_after, found_from, search}
+use Rattle.pv_explore.proofs.Planned.{all-last}
 use Rattle.pv_compare.specs.Stopping.{is_left_out, result_of_moves, result_at, result_from, result_of}
 
 -- ---- lists
-
-all-last : {X : Type 0} (p : X → Bool) (xs : List X) (x : X) → list_all p (xs ++ x ∷ []) ≡ (list_all p xs && p x)
-all-last p [] x = and-true (p x)
-  where
-    and-true : (b : Bool) → (b && true) ≡ b
-    and-true true = refl
-    and-true false = refl
-all-last p (y ∷ ys) x = ap (λ b. p y && b) (all-last p ys x) ∙ regroup (p y) (list_all p ys) (p x)
-  where
-    regroup : (a b c : Bool) → (a && (b && c)) ≡ ((a && b) && c)
-    regroup true b c = refl
-    regroup false b c = refl
 
 drop-past : {X : Type 0} (k : ℕ) (xs : List X) → length xs ≤ k → drop k xs ≡ []
 drop-past zero [] le = refl

@@ -46,15 +46,6 @@ pub(crate) fn differ(first: &[Vec<u8>], second: &[Vec<u8>]) -> bool
     text_of(first) != text_of(second)
 }
 
-// Returns a copy of bytes.
-fn copy_of(alloc: Global, bytes: &[u8]) -> Result<Vec<u8>, AllocError>
-    ensures { IfOk result (λ copy. copy.items ≡ bytes.now) }
-{
-    let mut copy = Vec::new(alloc);
-    copy.extend_from_slice(bytes)?;
-    Ok(copy)
-}
-
 /// Returns a difference: a step of a process after a schedule, given what was observed of it in both states.
 ///
 /// # Errors
@@ -72,13 +63,12 @@ pub(crate) fn difference_of(
     ensures first { IfOk result (λ d. d.first.items ≡ text_in (texts_in first.now)) }
     ensures second { IfOk result (λ d. d.second.items ≡ text_in (texts_in second.now)) }
 {
-    let mut witness = Vec::new(alloc);
-    witness.extend_from_slice(schedule)?;
+    let mut witness = Vec::from_slice(alloc, schedule)?;
     witness.push(pid)?;
     Ok(Difference {
         pid,
         witness,
-        first: copy_of(alloc, text_of(first))?,
-        second: copy_of(alloc, text_of(second))?,
+        first: Vec::from_slice(alloc, text_of(first))?,
+        second: Vec::from_slice(alloc, text_of(second))?,
     })
 }

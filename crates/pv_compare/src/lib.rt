@@ -7,7 +7,6 @@
 
 mod compare;
 mod differences;
-mod either;
 mod observer;
 mod pairs;
 mod search;

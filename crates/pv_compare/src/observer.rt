@@ -1,14 +1,13 @@
 //! The observer of the steps of both images.
-ghost use Rattle.std.specs.Prelude.{◌≡◌, ◌||◌, ◌++◌, IfOk, OnOk};
+ghost use Rattle.std.specs.Prelude.{◌≡◌, ◌++◌, IfOk, OnOk};
 ghost use Rattle.pv_compare.specs.Observing.{mark_if};
 ghost use Rattle.pv_model.specs.Answers.Compare.{is_restraint};
-ghost use Rattle.pv_model.specs.Answers.Observed.{is_pledge, is_unveil};
-ghost use Rattle.pv_model.specs.CallRef.{call_of};
 ghost use Rattle.pv_model.specs.State.{process_at};
 ghost use Rattle.pv_step_cache.specs.Steps.{texts_in};
 
+use pv_answers::{is_pledge, is_unveil};
 use pv_explore::{Observer, TraceLines};
-use pv_model::{CallRef, StepFault};
+use pv_model::StepFault;
 use pv_procs::Fetched;
 use pv_script::CallTexts;
 use pv_session::Session;
@@ -19,23 +18,13 @@ use std::alloc::{AllocError, Global};
 #[derive(Clone, Copy)]
 pub(crate) struct ComparedLines;
 
-// Returns whether a call is one of pledge(2) or unveil(2).
-fn restrains(call: CallRef<'_>) -> bool
-    ensures { result ≡ (is_pledge (call_of call.entry) || is_unveil (call_of call.entry)) }
-{
-    match call {
-        CallRef::Pledge(_, _) | CallRef::Unveil(_, _) => true,
-        _ => false,
-    }
-}
-
 // Returns whether the next step of a process is a call of pledge(2) or unveil(2).
 fn is_restraint(session: &Session, pid: u32) -> bool
     ensures { result ≡ is_restraint (process_at session.now pid) }
 {
     let mut texts = CallTexts::new();
     match session.fetch(pid, &mut texts) {
-        Fetched::Call(call) => restrains(call),
+        Fetched::Call(call) => is_pledge(call) || is_unveil(call),
         Fetched::Register | Fetched::Gone => false,
     }
 }

@@ -5,9 +5,8 @@ ghost use Rattle.pv_explore.specs.Plan.{state_key};
 ghost use Rattle.pv_explore.specs.Witnesses.{longer};
 ghost use Rattle.pv_model.specs.Answers.Compare.{live_in_either};
 
-use crate::either::in_either;
 use crate::observer::ComparedLines;
-use pv_explore::{FirstMachine, Side, Witnesses};
+use pv_explore::{FirstMachine, Side, Witnesses, ascending};
 use pv_model::StepFault;
 use pv_state_encoding::push_number;
 use pv_step_cache::tables::Keys;
@@ -127,9 +126,10 @@ impl<'a> Pairs<'a> {
         self.first.invariant();
         self.second.invariant();
         let numbers = self.numbers[number as usize];
-        let first = self.first.live(alloc, numbers.first, witness)?;
+        let mut pids = self.first.live(alloc, numbers.first, witness)?;
         let second = self.second.live(alloc, numbers.second, witness)?;
-        Ok(in_either(alloc, &first, &second)?)
+        pids.extend_from_slice(&second)?;
+        Ok(ascending(alloc, &pids)?)
     }
 
     /// Visits the pair after a step of pair `from`, given the number of each of its states, or `None` if the state is not

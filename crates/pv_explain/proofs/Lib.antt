@@ -6,6 +6,7 @@
 -- - UnknownWords (of pledge), ErrorLines (the reason of an error in both states), TrueReasons, WorkedErrors
 -- - Asked (pledge), Sources (origins in words), Remarks, MovedLines and StatusBytes (parts of lines), CallLines (the
 --   bytes of a call's lines), Climbing (the lines of levels, one at a time), Made (one step), Steps (several steps)
+-- - Stops (writers that a lack of memory or a failed write ends)
 pub mod Asked
 pub mod CallLines
 pub mod Climbing
@@ -22,6 +23,7 @@ pub mod Remarks
 pub mod Sources
 pub mod StatusBytes
 pub mod Steps
+pub mod Stops
 pub mod TrueReasons
 pub mod UnknownWords
 pub mod WorkedErrors

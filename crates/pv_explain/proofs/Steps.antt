@@ -1,5 +1,5 @@
 -- The lines of several steps, with one more step or one more turn.
-use Rattle.std.proofs.Common.{◌≡◌, ◌<◌, ◌≤◌, ◌+◌, ◌-◌, ◌∙◌, ℕ, zero, suc, Bool, true, false, List, [], ◌∷◌, ◌++◌, length, take, drop, get_or, Option, None, Some, refl, ap, ap₂, sym, subst, append_assoc, arith}
+use Rattle.std.proofs.Common.{◌≡◌, ◌<◌, ◌≤◌, ◌+◌, ◌-◌, ◌∙◌, ℕ, zero, suc, Bool, true, false, List, [], ◌∷◌, ◌++◌, length, take, drop, get_or, Option, None, Some, Ok, Err, refl, ap, ap₂, sym, subst, append_assoc, arith}
 use Rattle.std.specs.Prelude.{replicate}
 use Rattle.std.proofs.lemmas.Grind.{flat_map-append}
 use Rattle.std.proofs.lemmas.List.{take-append-drop, append-nil, length-replicate, replicate-append-replicate}
@@ -20,8 +20,11 @@ use Rattle.pv_session.specs.declared.session.Stop.{Stop}
 use Rattle.pv_session.specs.declared.session.Stop.TheVariants.{Memory, Write}
 use Rattle.pv_session.specs.Stopping.{NextLoads}
 use Rattle.pv_session.proofs.Turns.{replicate_more, steps_more}
-use Rattle.pv_streams.specs.Sinks.{and_all, WritesPrefix}
-use Rattle.pv_streams.proofs.Reporting.{written_both, written_none, begins_first, begins_then}
+use Rattle.pv_session.specs.Running.{FailsBy}
+use Rattle.pv_streams.specs.Sinks.{and_all, Writes, WritesOr}
+use Rattle.pv_streams.proofs.Reporting.{written_both, written_none}
+use Rattle.pv_answers.proofs.Writing.{or_as, or_both, or_longer, or_written, writes_as, writes_both, writes_none, writes_ok}
+use Rattle.pv_model.specs.declared.stream.Sink.{Ghosts as Writing}
 use Rattle.pv_explain.specs.Errors.{added_by, explain_adding, explained_lines, explain_with_errors_lines, no_lines}
 use Rattle.pv_explain.specs.Keeping.{Agree}
 use Rattle.pv_explain.specs.Steps.{step_lines, steps_lines, settings_through, StopsExplained}
@@ -111,12 +114,12 @@ module _ (errors : Bool) where
 
   -- steps of these processes were made, their lines are written, and the records of live processes are those of the
   -- definitions
-  pub record IsMadeUpTo (k : ℕ) (a : Settings) (made : List ℕ) (s now : State) (preserved : Settings) (before after : Option Bytes) : Type 0 where
+  pub record IsMadeUpTo {W : Type 0} (sink : Writing W) (k : ℕ) (a : Settings) (made : List ℕ) (s now : State) (preserved : Settings) (before after : W) : Type 0 where
     pub left : now ≡ (run program_of made s).final
-    pub as_written : after ≡ and_all before (answer_bytes (steps_lines errors k a made s))
+    pub as_written : Writes {T = Unit {0}} {E = Unit {0}} sink (answer_bytes (steps_lines errors k a made s)) before after (Ok tt)
     pub keeps : Agree now preserved (settings_through a made s)
 
-  module _ (k : ℕ) (a : Settings) (made : List ℕ) (s now : State) (preserved : Settings) (before mid : Option Bytes) (first : IsMadeUpTo k a made s now preserved before mid) (whole : IsValid now) where
+  module _ {W : Type 0} (sink : Writing W) (k : ℕ) (a : Settings) (made : List ℕ) (s now : State) (preserved : Settings) (before mid : W) (first : IsMadeUpTo sink k a made s now preserved before mid) (whole : IsValid now) where
     -- the lines of the following steps, from the records
     following : (pids : List ℕ) → steps_lines errors (k + length made) preserved pids now ≡ steps_lines errors (k + length made) (settings_through a made s) pids (run program_of made s).final
     following pids =
@@ -129,27 +132,21 @@ module _ (errors : Bool) where
     text-both : (pids : List ℕ) → answer_bytes (steps_lines errors k a made s) ++ answer_bytes (steps_lines errors (k + length made) preserved pids now) ≡ answer_bytes (steps_lines errors k a (made ++ pids) s)
     text-both pids = sym (answers-append (steps_lines errors k a made s) _) ∙ ap answer_bytes (both pids)
 
-    pub more-written : (pids : List ℕ) (after : Option Bytes) → after ≡ and_all mid (answer_bytes (steps_lines errors (k + length made) preserved pids now)) → after ≡ and_all before (answer_bytes (steps_lines errors k a (made ++ pids) s))
-    more-written pids after written = written_both (answer_bytes (steps_lines errors k a made s)) _ before mid after first.as_written written ∙ ap (and_all before) (text-both pids)
-
-    -- a prefix of the following lines is a prefix of all lines
-    pub more-begun : (pids others : List ℕ) (after : Option Bytes) → WritesPrefix (answer_bytes (steps_lines errors (k + length made) preserved pids now)) mid after
-        → WritesPrefix (answer_bytes (steps_lines errors k a ((made ++ pids) ++ others) s)) before after
-    more-begun pids others after begun =
-        let through : WritesPrefix (answer_bytes (steps_lines errors k a (made ++ pids) s)) before after =
-        subst (λ (bs : Bytes). WritesPrefix bs before after) (text-both pids) (begins_then (answer_bytes (steps_lines errors k a made s)) _ before mid after first.as_written begun) in
-        subst (λ (bs : Bytes). WritesPrefix bs before after)
-        (sym (ap answer_bytes (steps-append (made ++ pids) others k a s) ∙ answers-append (steps_lines errors k a (made ++ pids) s) _))
-        (begins_first (answer_bytes (steps_lines errors k a (made ++ pids) s)) _ before after through)
+    -- if the following steps stop, all steps stop
+    pub more-begun : {U : Type 0} (pids others : List ℕ) (after : W) (stop : Stop) → WritesOr {T = U} sink FailsBy (answer_bytes (steps_lines errors (k + length made) preserved pids now)) mid after (Err stop)
+        → WritesOr {T = U} sink FailsBy (answer_bytes (steps_lines errors k a ((made ++ pids) ++ others) s)) before after (Err stop)
+    more-begun pids others after stop begun =
+        or_as (sym (ap answer_bytes (steps-append (made ++ pids) others k a s) ∙ answers-append (steps_lines errors k a (made ++ pids) s) _))
+        (or_longer _ (or_as (text-both pids) (or_both first.as_written begun)))
 
     -- all following steps were made
-    pub more-made : (pids : List ℕ) (new : State) (then_preserved : Settings) (after : Option Bytes) → new ≡ (run program_of pids now).final
-        → after ≡ and_all mid (answer_bytes (steps_lines errors (k + length made) preserved pids now)) → Agree new then_preserved (settings_through preserved pids now)
-        → IsMadeUpTo k a (made ++ pids) s new then_preserved before after
-    more-made pids new then_preserved after left written keeps = record {
+    pub more-made : {U : Type 0} {x : U} (pids : List ℕ) (new : State) (then_preserved : Settings) (after : W) → new ≡ (run program_of pids now).final
+        → WritesOr sink FailsBy (answer_bytes (steps_lines errors (k + length made) preserved pids now)) mid after (Ok x) → Agree new then_preserved (settings_through preserved pids now)
+        → IsMadeUpTo sink k a (made ++ pids) s new then_preserved before after
+    more-made {x = x} pids new then_preserved after left written keeps = record {
       left =
           left ∙ ap (λ t. (run program_of pids t).final) first.left ∙ sym (ap (λ r. r.final) (run-append program_of made pids s));
-      as_written = more-written pids after written;
+      as_written = writes_as (text-both pids) (writes_ok (writes_both {E = Stop} {x = tt} first.as_written (or_written {x = x} {y = x} written)));
       keeps = λ q lives.
           keeps q lives
           ∙ through-same pids now preserved (settings_through a made s) whole first.keeps q (subst (λ (t : State). Rattle.pv_explain.specs.Keeping.IsLive t q) left lives)
@@ -158,8 +155,8 @@ module _ (errors : Bool) where
     }
 
     -- out of memory in a following step
-    pub more-stopped : (pids others : List ℕ) (new : State) (after : Option Bytes) (stop : Stop) → StopsExplained errors stop (k + length made) preserved pids now new mid after
-        → StopsExplained errors stop k a ((made ++ pids) ++ others) s new before after
+    pub more-stopped : (pids others : List ℕ) (new : State) (after : Option Bytes) (stop : Stop) → StopsExplained errors stop (k + length made) preserved pids now new (sink.written mid) after
+        → StopsExplained errors stop k a ((made ++ pids) ++ others) s new (sink.written before) after
     more-stopped pids others new after Memory at = record {
       made = made ++ at.made;
       pid = at.pid;
@@ -168,15 +165,15 @@ module _ (errors : Bool) where
           ap (λ ps. (made ++ ps) ++ others) at.parts ∙ ap (λ ps. ps ++ others) (sym (append_assoc made at.made (at.pid ∷ at.rest)))
           ∙ append_assoc (made ++ at.made) (at.pid ∷ at.rest) others;
       left = at.left ∙ ap (λ t. (run program_of at.made t).final) first.left ∙ sym (ap (λ r. r.final) (run-append program_of made at.made s));
-      as_written = more-written at.made after at.as_written;
+      as_written = written_both (answer_bytes (steps_lines errors k a made s)) _ _ _ _ first.as_written.whole at.as_written ∙ ap (and_all (sink.written before)) (text-both at.made);
       loads = at.loads;
     }
     more-stopped pids others new after Write at = tt
 
-  pub none-made : (k : ℕ) (a : Settings) (s now : State) (preserved : Settings) (written : Option Bytes) → now ≡ s → preserved ≡ a → IsMadeUpTo k a [] s now preserved written written
-  none-made k a s now preserved written same all = record {
+  pub none-made : {W : Type 0} (sink : Writing W) (k : ℕ) (a : Settings) (s now : State) (preserved : Settings) (written : W) → now ≡ s → preserved ≡ a → IsMadeUpTo sink k a [] s now preserved written written
+  none-made sink k a s now preserved written same all = record {
     left = same;
-    as_written = written_none written;
+    as_written = writes_none;
     keeps = λ q lives. ap (λ (x : Settings). settings_of x q) all;
   }
 
@@ -195,7 +192,7 @@ module _ (errors : Bool) where
 
   -- ---- one more step of a turn
 
-  module _ (k : ℕ) (a : Settings) (pid i : ℕ) (s now : State) (preserved : Settings) (before mid : Option Bytes) (first : IsMadeUpTo k a (replicate i pid) s now preserved before mid) (whole : IsValid now) where
+  module _ {W : Type 0} (sink : Writing W) (k : ℕ) (a : Settings) (pid i : ℕ) (s now : State) (preserved : Settings) (before mid : W) (first : IsMadeUpTo sink k a (replicate i pid) s now preserved before mid) (whole : IsValid now) where
     abbrev numbered : ℕ
     numbered = k + length (replicate i pid)
 
@@ -208,12 +205,12 @@ module _ (errors : Bool) where
     one-more : replicate i pid ++ pid ∷ [] ≡ replicate (i + 1) pid
     one-more = let same : suc i ≡ i + 1 = omega arith in sym (replicate_more i pid) ∙ ap (λ n. replicate n pid) same
 
-    pub turn-on : (new : State) (then_preserved : Settings) (after : Option Bytes) → new ≡ (step program_of now pid).after
-        → after ≡ and_all mid (answer_bytes (step_lines errors (k + i) preserved now pid)) → Agree new then_preserved (settings_next program_of now pid preserved)
-        → IsMadeUpTo k a (replicate (i + 1) pid) s new then_preserved before after
+    pub turn-on : {U : Type 0} {x : U} (new : State) (then_preserved : Settings) (after : W) → new ≡ (step program_of now pid).after
+        → WritesOr sink FailsBy (answer_bytes (step_lines errors (k + i) preserved now pid)) mid after (Ok x) → Agree new then_preserved (settings_next program_of now pid preserved)
+        → IsMadeUpTo sink k a (replicate (i + 1) pid) s new then_preserved before after
     turn-on new then_preserved after left written keeps =
-        subst (λ (made : List ℕ). IsMadeUpTo k a made s new then_preserved before after) one-more
-        (more-made k a (replicate i pid) s now preserved before mid first whole (pid ∷ []) new then_preserved after left (written ∙ ap (λ ls. and_all mid (answer_bytes ls)) one-line) keeps)
+        subst (λ (made : List ℕ). IsMadeUpTo sink k a made s new then_preserved before after) one-more
+        (more-made sink k a (replicate i pid) s now preserved before mid first whole (pid ∷ []) new then_preserved after left (or_as (ap answer_bytes one-line) written) keeps)
 
     module _ (count : ℕ) (within : i < count) where
       parts : (replicate i pid ++ pid ∷ []) ++ replicate (count - (i + 1)) pid ≡ replicate count pid
@@ -222,22 +219,22 @@ module _ (errors : Bool) where
           append_assoc (replicate i pid) (pid ∷ []) (replicate (count - (i + 1)) pid)
           ∙ replicate-append-replicate i (suc (count - (i + 1))) pid ∙ ap (λ n. replicate n pid) all
 
-      pub turn-begun : (after : Option Bytes) → WritesPrefix (answer_bytes (step_lines errors (k + i) preserved now pid)) mid after → WritesPrefix (answer_bytes (steps_lines errors k a (replicate count pid) s)) before after
-      turn-begun after begun =
-          subst (λ (pids : List ℕ). WritesPrefix (answer_bytes (steps_lines errors k a pids s)) before after) parts
-          (more-begun k a (replicate i pid) s now preserved before mid first whole (pid ∷ []) (replicate (count - (i + 1)) pid) after
-          (subst (λ (ls : List AnswerLine). WritesPrefix (answer_bytes ls) mid after) one-line begun))
+      pub turn-begun : {U : Type 0} (after : W) (stop : Stop) → WritesOr {T = U} sink FailsBy (answer_bytes (step_lines errors (k + i) preserved now pid)) mid after (Err stop)
+          → WritesOr {T = U} sink FailsBy (answer_bytes (steps_lines errors k a (replicate count pid) s)) before after (Err stop)
+      turn-begun after stop begun =
+          or_as (ap (λ pids. answer_bytes (steps_lines errors k a pids s)) parts)
+          (more-begun sink k a (replicate i pid) s now preserved before mid first whole (pid ∷ []) (replicate (count - (i + 1)) pid) after stop (or_as (ap answer_bytes one-line) begun))
 
-      pub turn-stopped : (new : State) (after : Option Bytes) (stop : Stop) → StopsExplained errors stop (k + i) preserved (pid ∷ []) now new mid after → StopsExplained errors stop k a (replicate count pid) s new before after
+      pub turn-stopped : (new : State) (after : Option Bytes) (stop : Stop) → StopsExplained errors stop (k + i) preserved (pid ∷ []) now new (sink.written mid) after → StopsExplained errors stop k a (replicate count pid) s new (sink.written before) after
       turn-stopped new after stop at =
-          subst (λ (pids : List ℕ). StopsExplained errors stop k a pids s new before after) parts
-          (more-stopped k a (replicate i pid) s now preserved before mid first whole (pid ∷ []) (replicate (count - (i + 1)) pid) new after stop
-          (subst (λ (n : ℕ). StopsExplained errors stop n preserved (pid ∷ []) now new mid after) number at))
+          subst (λ (pids : List ℕ). StopsExplained errors stop k a pids s new (sink.written before) after) parts
+          (more-stopped sink k a (replicate i pid) s now preserved before mid first whole (pid ∷ []) (replicate (count - (i + 1)) pid) new after stop
+          (subst (λ (n : ℕ). StopsExplained errors stop n preserved (pid ∷ []) now new (sink.written mid) after) number at))
 
   -- ---- one more turn of a schedule
 
-  module _ (a : Settings) (schedule : Schedule) (i : ℕ) (within : i < length schedule) (s now : State) (preserved : Settings) (before mid : Option Bytes)
-      (first : IsMadeUpTo 1 a (steps_of (take i schedule)) s now preserved before mid) (whole : IsValid now) where
+  module _ {W : Type 0} (sink : Writing W) (a : Settings) (schedule : Schedule) (i : ℕ) (within : i < length schedule) (s now : State) (preserved : Settings) (before mid : W)
+      (first : IsMadeUpTo sink 1 a (steps_of (take i schedule)) s now preserved before mid) (whole : IsValid now) where
     abbrev entry : ℕ × ℕ
     entry = get_or schedule i (0, 0)
 
@@ -247,28 +244,28 @@ module _ (errors : Bool) where
     abbrev done : List ℕ
     done = steps_of (take i schedule)
 
-    pub schedule-on : (new : State) (then_preserved : Settings) (after : Option Bytes) → new ≡ (run program_of turned now).final
-        → after ≡ and_all mid (answer_bytes (steps_lines errors (1 + length done) preserved turned now)) → Agree new then_preserved (settings_through preserved turned now)
-        → IsMadeUpTo 1 a (steps_of (take (i + 1) schedule)) s new then_preserved before after
+    pub schedule-on : {U : Type 0} {x : U} (new : State) (then_preserved : Settings) (after : W) → new ≡ (run program_of turned now).final
+        → WritesOr sink FailsBy (answer_bytes (steps_lines errors (1 + length done) preserved turned now)) mid after (Ok x) → Agree new then_preserved (settings_through preserved turned now)
+        → IsMadeUpTo sink 1 a (steps_of (take (i + 1) schedule)) s new then_preserved before after
     schedule-on new then_preserved after left written keeps =
-        subst (λ (made : List ℕ). IsMadeUpTo 1 a made s new then_preserved before after) (sym (steps_more schedule i within))
-        (more-made 1 a done s now preserved before mid first whole turned new then_preserved after left written keeps)
+        subst (λ (made : List ℕ). IsMadeUpTo sink 1 a made s new then_preserved before after) (sym (steps_more schedule i within))
+        (more-made sink 1 a done s now preserved before mid first whole turned new then_preserved after left written keeps)
 
     rest : (done ++ turned) ++ steps_of (drop (i + 1) schedule) ≡ steps_of schedule
     rest =
         ap (λ ps. ps ++ steps_of (drop (i + 1) schedule)) (sym (steps_more schedule i within))
         ∙ sym (flat_map-append (λ e. replicate e.1 e.0) (take (i + 1) schedule) (drop (i + 1) schedule)) ∙ ap steps_of (take-append-drop (i + 1) schedule)
 
-    pub schedule-begun : (after : Option Bytes) → WritesPrefix (answer_bytes (steps_lines errors (1 + length done) preserved turned now)) mid after
-        → WritesPrefix (answer_bytes (steps_lines errors 1 a (steps_of schedule) s)) before after
-    schedule-begun after begun =
-        subst (λ (pids : List ℕ). WritesPrefix (answer_bytes (steps_lines errors 1 a pids s)) before after) rest
-        (more-begun 1 a done s now preserved before mid first whole turned (steps_of (drop (i + 1) schedule)) after begun)
+    pub schedule-begun : {U : Type 0} (after : W) (stop : Stop) → WritesOr {T = U} sink FailsBy (answer_bytes (steps_lines errors (1 + length done) preserved turned now)) mid after (Err stop)
+        → WritesOr {T = U} sink FailsBy (answer_bytes (steps_lines errors 1 a (steps_of schedule) s)) before after (Err stop)
+    schedule-begun after stop begun =
+        or_as (ap (λ pids. answer_bytes (steps_lines errors 1 a pids s)) rest)
+        (more-begun sink 1 a done s now preserved before mid first whole turned (steps_of (drop (i + 1) schedule)) after stop begun)
 
-    pub schedule-stopped : (new : State) (after : Option Bytes) (stop : Stop) → StopsExplained errors stop (1 + length done) preserved turned now new mid after → StopsExplained errors stop 1 a (steps_of schedule) s new before after
+    pub schedule-stopped : (new : State) (after : Option Bytes) (stop : Stop) → StopsExplained errors stop (1 + length done) preserved turned now new (sink.written mid) after → StopsExplained errors stop 1 a (steps_of schedule) s new (sink.written before) after
     schedule-stopped new after stop at =
-        subst (λ (pids : List ℕ). StopsExplained errors stop 1 a pids s new before after) rest
-        (more-stopped 1 a done s now preserved before mid first whole turned (steps_of (drop (i + 1) schedule)) new after stop at)
+        subst (λ (pids : List ℕ). StopsExplained errors stop 1 a pids s new (sink.written before) after) rest
+        (more-stopped sink 1 a done s now preserved before mid first whole turned (steps_of (drop (i + 1) schedule)) new after stop at)
 
     pub schedule-number : 1 + length done + entry.1 ≡ 1 + length (steps_of (take (i + 1) schedule))
     schedule-number =

@@ -1,5 +1,5 @@
 //! Explained runs of schedules, step by step.
-ghost use Rattle.std.specs.Prelude.{◌≡◌, ◌+◌, ◌≤◌, ◌<◌, ◌^◌, [], ◌∷◌, length, replicate, IfErr, IfOk, IfSome, IsTrue, OnErr, OnOk, option_copied};
+ghost use Rattle.std.specs.Prelude.{◌≡◌, ◌+◌, ◌≤◌, ◌<◌, ◌^◌, [], ◌∷◌, length, replicate, IfErr, IfOk, IfSome, IsTrue, OnOk, option_copied};
 ghost use Rattle.pv_explain.specs.Errors.{AddsNothingElse, explained_lines};
 ghost use Rattle.pv_explain.specs.Keeping.{Agree, entry_at};
 ghost use Rattle.pv_explain.specs.Made.{settings_called};
@@ -14,7 +14,7 @@ ghost use Rattle.pv_model.specs.State.{process_at};
 ghost use Rattle.pv_model.specs.Step.{steps_of};
 ghost use Rattle.pv_procs.specs.Turns.{CallsNext};
 ghost use Rattle.pv_session.specs.Running.{FailsBy, run_of, stepped, turn};
-ghost use Rattle.pv_streams.specs.Sinks.{and_all, WritesPrefix};
+ghost use Rattle.pv_streams.specs.Sinks.{WritesOr};
 
 use crate::explained::{write_call_and_error, write_step_line};
 use crate::making::{MadeCall, make_call, make_register};
@@ -81,10 +81,7 @@ fn explain_call<W: Sink>(
     requires next { CallsNext call (process_at session.old step.pid) }
     requires callable { IsTrue (is_call (call_of call)) }
     ensures after { OnOk result (session.new ≡ (stepped session.old step.pid).after) }
-    ensures whole { OnOk result (W.written out.new ≡ and_all (W.written out.old) (answer_bytes (step_lines errors step.number origins.old session.old step.pid))) }
-    ensures prefix { OnErr result (WritesPrefix (answer_bytes (step_lines errors step.number origins.old session.old step.pid)) (W.written out.old) (W.written out.new)) }
-    ensures failed { IfErr result (λ stop. FailsBy stop (W.failures out.old) (W.failures out.new)) }
-    ensures quiet { OnOk result (W.failures out.new ≡ W.failures out.old) }
+    ensures written { WritesOr W.Sink FailsBy (answer_bytes (step_lines errors step.number origins.old session.old step.pid)) out.old out.new result }
     ensures stopped { IfErr result (λ stop. StopsExplained errors stop step.number origins.old (step.pid ∷ []) session.old session.new (W.written out.old) (W.written out.new)) }
     ensures keeps { OnOk result (Agree session.new origins.new (settings_next program_of session.old step.pid origins.old)) }
 {
@@ -157,10 +154,7 @@ impl Explainer {
         out: &mut W,
     ) -> Result<(), Stop>
         ensures after { OnOk result (session.new ≡ (stepped session.old pid).after) }
-        ensures whole { OnOk result (W.written out.new ≡ and_all (W.written out.old) (answer_bytes (step_lines errors number self.old session.old pid))) }
-        ensures prefix { OnErr result (WritesPrefix (answer_bytes (step_lines errors number self.old session.old pid)) (W.written out.old) (W.written out.new)) }
-        ensures failed { IfErr result (λ stop. FailsBy stop (W.failures out.old) (W.failures out.new)) }
-        ensures quiet { OnOk result (W.failures out.new ≡ W.failures out.old) }
+        ensures written { WritesOr W.Sink FailsBy (answer_bytes (step_lines errors number self.old session.old pid)) out.old out.new result }
         ensures stopped { IfErr result (λ stop. StopsExplained errors stop number self.old (pid ∷ []) session.old session.new (W.written out.old) (W.written out.new)) }
 
         // The explainer knows the origins of the entries of live processes.
@@ -204,10 +198,7 @@ fn explain_turn<W: Sink>(
 ) -> Result<(), Stop>
     requires { number + count < 2 ^ 64 }
     ensures after { OnOk result (session.new ≡ (turn session.old pid count).final) }
-    ensures whole { OnOk result (W.written out.new ≡ and_all (W.written out.old) (answer_bytes (steps_lines errors number explainer.old (replicate count pid) session.old))) }
-    ensures prefix { OnErr result (WritesPrefix (answer_bytes (steps_lines errors number explainer.old (replicate count pid) session.old)) (W.written out.old) (W.written out.new)) }
-    ensures failed { IfErr result (λ stop. FailsBy stop (W.failures out.old) (W.failures out.new)) }
-    ensures quiet { OnOk result (W.failures out.new ≡ W.failures out.old) }
+    ensures written { WritesOr W.Sink FailsBy (answer_bytes (steps_lines errors number explainer.old (replicate count pid) session.old)) out.old out.new result }
     ensures stopped { IfErr result (λ stop. StopsExplained errors stop number explainer.old (replicate count pid) session.old session.new (W.written out.old) (W.written out.new)) }
     ensures keeps { OnOk result (Agree session.new explainer.new (settings_through explainer.old (replicate count pid) session.old)) }
 {
@@ -231,10 +222,7 @@ fn explain_steps<W: Sink>(
 ) -> Result<(), Stop>
     requires { length schedule.now ≤ SCHEDULE_LINES }
     ensures after { OnOk result (session.new ≡ (run_of session.old schedule.now).final) }
-    ensures whole { OnOk result (W.written out.new ≡ and_all (W.written out.old) (answer_bytes (steps_lines errors 1 explainer.old (steps_of schedule.now) session.old))) }
-    ensures prefix { OnErr result (WritesPrefix (answer_bytes (steps_lines errors 1 explainer.old (steps_of schedule.now) session.old)) (W.written out.old) (W.written out.new)) }
-    ensures failed { IfErr result (λ stop. FailsBy stop (W.failures out.old) (W.failures out.new)) }
-    ensures quiet { OnOk result (W.failures out.new ≡ W.failures out.old) }
+    ensures written { WritesOr W.Sink FailsBy (answer_bytes (steps_lines errors 1 explainer.old (steps_of schedule.now) session.old)) out.old out.new result }
     ensures stopped { IfErr result (λ stop. StopsExplained errors stop 1 explainer.old (steps_of schedule.now) session.old session.new (W.written out.old) (W.written out.new)) }
 {
     let mut number = 1;
@@ -269,10 +257,7 @@ pub fn explain_schedule<W: Sink>(
     requires lines { length schedule.now ≤ SCHEDULE_LINES }
     requires fresh { explainer.old ≡ [] }
     ensures after { OnOk result (session.new ≡ (run_of session.old schedule.now).final) }
-    ensures whole { OnOk result (W.written out.new ≡ and_all (W.written out.old) (answer_bytes (explained_lines errors (steps_of schedule.now) session.old))) }
-    ensures prefix { OnErr result (WritesPrefix (answer_bytes (explained_lines errors (steps_of schedule.now) session.old)) (W.written out.old) (W.written out.new)) }
-    ensures failed { IfErr result (λ stop. FailsBy stop (W.failures out.old) (W.failures out.new)) }
-    ensures quiet { OnOk result (W.failures out.new ≡ W.failures out.old) }
+    ensures written { WritesOr W.Sink FailsBy (answer_bytes (explained_lines errors (steps_of schedule.now) session.old)) out.old out.new result }
     ensures stopped { IfErr result (λ stop. StopsExplained errors stop 1 [] (steps_of schedule.now) session.old session.new (W.written out.old) (W.written out.new)) }
 {
     explain_steps(alloc, session, explainer, schedule, errors, out)?;

@@ -1,11 +1,10 @@
 //! The explained lines of a step.
-ghost use Rattle.std.specs.Prelude.{◌≡◌, ◌++◌, codes, OnErr, OnOk};
+ghost use Rattle.std.specs.Prelude.{◌++◌, codes};
 ghost use Rattle.pv_explain.specs.Keeping.{settings_in};
 ghost use Rattle.pv_explain.specs.Made.{IsFit, IsFitCall, call_made_lines, error_made, made_lines, table_lines};
 ghost use Rattle.pv_explain.specs.Parts.{step_text};
 ghost use Rattle.pv_model.specs.Answers.Lines.{answer_bytes, answer_line, answer_line_bytes};
-ghost use Rattle.pv_model.specs.Stream.{Rose};
-ghost use Rattle.pv_streams.specs.Sinks.{and_all, Writes, WritesPrefix};
+ghost use Rattle.pv_streams.specs.Sinks.{Writes};
 
 use crate::error_text::write_error;
 use crate::levels::Basis;
@@ -120,7 +119,7 @@ pub(crate) fn write_call_and_error<W: Sink>(
 /// # Errors
 ///
 /// `Failed`, if a write failed. The sink received a prefix of the lines.
-#[tactic(auto, using(pv_streams::proofs::Reporting::written_both, pv_streams::proofs::Reporting::begins_first, pv_streams::proofs::Reporting::begins_then, pv_streams::proofs::Reporting::written_none))]
+#[tactic(auto, using(pv_answers::proofs::Writing::writes_none))]
 pub fn write_made<W: Sink>(
     out: &mut W,
     line_buffer: &mut LineBuffer,
@@ -130,10 +129,7 @@ pub fn write_made<W: Sink>(
     origins: &[Origin],
 ) -> Result<(), Failed>
     requires { IsFit pid made.now session.now }
-    ensures whole { OnOk result (W.written out.new ≡ and_all (W.written out.old) (answer_bytes (made_lines pid (settings_in origins.now) made.now session.now))) }
-    ensures prefix { OnErr result (WritesPrefix (answer_bytes (made_lines pid (settings_in origins.now) made.now session.now)) (W.written out.old) (W.written out.new)) }
-    ensures failed { OnErr result (Rose (W.failures out.old) (W.failures out.new)) }
-    ensures quiet { OnOk result (W.failures out.new ≡ W.failures out.old) }
+    ensures { Writes W.Sink (answer_bytes (made_lines pid (settings_in origins.now) made.now session.now)) out.old out.new result }
 {
     match made {
         MadeStep::Gone => write_gone_line(out, line_buffer, pid),

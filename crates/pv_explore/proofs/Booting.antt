@@ -5,13 +5,12 @@ use Rattle.pv_explore.specs.FirstMachines.{first_of, first_on, state_or}
 use Rattle.pv_image.proofs.Named.{named_tree-all}
 use Rattle.pv_laws_trees.specs.Mounts.{MountsImages}
 use Rattle.pv_laws_trees.specs.Preserved.{EachIsNamed}
-use Rattle.pv_model.specs.declared.kernel_fault.BootFault.{BootFault}
 use Rattle.pv_model.specs.Bytes.{Bytes}
 use Rattle.pv_model.specs.Held.{named_tree}
 use Rattle.pv_model.specs.Image.{IsWrittenImageOf}
 use Rattle.pv_model.specs.Mount.{mounted}
-use Rattle.pv_model.specs.Start.{booted, and_then, init_of, program_in}
-use Rattle.pv_model.specs.State.{Program, State, first_state}
+use Rattle.pv_model.specs.Start.{booted}
+use Rattle.pv_model.specs.State.{State}
 use Rattle.pv_model.specs.Tree.{Tree}
 
 pub if-ok : {T E : Type 0} {P Q : T → Type 0} (r : Result T E) → ((x : T) → P x → Q x) → IfOk r P → IfOk r Q
@@ -27,15 +26,6 @@ mounts-again image t u law as_written same named =
 pub boots-again : (image : Bytes) (store : Tree) (session now : State) → mounted image ≡ Ok store → booted store ≡ Ok session → first_of image ≡ now → session ≡ now
 unfolding first_of
 boots-again image store session now mounts boots is = sym (ap first_on mounts ∙ ap (state_or store) boots) ∙ is
-
--- it has given one process number
-pub first-number : (t : Tree) (session : State) → booted t ≡ Ok session → session.last_process ≡ 1
-unfolding booted
-first-number t session is = by (program_in (init_of t)) is
-  where
-    by : (r : Result Program BootFault) → and_then (λ fault. fault) r (λ program. Ok (first_state t program)) ≡ Ok session → session.last_process ≡ 1
-    by (Err fault) is = cc
-    by (Ok program) is = let same : first_state t program ≡ session = cc in ap (λ (s : State). s.last_process) (sym same)
 
 pub gathered : (new old text : Bytes) → Some new ≡ Some (old ++ text) → old ≡ [] → new ≡ text
 gathered new old text is none = let same : new ≡ old ++ text = cc in same ∙ ap (λ (bs : Bytes). bs ++ text) none

@@ -6,7 +6,7 @@
 -- numbers), VisitedStates (the data stored with visited states), Visiting (the visited states, one at a time),
 -- Followed (steps from the cache, and the states at the ends of witnesses), LastSteps (witnesses stored as their last
 -- steps), Sizes (of images, which runs leave unchanged), Sides (the states of one side of a search of pairs),
--- SeenProcess (the process that makes a step), Ranges (the numbers from 1 on).
+-- SeenProcess (the process that makes a step), Ranges (the numbers from 1 on, and the greatest of numbers), Stopped (answers that stop).
 pub mod Planned
 pub mod Turns
 pub mod LastNumbers
@@ -26,3 +26,4 @@ pub mod Sizes
 pub mod Sides
 pub mod SeenProcess
 pub mod Ranges
+pub mod Stopped

@@ -112,7 +112,7 @@ pub record Keeps (limit : ℕ) (found : List Found) (made : List Move) (visited 
   pub complete : visited.complete ≡ list_all (λ m. is_found m.stepped.after found) made
   pub full : (visited.complete ≡ true) ⊎ (limit ≤ length found)
 
-all-last : {X : Type 0} (p : X → Bool) (xs : List X) (x : X) → list_all p (xs ++ x ∷ []) ≡ (list_all p xs && p x)
+pub all-last : {X : Type 0} (p : X → Bool) (xs : List X) (x : X) → list_all p (xs ++ x ∷ []) ≡ (list_all p xs && p x)
 all-last p [] x = and-true (p x)
   where
     and-true : (b : Bool) → (b && true) ≡ b

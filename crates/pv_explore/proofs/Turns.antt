@@ -76,6 +76,6 @@ text-other xs i pid count within other some =
     ap (λ (ps : List ℕ). witness_text (witness_from count pid ps)) (drop-cons xs i 0 within)
     ∙ witness-then pid count (get_or xs i 0) (drop (suc i) xs) some other ∙ ap (λ k. (turn_text (pid, count) ++ codes ", ") ++ witness_text (witness_from 1 (get_or xs i 0) (drop k xs))) (sym (add-one i))
 
-pub text-end : (xs : List ℕ) (i pid count : ℕ) → length xs ≤ i → 1 ≤ count → witness_text (witness_from count pid (drop i xs)) ≡ turn_text (pid, count) ++ []
+pub text-end : (xs : List ℕ) (i pid count : ℕ) → length xs ≤ i → 1 ≤ count → witness_text (witness_from count pid (drop i xs)) ≡ turn_text (pid, count)
 text-end xs i pid count past some =
-    ap (λ (ps : List ℕ). witness_text (witness_from count pid ps)) (drop_all i xs past) ∙ witness-end pid count some ∙ sym (append-nil (turn_text (pid, count)))
+    ap (λ (ps : List ℕ). witness_text (witness_from count pid ps)) (drop_all i xs past) ∙ witness-end pid count some

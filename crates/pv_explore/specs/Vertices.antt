@@ -27,16 +27,22 @@ module _ (keys : List Bytes) where
     abbrev pub steps_at : List ℕ → List ℕ → List AnswerLine
     steps_at witness pids = flat_map (step_of (state_at program_of s witness)) pids
 
+    abbrev pub all_steps_at : List ℕ → List AnswerLine
+    all_steps_at witness = steps_at witness (live_at program_of s witness)
+
     -- the state at the end of a witness, with its number and its steps
     abbrev pub vertex_at : Bool → ℕ → List ℕ → List AnswerLine
     vertex_at trees number witness =
         answer_line 0 (codes "AT") (decimal number) ∷ state_lines (state_at program_of s witness) ++ tree_lines trees (state_at program_of s witness)
-        ++ steps_at witness (live_at program_of s witness)
+        ++ all_steps_at witness
 
     -- the states from a number on
     abbrev pub vertices_from : Bool → ℕ → List (List ℕ) → List AnswerLine
     vertices_from trees number witnesses = flat_map (λ e. vertex_at trees e.0 e.1) (counted_from number witnesses)
 
--- the lines of the visited states, from the first state on, and the last line
+-- the lines of the visited states, from the first state on, and with the last line
+abbrev pub all_vertices : Visited → State → Bool → List AnswerLine
+all_vertices visited s trees = vertices_from visited.keys s trees 0 visited.witnesses
+
 abbrev pub found_lines : Visited → State → Bool → List AnswerLine
-found_lines visited s trees = vertices_from visited.keys s trees 0 visited.witnesses ++ states_line (length visited.keys) visited.complete ∷ []
+found_lines visited s trees = all_vertices visited s trees ++ states_line (length visited.keys) visited.complete ∷ []

@@ -1,5 +1,5 @@
 //! Speculative steps that a machine makes beyond the step that the search needs.
-ghost use Rattle.std.specs.Prelude.{◌≡◌, IfOk};
+ghost use Rattle.std.specs.Prelude.{IfOk};
 ghost use Rattle.pv_explore.specs.VisitedStates.{AreCellsOf, AreCachedSteps};
 ghost use Rattle.pv_explore.specs.Rows.{Grew};
 
@@ -55,15 +55,6 @@ fn make_one<O: Observer>(
     Ok((next, after))
 }
 
-// Returns a copy of a list of cells.
-fn copy_of(alloc: Global, cells: &[Cell]) -> Result<Vec<Cell>, AllocError>
-    ensures { IfOk result (λ copy. copy.items ≡ cells.now) }
-{
-    let mut copy = Vec::new(alloc);
-    copy.extend_from_slice(cells)?;
-    Ok(copy)
-}
-
 /// Makes steps from the state of these cells on. Each is the step of a live process that is not yet cached in the
 /// current state, and its transition is added to the cache. Returns the machine, in an unspecified state.
 ///
@@ -88,7 +79,7 @@ pub(crate) fn make_ahead<O: Observer>(
     ensures steps { AreCachedSteps O.observe parts.new groups.new steps.new.steps.items }
 {
     let mut position = position;
-    let mut cells = copy_of(alloc, cells)?;
+    let mut cells = Vec::from_slice(alloc, cells)?;
     'ahead: for _ in 0..MOST_AHEAD {
         let Some(pid) = next_ahead(alloc, steps, &cells)? else {
             return Ok(position);

@@ -1,12 +1,11 @@
 //! The search of all states, and its answer: what can happen under any schedule.
-ghost use Rattle.std.specs.Prelude.{◌≡◌, ◌≤◌, IfErr, IfOk, OnErr, OnOk};
+ghost use Rattle.std.specs.Prelude.{◌≡◌, ◌≤◌, IfOk};
 ghost use Rattle.pv_explore.specs.Plan.{result_lines};
 ghost use Rattle.pv_model.specs.Answers.Explore.{completeness_text, endings_line, explore_lines, is_complete, states_line};
 ghost use Rattle.pv_model.specs.Answers.Lines.{answer_bytes, answer_line_bytes};
 ghost use Rattle.pv_model.specs.Grammar.Programs.{program_of};
-ghost use Rattle.pv_model.specs.Stream.{Rose};
 ghost use Rattle.pv_session.specs.Running.{FailsBy};
-ghost use Rattle.pv_streams.specs.Sinks.{and_all, WritesPrefix};
+ghost use Rattle.pv_streams.specs.Sinks.{Writes, WritesOr};
 
 use crate::first_machine::FirstMachine;
 use crate::observer::TraceLines;
@@ -36,10 +35,7 @@ fn completeness(complete: bool) -> &'static [u8]
 /// `Failed`, if a write failed. The sink received a prefix of the line.
 #[tactic(auto, unfolding(pv_model::specs::Trace::text_line))]
 pub fn write_states<W: Sink>(out: &mut W, count: usize, complete: bool) -> Result<(), Failed>
-    ensures whole { OnOk result (W.written out.new ≡ and_all (W.written out.old) (answer_line_bytes (states_line count complete))) }
-    ensures prefix { OnErr result (WritesPrefix (answer_line_bytes (states_line count complete)) (W.written out.old) (W.written out.new)) }
-    ensures failed { OnErr result (Rose (W.failures out.old) (W.failures out.new)) }
-    ensures quiet { OnOk result (W.failures out.new ≡ W.failures out.old) }
+    ensures { Writes W.Sink (answer_line_bytes (states_line count complete)) out.old out.new result }
 {
     let words = Plain(completeness(complete));
     let line = Line {
@@ -53,10 +49,7 @@ pub fn write_states<W: Sink>(out: &mut W, count: usize, complete: bool) -> Resul
 // Writes the number of different trees at the ends of schedules.
 #[tactic(auto, unfolding(pv_model::specs::Trace::text_line))]
 fn write_endings<W: Sink>(out: &mut W, count: usize) -> Result<(), Failed>
-    ensures whole { OnOk result (W.written out.new ≡ and_all (W.written out.old) (answer_line_bytes (endings_line count))) }
-    ensures prefix { OnErr result (WritesPrefix (answer_line_bytes (endings_line count)) (W.written out.old) (W.written out.new)) }
-    ensures failed { OnErr result (Rose (W.failures out.old) (W.failures out.new)) }
-    ensures quiet { OnOk result (W.failures out.new ≡ W.failures out.old) }
+    ensures { Writes W.Sink (answer_line_bytes (endings_line count)) out.old out.new result }
 {
     let line = Line {
         pid: 0,
@@ -68,10 +61,7 @@ fn write_endings<W: Sink>(out: &mut W, count: usize) -> Result<(), Failed>
 
 // Writes the result of a search.
 fn write_done<W: Sink>(out: &mut W, searched: &Searched) -> Result<(), Failed>
-    ensures whole { OnOk result (W.written out.new ≡ and_all (W.written out.old) (answer_bytes (result_lines searched.now.states searched.now.complete searched.now.endings))) }
-    ensures prefix { OnErr result (WritesPrefix (answer_bytes (result_lines searched.now.states searched.now.complete searched.now.endings)) (W.written out.old) (W.written out.new)) }
-    ensures failed { OnErr result (Rose (W.failures out.old) (W.failures out.new)) }
-    ensures quiet { OnOk result (W.failures out.new ≡ W.failures out.old) }
+    ensures { Writes W.Sink (answer_bytes (result_lines searched.now.states searched.now.complete searched.now.endings)) out.old out.new result }
 {
     write_states(out, searched.states, searched.complete)?;
     write_endings(out, searched.endings)
@@ -100,10 +90,7 @@ pub fn write_explore<W: Sink, P: Progress>(
     out: &mut W,
 ) -> Result<bool, Stop>
     requires { 1 ≤ states }
-    ensures whole { OnOk result (W.written out.new ≡ and_all (W.written out.old) (answer_bytes (explore_lines program_of states first_machine.now))) }
-    ensures prefix { OnErr result (WritesPrefix (answer_bytes (explore_lines program_of states first_machine.now)) (W.written out.old) (W.written out.new)) }
-    ensures failed { IfErr result (λ stop. FailsBy stop (W.failures out.old) (W.failures out.new)) }
-    ensures quiet { OnOk result (W.failures out.new ≡ W.failures out.old) }
+    ensures written { WritesOr W.Sink FailsBy (answer_bytes (explore_lines program_of states first_machine.now)) out.old out.new result }
     ensures complete { IfOk result (λ complete. complete ≡ is_complete program_of states first_machine.now) }
 {
     let searched = search_observed(alloc, first_machine, states, TraceLines, progress, out)?;

@@ -36,15 +36,6 @@ impl Model for FirstMachine {
     ghost invariant = { λ b. Boots b.image.items × (b.machine ≡ first_of b.image.items) };
 }
 
-// Returns a copy of bytes.
-fn copy_of(alloc: Global, bytes: &[u8]) -> Result<Vec<u8>, StepFault>
-    ensures { IfOk result (λ copy. copy.items ≡ bytes.now) }
-{
-    let mut copy = Vec::new(alloc);
-    copy.extend_from_slice(bytes)?;
-    Ok(copy)
-}
-
 // Returns the store of the tree in an image.
 fn store_of(alloc: Global, image: Vec<u8>) -> Result<Store, StepFault>
     requires { Boots image.items }
@@ -87,7 +78,7 @@ impl FirstMachine {
         let Ok(image) = to_bytes(alloc, store.tree()) else {
             return Err(BootFault::Memory);
         };
-        let machine = Position::first(Session::new(alloc, store)?);
+        let machine = Position::of_session(Session::new(alloc, store)?);
         Ok(FirstMachine { image, machine })
     }
 
@@ -113,9 +104,9 @@ impl FirstMachine {
     pub(crate) fn rebuild(&self, alloc: Global) -> Result<Position, StepFault>
         ensures { IfOk result (λ position. position ≡ self.now) }
     {
-        let image = copy_of(alloc, self.image.as_slice())?;
+        let image = Vec::from_slice(alloc, self.image.as_slice())?;
         let store = store_of(alloc, image)?;
         store.invariant();
-        Ok(Position::first(boot(alloc, store)?))
+        Ok(Position::of_session(boot(alloc, store)?))
     }
 }

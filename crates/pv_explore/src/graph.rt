@@ -1,19 +1,17 @@
 //! The state graph: the states that are reachable from a machine's first state, and their transitions.
-ghost use Rattle.std.specs.Prelude.{◌≡◌, ◌≤◌, [], Some, codes, length, OnErr, OnOk, IfErr, IfOk};
+ghost use Rattle.std.specs.Prelude.{◌≡◌, ◌≤◌, [], Some, codes, length, IfOk};
 ghost use Rattle.std.specs.Fmt.{decimal};
 ghost use Rattle.pv_explore.specs.Observing.{no_text};
-ghost use Rattle.pv_explore.specs.Plan.{first_visited, visited_from, live_at};
-ghost use Rattle.pv_explore.specs.Searches.{visited_of};
-ghost use Rattle.pv_explore.specs.Vertices.{found_lines, listed_bytes, steps_at, vertex_at, vertices_from};
+ghost use Rattle.pv_explore.specs.Searches.{all_visited, visited_of};
+ghost use Rattle.pv_explore.specs.Vertices.{all_steps_at, all_vertices, found_lines, listed_bytes, vertex_at};
 ghost use Rattle.pv_model.specs.Answers.Explore.{is_complete};
 ghost use Rattle.pv_model.specs.Answers.Graph.{graph_lines, tree_lines};
 ghost use Rattle.pv_model.specs.Answers.Lines.{answer_bytes, answer_line, answer_line_bytes};
 ghost use Rattle.pv_model.specs.Grammar.Lines.{lines_of};
 ghost use Rattle.pv_model.specs.Grammar.Programs.{program_of};
 ghost use Rattle.pv_model.specs.Listing.{listing};
-ghost use Rattle.pv_model.specs.Stream.{Rose};
 ghost use Rattle.pv_session.specs.Running.{FailsBy};
-ghost use Rattle.pv_streams.specs.Sinks.{and_all, WritesPrefix};
+ghost use Rattle.pv_streams.specs.Sinks.{and_all, Writes, WritesOr};
 
 use crate::checkpoints::Checkpoints;
 use crate::explore::write_states;
@@ -52,10 +50,7 @@ fn listing_of(alloc: Global, tree: &Tree) -> Result<Vec<u8>, StepFault>
 // Writes an LS line for a line of a listing.
 #[tactic(auto, unfolding(pv_model::specs::Trace::text_line))]
 fn write_listing_line<W: Sink>(out: &mut W, line: &[u8]) -> Result<(), Failed>
-    ensures whole { OnOk result (W.written out.new ≡ and_all (W.written out.old) (answer_line_bytes (answer_line 0 (codes "LS") line.now))) }
-    ensures prefix { OnErr result (WritesPrefix (answer_line_bytes (answer_line 0 (codes "LS") line.now)) (W.written out.old) (W.written out.new)) }
-    ensures failed { OnErr result (Rose (W.failures out.old) (W.failures out.new)) }
-    ensures quiet { OnOk result (W.failures out.new ≡ W.failures out.old) }
+    ensures { Writes W.Sink (answer_line_bytes (answer_line 0 (codes "LS") line.now)) out.old out.new result }
 {
     let line = Line {
         pid: 0,
@@ -67,10 +62,7 @@ fn write_listing_line<W: Sink>(out: &mut W, line: &[u8]) -> Result<(), Failed>
 
 // Writes an LS line for each line of a listing.
 fn write_listed<W: Sink>(out: &mut W, listing: &[u8]) -> Result<(), Failed>
-    ensures whole { OnOk result (W.written out.new ≡ and_all (W.written out.old) (listed_bytes (lines_of listing.now))) }
-    ensures prefix { OnErr result (WritesPrefix (listed_bytes (lines_of listing.now)) (W.written out.old) (W.written out.new)) }
-    ensures failed { OnErr result (Rose (W.failures out.old) (W.failures out.new)) }
-    ensures quiet { OnOk result (W.failures out.new ≡ W.failures out.old) }
+    ensures { Writes W.Sink (listed_bytes (lines_of listing.now)) out.old out.new result }
 {
     let mut rest = listing;
     while let Some((line, following)) = split_line(rest) {
@@ -82,10 +74,7 @@ fn write_listed<W: Sink>(out: &mut W, listing: &[u8]) -> Result<(), Failed>
 
 // Writes the tree of a state and the permissions of its processes, if `tree` is set.
 fn write_tree<W: Sink>(alloc: Global, parts: &Parts, tree: bool, out: &mut W) -> Result<(), Stop>
-    ensures whole { OnOk result (W.written out.new ≡ and_all (W.written out.old) (answer_bytes (tree_lines tree parts.now))) }
-    ensures prefix { OnErr result (WritesPrefix (answer_bytes (tree_lines tree parts.now)) (W.written out.old) (W.written out.new)) }
-    ensures failed { IfErr result (λ stop. FailsBy stop (W.failures out.old) (W.failures out.new)) }
-    ensures quiet { OnOk result (W.failures out.new ≡ W.failures out.old) }
+    ensures { WritesOr W.Sink FailsBy (answer_bytes (tree_lines tree parts.now)) out.old out.new result }
 {
     if !tree {
         return Ok(());
@@ -107,10 +96,7 @@ fn write_steps<O: Observer + Drop, W: Sink>(
     out: &mut W,
 ) -> Result<(), Stop>
     ensures unchanged { checkpoints.new ≡ checkpoints.old }
-    ensures whole { OnOk result (W.written out.new ≡ and_all (W.written out.old) (answer_bytes (steps_at states.now checkpoints.old witness.now (live_at program_of checkpoints.old witness.now)))) }
-    ensures prefix { OnErr result (WritesPrefix (answer_bytes (steps_at states.now checkpoints.old witness.now (live_at program_of checkpoints.old witness.now))) (W.written out.old) (W.written out.new)) }
-    ensures failed { IfErr result (λ stop. FailsBy stop (W.failures out.old) (W.failures out.new)) }
-    ensures quiet { OnOk result (W.failures out.new ≡ W.failures out.old) }
+    ensures written { WritesOr W.Sink FailsBy (answer_bytes (all_steps_at states.now checkpoints.old witness.now)) out.old out.new result }
 {
     let machine = checkpoints.position(alloc, witness)?;
     let pids = machine.live(alloc)?;
@@ -127,10 +113,7 @@ fn write_steps<O: Observer + Drop, W: Sink>(
 // Writes the line of a state's number.
 #[tactic(auto, unfolding(pv_model::specs::Trace::text_line))]
 fn write_number<W: Sink>(out: &mut W, number: usize) -> Result<(), Failed>
-    ensures whole { OnOk result (W.written out.new ≡ and_all (W.written out.old) (answer_line_bytes (answer_line 0 (codes "AT") (decimal number)))) }
-    ensures prefix { OnErr result (WritesPrefix (answer_line_bytes (answer_line 0 (codes "AT") (decimal number))) (W.written out.old) (W.written out.new)) }
-    ensures failed { OnErr result (Rose (W.failures out.old) (W.failures out.new)) }
-    ensures quiet { OnOk result (W.failures out.new ≡ W.failures out.old) }
+    ensures { Writes W.Sink (answer_line_bytes (answer_line 0 (codes "AT") (decimal number))) out.old out.new result }
 {
     let line = Line {
         pid: 0,
@@ -152,10 +135,7 @@ fn write_vertex<O: Observer + Drop, W: Sink>(
     out: &mut W,
 ) -> Result<(), Stop>
     ensures unchanged { checkpoints.new ≡ checkpoints.old }
-    ensures whole { OnOk result (W.written out.new ≡ and_all (W.written out.old) (answer_bytes (vertex_at states.now checkpoints.old tree number witness.now))) }
-    ensures prefix { OnErr result (WritesPrefix (answer_bytes (vertex_at states.now checkpoints.old tree number witness.now)) (W.written out.old) (W.written out.new)) }
-    ensures failed { IfErr result (λ stop. FailsBy stop (W.failures out.old) (W.failures out.new)) }
-    ensures quiet { OnOk result (W.failures out.new ≡ W.failures out.old) }
+    ensures written { WritesOr W.Sink FailsBy (answer_bytes (vertex_at states.now checkpoints.old tree number witness.now)) out.old out.new result }
 {
     let machine = checkpoints.position(alloc, witness)?;
     write_number(out, number)?;
@@ -174,10 +154,7 @@ fn write_vertices<O: Observer + Drop, W: Sink>(
     out: &mut W,
 ) -> Result<(), Stop>
     requires { length (visited_of search.now).witnesses ≡ length search.now.states }
-    ensures whole { OnOk result (W.written out.new ≡ and_all (W.written out.old) (answer_bytes (vertices_from search.now.states first_machine.now tree 0 (visited_of search.now).witnesses))) }
-    ensures prefix { OnErr result (WritesPrefix (answer_bytes (vertices_from search.now.states first_machine.now tree 0 (visited_of search.now).witnesses)) (W.written out.old) (W.written out.new)) }
-    ensures failed { IfErr result (λ stop. FailsBy stop (W.failures out.old) (W.failures out.new)) }
-    ensures quiet { OnOk result (W.failures out.new ≡ W.failures out.old) }
+    ensures { WritesOr W.Sink FailsBy (answer_bytes (all_vertices (visited_of search.now) first_machine.now tree)) out.old out.new result }
 {
     let mut line_buffer = new_line_buffer(alloc)?;
     let mut checkpoints = Checkpoints::new(alloc, first_machine);
@@ -218,7 +195,7 @@ pub(crate) fn search_states<P: Progress>(
     states: u32,
     progress: &mut P,
 ) -> Result<Search<Unobserved>, StepFault>
-    ensures { IfOk result (λ search. visited_of search ≡ visited_from no_text states program_of first_machine.now states 0 (first_visited first_machine.now)) }
+    ensures { IfOk result (λ search. visited_of search ≡ all_visited no_text states first_machine.now) }
 {
     let mut search = Search::new(alloc, Unobserved, first_machine)?;
     match search_all(
@@ -243,10 +220,7 @@ fn write_found<O: Observer + Drop, W: Sink>(
     out: &mut W,
 ) -> Result<(), Stop>
     requires { length (visited_of search.now).witnesses ≡ length search.now.states }
-    ensures whole { OnOk result (W.written out.new ≡ and_all (W.written out.old) (answer_bytes (found_lines (visited_of search.now) first_machine.now tree))) }
-    ensures prefix { OnErr result (WritesPrefix (answer_bytes (found_lines (visited_of search.now) first_machine.now tree)) (W.written out.old) (W.written out.new)) }
-    ensures failed { IfErr result (λ stop. FailsBy stop (W.failures out.old) (W.failures out.new)) }
-    ensures quiet { OnOk result (W.failures out.new ≡ W.failures out.old) }
+    ensures { WritesOr W.Sink FailsBy (answer_bytes (found_lines (visited_of search.now) first_machine.now tree)) out.old out.new result }
 {
     write_vertices(alloc, first_machine, search, tree, out)?;
     Ok(write_states(out, search.states.len(), search.complete)?)
@@ -274,10 +248,7 @@ pub fn write_graph<W: Sink, P: Progress>(
     out: &mut W,
 ) -> Result<bool, Stop>
     requires { 1 ≤ states }
-    ensures whole { OnOk result (W.written out.new ≡ and_all (W.written out.old) (answer_bytes (graph_lines program_of states tree first_machine.now))) }
-    ensures prefix { OnErr result (WritesPrefix (answer_bytes (graph_lines program_of states tree first_machine.now)) (W.written out.old) (W.written out.new)) }
-    ensures failed { IfErr result (λ stop. FailsBy stop (W.failures out.old) (W.failures out.new)) }
-    ensures quiet { OnOk result (W.failures out.new ≡ W.failures out.old) }
+    ensures written { WritesOr W.Sink FailsBy (answer_bytes (graph_lines program_of states tree first_machine.now)) out.old out.new result }
     ensures complete { IfOk result (λ complete. complete ≡ is_complete program_of states first_machine.now) }
 {
     let search = search_states(alloc, first_machine, states, progress)?;

@@ -9,7 +9,7 @@
 //! `observer` has the trait of what is observed of the steps, and `searched` the search with an observer: each text
 //! observed is written with a witness. `explore` observes the trace lines of each step, and `graph` writes each state
 //! with its transitions. `visited` gives the visited states one at a time, and `side` the states of one machine for a search of
-//! pairs. `witness` writes a schedule, `unheard` is a sink that discards, and `progress` is the trait for progress reports. `specs/Plan` specifies the search, and `proofs/Planned` proves that it visits the states and writes
+//! pairs. `witness` writes a schedule, `numbers` sorts numbers, `unheard` is a sink that discards, and `progress` is the trait for progress reports. `specs/Plan` specifies the search, and `proofs/Planned` proves that it visits the states and writes
 //! the texts of the definitions.
 #![tactic(auto)]
 
@@ -18,6 +18,7 @@ mod checkpoints;
 mod explore;
 mod first_machine;
 mod graph;
+mod numbers;
 mod observer;
 mod position;
 mod progress;
@@ -33,6 +34,7 @@ mod witnesses;
 pub use explore::{write_explore, write_states};
 pub use first_machine::FirstMachine;
 pub use graph::write_graph;
+pub use numbers::{ascending, greatest};
 pub use observer::{Observer, TraceLines};
 pub use position::Position;
 pub use progress::{Progress, Unshown};

@@ -1,12 +1,11 @@
 //! Machines at the end of a schedule.
-ghost use Rattle.std.specs.Prelude.{◌≡◌, ◌+◌, ◌++◌, ◌∷◌, [], true, codes, map, is_some, IfErr, IfOk, OnErr, OnOk};
+ghost use Rattle.std.specs.Prelude.{◌≡◌, ◌+◌, ◌++◌, ◌∷◌, [], true, codes, map, is_some, IfOk, OnOk};
 ghost use Rattle.pv_explore.specs.FirstMachines.{GaveNumber, one_if};
 ghost use Rattle.pv_procs.specs.ProcessTable.{process_in};
 ghost use Rattle.pv_explore.specs.Plan.{state_at, tree_key};
 ghost use Rattle.pv_explore.specs.Vertices.{step_of};
 ghost use Rattle.pv_model.specs.Answers.Graph.{leads_to_text};
 ghost use Rattle.pv_model.specs.Answers.Lines.{answer_bytes, answer_line, answer_line_bytes};
-ghost use Rattle.pv_model.specs.Stream.{Rose};
 ghost use Rattle.pv_laws_states.specs.States.{IsValid};
 ghost use Rattle.pv_model.specs.Answers.Explore.{has_ended};
 ghost use Rattle.pv_model.specs.Grammar.Programs.{program_of};
@@ -15,7 +14,7 @@ ghost use Rattle.pv_session.specs.Running.{FailsBy, stepped};
 ghost use Rattle.pv_state_encoding.specs.Groups.{groups_of, state_groups};
 ghost use Rattle.pv_state_encoding.specs.Encoded.{encoded, encoded_all};
 ghost use Rattle.pv_step_cache.specs.Steps.{texts_in};
-ghost use Rattle.pv_streams.specs.Sinks.{and_all, WritesPrefix};
+ghost use Rattle.pv_streams.specs.Sinks.{Writes, WritesOr};
 ghost use Rattle.pv_tree.specs.Sizes.{HaveSameSizes};
 
 use crate::observer::Observer;
@@ -133,10 +132,7 @@ impl Fragment for Leads {
 // Writes the STEP line of a step: the number of the state after it.
 #[tactic(auto, unfolding(pv_model::specs::Trace::text_line))]
 fn write_leads<W: Sink>(out: &mut W, pid: u32, number: Option<usize>) -> Result<(), Failed>
-    ensures whole { OnOk result (W.written out.new ≡ and_all (W.written out.old) (answer_line_bytes (answer_line pid (codes "STEP") (leads_to_text number)))) }
-    ensures prefix { OnErr result (WritesPrefix (answer_line_bytes (answer_line pid (codes "STEP") (leads_to_text number))) (W.written out.old) (W.written out.new)) }
-    ensures failed { OnErr result (Rose (W.failures out.old) (W.failures out.new)) }
-    ensures quiet { OnOk result (W.failures out.new ≡ W.failures out.old) }
+    ensures { Writes W.Sink (answer_line_bytes (answer_line pid (codes "STEP") (leads_to_text number))) out.old out.new result }
 {
     let line = Line {
         pid,
@@ -147,12 +143,12 @@ fn write_leads<W: Sink>(out: &mut W, pid: u32, number: Option<usize>) -> Result<
 }
 
 impl Position {
-    /// Returns a machine before its first step.
-    pub(crate) fn first(session: Session) -> Position
-        requires { session.last_process ≡ 1 }
+    /// Returns the machine of a session.
+    pub(crate) fn of_session(session: Session) -> Position
         ensures { result ≡ session }
     {
-        Position { session, last: 1 }
+        let last = session.parts().processes().last_number();
+        Position { session, last }
     }
 
     /// Returns whether the images of two machines have the same sizes, so that one machine can be set to the state of
@@ -304,10 +300,7 @@ impl Position {
         line_buffer: &mut LineBuffer,
         out: &mut W,
     ) -> Result<(), Stop>
-        ensures whole { OnOk result (W.written out.new ≡ and_all (W.written out.old) (answer_bytes (step_of states.now self.old pid))) }
-        ensures prefix { OnErr result (WritesPrefix (answer_bytes (step_of states.now self.old pid)) (W.written out.old) (W.written out.new)) }
-        ensures failed { IfErr result (λ stop. FailsBy stop (W.failures out.old) (W.failures out.new)) }
-        ensures quiet { OnOk result (W.failures out.new ≡ W.failures out.old) }
+        ensures { WritesOr W.Sink FailsBy (answer_bytes (step_of states.now self.old pid)) out.old out.new result }
     {
         let _ = self.session.parts();
         let mut texts = CallTexts::new();

@@ -1,19 +1,18 @@
 //! The search.
-ghost use Rattle.std.specs.Prelude.{◌≡◌, ◌<◌, ◌++◌, ◌∷◌, [], true, bytes_eq, length, if◌then◌else◌, slice_get, IfErr, IfOk, OnErr, OnOk};
+ghost use Rattle.std.specs.Prelude.{◌≡◌, ◌<◌, ◌++◌, ◌∷◌, [], true, bytes_eq, length, if◌then◌else◌, slice_get, IfOk, OnOk};
 ghost use Rattle.std.specs.List.{list_any};
 ghost use Rattle.pv_explore.specs.Observing.{is_shown};
-ghost use Rattle.pv_explore.specs.Plan.{added_to, bytes_at, endings_after, first_visited, live_at, move_bytes, new_bytes, reported_after, reported_bytes, reported_from, reported_steps, shown_bytes, state_at, state_key, visited_after, visited_after_steps, visited_at, visited_from, with_found_at};
+ghost use Rattle.pv_explore.specs.Plan.{added_to, endings_after, first_visited, move_bytes, new_bytes, reported_after, reported_bytes, reported_from, shown_bytes, state_key, visited_from, with_found_at};
 ghost use Rattle.pv_explore.specs.VisitedStates.{HasNumber, IsFoundIn, IsMade};
 ghost use Rattle.pv_explore.specs.declared.states.Visit.TheVariants.{New};
-ghost use Rattle.pv_explore.specs.Searches.{AreAt, endings_found, move_of, visited_of, witness_at, with_witness};
+ghost use Rattle.pv_explore.specs.Searches.{AreAt, endings_found, HasMoved, HasMovedAll, HasMovedFrom, IsAt, live_of, state_of, text_from, text_of_move, text_of_moves, visited_of, with_witness};
 ghost use Rattle.pv_explore.specs.Witnesses.{longer, witness_of};
 ghost use Rattle.pv_laws_states.specs.States.{IsValid};
 ghost use Rattle.pv_model.specs.Grammar.Programs.{program_of};
-ghost use Rattle.pv_model.specs.Stream.{Rose};
-ghost use Rattle.pv_session.specs.Running.{FailsBy, stepped};
+ghost use Rattle.pv_session.specs.Running.{FailsBy};
 ghost use Rattle.pv_step_cache.specs.Steps.{texts_in};
 ghost use Rattle.pv_state_encoding.specs.Encoded.{encoded};
-ghost use Rattle.pv_streams.specs.Sinks.{and_all, WritesPrefix};
+ghost use Rattle.pv_streams.specs.Sinks.{Writes, WritesOr};
 
 use crate::checkpoints::Checkpoints;
 use crate::first_machine::FirstMachine;
@@ -71,10 +70,7 @@ fn is_shown(text: &[u8]) -> bool
 // Writes the BY line with a step's witness, and a text of the step.
 #[tactic(auto, unfolding(pv_model::specs::Trace::text_line))]
 fn write_move<W: Sink>(out: &mut W, pid: u32, witness: &[u32], text: &[u8]) -> Result<(), Failed>
-    ensures whole { OnOk result (W.written out.new ≡ and_all (W.written out.old) (move_bytes pid witness.now text.now)) }
-    ensures prefix { OnErr result (WritesPrefix (move_bytes pid witness.now text.now) (W.written out.old) (W.written out.new)) }
-    ensures failed { OnErr result (Rose (W.failures out.old) (W.failures out.new)) }
-    ensures quiet { OnOk result (W.failures out.new ≡ W.failures out.old) }
+    ensures { Writes W.Sink (move_bytes pid witness.now text.now) out.old out.new result }
 {
     let line = Line {
         pid,
@@ -115,10 +111,7 @@ fn show<W: Sink>(
     out: &mut W,
 ) -> Result<(), Stop>
     requires { number < length witnesses.now }
-    ensures whole { OnOk result (W.written out.new ≡ and_all (W.written out.old) (shown_bytes pid (longer witnesses.now number pid) text.now)) }
-    ensures prefix { OnErr result (WritesPrefix (shown_bytes pid (longer witnesses.now number pid) text.now) (W.written out.old) (W.written out.new)) }
-    ensures failed { IfErr result (λ stop. FailsBy stop (W.failures out.old) (W.failures out.new)) }
-    ensures quiet { OnOk result (W.failures out.new ≡ W.failures out.old) }
+    ensures { WritesOr W.Sink FailsBy (shown_bytes pid (longer witnesses.now number pid) text.now) out.old out.new result }
 {
     if !is_shown(text) {
         return Ok(());
@@ -139,10 +132,7 @@ fn report_text<W: Sink>(
 ) -> Result<(), Stop>
     requires { number < length witnesses.now }
     ensures reported { OnOk result (reported.new ≡ added_to reported.old text.now) }
-    ensures whole { OnOk result (W.written out.new ≡ and_all (W.written out.old) (new_bytes reported.old pid (longer witnesses.now number pid) text.now)) }
-    ensures prefix { OnErr result (WritesPrefix (new_bytes reported.old pid (longer witnesses.now number pid) text.now) (W.written out.old) (W.written out.new)) }
-    ensures failed { IfErr result (λ stop. FailsBy stop (W.failures out.old) (W.failures out.new)) }
-    ensures quiet { OnOk result (W.failures out.new ≡ W.failures out.old) }
+    ensures written { WritesOr W.Sink FailsBy (new_bytes reported.old pid (longer witnesses.now number pid) text.now) out.old out.new result }
 {
     if reported.contains(text) {
         return Ok(());
@@ -164,10 +154,7 @@ fn report<W: Sink>(
 ) -> Result<(), Stop>
     requires { number < length witnesses.now }
     ensures reported { OnOk result (reported.new ≡ reported_after reported.old (texts_in texts.now)) }
-    ensures whole { OnOk result (W.written out.new ≡ and_all (W.written out.old) (reported_bytes reported.old pid (longer witnesses.now number pid) (texts_in texts.now))) }
-    ensures prefix { OnErr result (WritesPrefix (reported_bytes reported.old pid (longer witnesses.now number pid) (texts_in texts.now)) (W.written out.old) (W.written out.new)) }
-    ensures failed { IfErr result (λ stop. FailsBy stop (W.failures out.old) (W.failures out.new)) }
-    ensures quiet { OnOk result (W.failures out.new ≡ W.failures out.old) }
+    ensures written { WritesOr W.Sink FailsBy (reported_bytes reported.old pid (longer witnesses.now number pid) (texts_in texts.now)) out.old out.new result }
 {
     for text in texts {
         report_text(alloc, reported, witnesses, number, pid, text, out)?;
@@ -361,11 +348,8 @@ impl<O: Observer + Drop> Search<O> {
     ) -> Result<Position, Stop>
         requires there { HasNumber self.old.states number from }
         requires found { number < length (visited_of self.old).witnesses }
-        ensures visited { OnOk result (visited_of self.new ≡ visited_after limit (visited_of self.old) (move_of (longer (visited_of self.old).witnesses number pid) pid from) (O.observe from pid (stepped from pid))) }
-        ensures whole { OnOk result (W.written out.new ≡ and_all (W.written out.old) (reported_bytes self.old.reported pid (longer (visited_of self.old).witnesses number pid) (O.observe from pid (stepped from pid)))) }
-        ensures prefix { OnErr result (WritesPrefix (reported_bytes self.old.reported pid (longer (visited_of self.old).witnesses number pid) (O.observe from pid (stepped from pid))) (W.written out.old) (W.written out.new)) }
-        ensures failed { IfErr result (λ stop. FailsBy stop (W.failures out.old) (W.failures out.new)) }
-        ensures quiet { OnOk result (W.failures out.new ≡ W.failures out.old) }
+        ensures visited { OnOk result (HasMovedFrom O.observe limit from number pid self.old self.new) }
+        ensures written { WritesOr W.Sink FailsBy (text_from O.observe from number pid self.old) out.old out.new result }
     {
         let _ = from.parts();
         let (position, texts) = self.states.observe(alloc, from, pid)?;
@@ -392,7 +376,7 @@ impl<O: Observer + Drop> Search<O> {
     ) -> Result<Position, StepFault>
         requires { number < length (visited_of self.now).witnesses }
         ensures unchanged { checkpoints.new ≡ checkpoints.old }
-        ensures at { IfOk result (λ position. position ≡ state_at program_of checkpoints.old (witness_at (visited_of self.now) number)) }
+        ensures at { IfOk result (λ position. position ≡ state_of checkpoints.old self.now number) }
     {
         let witness = self.witnesses.at(alloc, number)?;
         checkpoints.position(alloc, &witness)
@@ -409,14 +393,11 @@ impl<O: Observer + Drop> Search<O> {
         pid: u32,
         out: &mut W,
     ) -> Result<(), Stop>
-        requires there { HasNumber self.old.states number (state_at program_of checkpoints.old (witness_at (visited_of self.old) number)) }
+        requires there { IsAt checkpoints.old self.old number }
         requires found { number < length (visited_of self.old).witnesses }
         ensures unchanged { checkpoints.new ≡ checkpoints.old }
-        ensures visited { OnOk result (visited_of self.new ≡ visited_at O.observe limit program_of checkpoints.old (witness_at (visited_of self.old) number) pid (visited_of self.old)) }
-        ensures whole { OnOk result (W.written out.new ≡ and_all (W.written out.old) (bytes_at O.observe limit program_of checkpoints.old (witness_at (visited_of self.old) number) pid (visited_of self.old))) }
-        ensures prefix { OnErr result (WritesPrefix (bytes_at O.observe limit program_of checkpoints.old (witness_at (visited_of self.old) number) pid (visited_of self.old)) (W.written out.old) (W.written out.new)) }
-        ensures failed { IfErr result (λ stop. FailsBy stop (W.failures out.old) (W.failures out.new)) }
-        ensures quiet { OnOk result (W.failures out.new ≡ W.failures out.old) }
+        ensures visited { OnOk result (HasMoved O.observe limit checkpoints.old number pid self.old self.new) }
+        ensures written { WritesOr W.Sink FailsBy (text_of_move O.observe limit checkpoints.old number pid self.old) out.old out.new result }
     {
         let from = self.position(alloc, checkpoints, number)?;
         let machine = self.make_new_move(alloc, limit, number, from, pid, out)?;
@@ -436,14 +417,11 @@ impl<O: Observer + Drop> Search<O> {
         out: &mut W,
     ) -> Result<(), Stop>
         requires whole { IsValid checkpoints.old }
-        requires there { HasNumber self.old.states number (state_at program_of checkpoints.old (witness_at (visited_of self.old) number)) }
+        requires there { IsAt checkpoints.old self.old number }
         requires found { number < length (visited_of self.old).witnesses }
         ensures unchanged { checkpoints.new ≡ checkpoints.old }
-        ensures visited { OnOk result (visited_of self.new ≡ visited_at O.observe limit program_of checkpoints.old (witness_at (visited_of self.old) number) pid (visited_of self.old)) }
-        ensures whole { OnOk result (W.written out.new ≡ and_all (W.written out.old) (bytes_at O.observe limit program_of checkpoints.old (witness_at (visited_of self.old) number) pid (visited_of self.old))) }
-        ensures prefix { OnErr result (WritesPrefix (bytes_at O.observe limit program_of checkpoints.old (witness_at (visited_of self.old) number) pid (visited_of self.old)) (W.written out.old) (W.written out.new)) }
-        ensures failed { IfErr result (λ stop. FailsBy stop (W.failures out.old) (W.failures out.new)) }
-        ensures quiet { OnOk result (W.failures out.new ≡ W.failures out.old) }
+        ensures visited { OnOk result (HasMoved O.observe limit checkpoints.old number pid self.old self.new) }
+        ensures written { WritesOr W.Sink FailsBy (text_of_move O.observe limit checkpoints.old number pid self.old) out.old out.new result }
     {
         let limited = limit as usize;
         let Some(followed) = self.states.follow(alloc, limited, number as usize, pid)? else {
@@ -471,10 +449,10 @@ impl<O: Observer + Drop> Search<O> {
         number: u32,
     ) -> Result<Vec<u32>, StepFault>
         requires whole { IsValid checkpoints.old }
-        requires there { HasNumber self.now.states number (state_at program_of checkpoints.old (witness_at (visited_of self.now) number)) }
+        requires there { IsAt checkpoints.old self.now number }
         requires found { number < length (visited_of self.now).witnesses }
         ensures unchanged { checkpoints.new ≡ checkpoints.old }
-        ensures live { IfOk result (λ pids. pids.items ≡ live_at program_of checkpoints.old (witness_at (visited_of self.now) number)) }
+        ensures live { IfOk result (λ pids. pids.items ≡ live_of checkpoints.old self.now number) }
     {
         match self.states.live(alloc, number as usize)? {
             Some(pids) => Ok(pids),
@@ -497,14 +475,11 @@ impl<O: Observer + Drop> Search<O> {
         out: &mut W,
     ) -> Result<(), Stop>
         requires whole { IsValid checkpoints.old }
-        requires there { HasNumber self.old.states number (state_at program_of checkpoints.old (witness_at (visited_of self.old) number)) }
+        requires there { IsAt checkpoints.old self.old number }
         requires found { number < length (visited_of self.old).witnesses }
         ensures unchanged { checkpoints.new ≡ checkpoints.old }
-        ensures visited { OnOk result (visited_of self.new ≡ visited_after_steps O.observe limit program_of checkpoints.old (witness_at (visited_of self.old) number) (live_at program_of checkpoints.old (witness_at (visited_of self.old) number)) (visited_of self.old)) }
-        ensures whole { OnOk result (W.written out.new ≡ and_all (W.written out.old) (reported_steps O.observe limit program_of checkpoints.old (witness_at (visited_of self.old) number) (live_at program_of checkpoints.old (witness_at (visited_of self.old) number)) (visited_of self.old))) }
-        ensures prefix { OnErr result (WritesPrefix (reported_steps O.observe limit program_of checkpoints.old (witness_at (visited_of self.old) number) (live_at program_of checkpoints.old (witness_at (visited_of self.old) number)) (visited_of self.old)) (W.written out.old) (W.written out.new)) }
-        ensures failed { IfErr result (λ stop. FailsBy stop (W.failures out.old) (W.failures out.new)) }
-        ensures quiet { OnOk result (W.failures out.new ≡ W.failures out.old) }
+        ensures visited { OnOk result (HasMovedAll O.observe limit checkpoints.old number self.old self.new) }
+        ensures written { WritesOr W.Sink FailsBy (text_of_moves O.observe limit checkpoints.old number self.old) out.old out.new result }
     {
         let pids = self.live(alloc, checkpoints, number)?;
         let live = pids.as_slice();
@@ -547,10 +522,7 @@ impl<O: Observer + Drop> Search<O> {
     ) -> Result<(), Stop>
         requires { AreAt first_machine.now (visited_of self.old) }
         ensures visited { OnOk result (visited_of self.new ≡ visited_from O.observe limit program_of first_machine.now limit 0 (visited_of self.old)) }
-        ensures whole { OnOk result (W.written out.new ≡ and_all (W.written out.old) (reported_from O.observe limit program_of first_machine.now limit 0 (visited_of self.old))) }
-        ensures prefix { OnErr result (WritesPrefix (reported_from O.observe limit program_of first_machine.now limit 0 (visited_of self.old)) (W.written out.old) (W.written out.new)) }
-        ensures failed { IfErr result (λ stop. FailsBy stop (W.failures out.old) (W.failures out.new)) }
-        ensures quiet { OnOk result (W.failures out.new ≡ W.failures out.old) }
+        ensures written { WritesOr W.Sink FailsBy (reported_from O.observe limit program_of first_machine.now limit 0 (visited_of self.old)) out.old out.new result }
     {
         let _ = first_machine.machine().parts();
         let mut checkpoints = Checkpoints::new(alloc, first_machine);

@@ -1,13 +1,11 @@
 //! The search with an observer, and its result.
-ghost use Rattle.std.specs.Prelude.{◌≡◌, ◌≤◌, bytes_eq, IfErr, IfOk, OnErr, OnOk};
+ghost use Rattle.std.specs.Prelude.{◌≡◌, ◌≤◌, bytes_eq, IfOk, OnOk};
 ghost use Rattle.std.specs.List.{list_any};
 ghost use Rattle.pv_explore.specs.Observing.{IsSearched, observed_bytes};
-ghost use Rattle.pv_explore.specs.Plan.{first_visited, reported_from, visited_from};
-ghost use Rattle.pv_explore.specs.Searches.{visited_of};
-ghost use Rattle.pv_model.specs.Grammar.Programs.{program_of};
-ghost use Rattle.pv_model.specs.Stream.{Rose};
+ghost use Rattle.pv_explore.specs.Plan.{first_visited};
+ghost use Rattle.pv_explore.specs.Searches.{all_reported, all_visited, visited_of};
 ghost use Rattle.pv_session.specs.Running.{FailsBy};
-ghost use Rattle.pv_streams.specs.Sinks.{and_all, WritesOr, WritesPrefix};
+ghost use Rattle.pv_streams.specs.Sinks.{WritesOr};
 
 use crate::first_machine::FirstMachine;
 use crate::observer::Observer;
@@ -50,11 +48,8 @@ pub(crate) fn search_all<O: Observer + Drop, W: Sink, P: Progress>(
     out: &mut W,
 ) -> Result<(), Stop>
     requires { visited_of search.old ≡ first_visited first_machine.now }
-    ensures visited { OnOk result (visited_of search.new ≡ visited_from O.observe states program_of first_machine.now states 0 (first_visited first_machine.now)) }
-    ensures whole { OnOk result (W.written out.new ≡ and_all (W.written out.old) (reported_from O.observe states program_of first_machine.now states 0 (first_visited first_machine.now))) }
-    ensures prefix { OnErr result (WritesPrefix (reported_from O.observe states program_of first_machine.now states 0 (first_visited first_machine.now)) (W.written out.old) (W.written out.new)) }
-    ensures failed { IfErr result (λ stop. FailsBy stop (W.failures out.old) (W.failures out.new)) }
-    ensures quiet { OnOk result (W.failures out.new ≡ W.failures out.old) }
+    ensures visited { OnOk result (visited_of search.new ≡ all_visited O.observe states first_machine.now) }
+    ensures written { WritesOr W.Sink FailsBy (all_reported O.observe states first_machine.now) out.old out.new result }
 {
     let end = search.search(alloc, first_machine, states, progress, out);
     progress.end();

@@ -59,22 +59,13 @@ fn number_of(found: Visit, before: usize) -> Option<usize>
     }
 }
 
-// Returns a copy of a byte string.
-fn copy_of(alloc: Global, bytes: &[u8]) -> Result<Vec<u8>, AllocError>
-    ensures { IfOk result (λ copy. copy.items ≡ bytes.now) }
-{
-    let mut copy = Vec::new(alloc);
-    copy.extend_from_slice(bytes)?;
-    Ok(copy)
-}
-
 // Returns a copy of a list of texts.
 fn copy_of_texts(alloc: Global, texts: &[Vec<u8>]) -> Result<Vec<Vec<u8>>, AllocError>
     ensures { IfOk result (λ copy. texts_in copy.items ≡ texts_in texts.now) }
 {
     let mut copy = Vec::new(alloc);
     for text in texts {
-        let one = copy_of(alloc, text)?;
+        let one = Vec::from_slice(alloc, text)?;
         copy.push(one)?;
     }
     Ok(copy)

@@ -10,6 +10,7 @@ use crate::position::Position;
 use crate::progress::Progress;
 use crate::search::Search;
 use pv_model::StepFault;
+use pv_session::Session;
 use std::alloc::Global;
 use std::marker::Model;
 
@@ -101,5 +102,12 @@ impl<'a> SearchedStates<'a> {
         ensures { self.new ≡ self.old }
     {
         self.checkpoints.release(machine);
+    }
+
+    /// Takes the machine of a session back, to be reused for another state.
+    pub fn take_back(&mut self, session: Session)
+        ensures { self.new ≡ self.old }
+    {
+        self.release(Position::of_session(session));
     }
 }

@@ -1,9 +1,8 @@
 //! The text of a witness.
-ghost use Rattle.std.specs.Prelude.{◌≡◌, ◌∷◌, ◌++◌, ℕ, codes, OnOk, OnErr};
+ghost use Rattle.std.specs.Prelude.{◌∷◌, ◌++◌, ℕ, codes};
 ghost use Rattle.pv_model.specs.Answers.Explore.{turn_text, witness_text};
-ghost use Rattle.pv_model.specs.Stream.{Rose};
 ghost use Rattle.pv_model.specs.Answers.Lines.{answer_line, answer_line_bytes};
-ghost use Rattle.pv_streams.specs.Sinks.{Writes, WritesPrefix, and_all};
+ghost use Rattle.pv_streams.specs.Sinks.{Writes};
 
 use itoa::Buffer;
 use pv_answers::{Decimal, Fragment, Line, Plain};
@@ -41,10 +40,7 @@ impl Fragment for Steps {
 
 // Writes a witness, given its first process and the rest.
 fn write_from<W: Sink>(out: &mut W, first: u32, following: &[u32]) -> Result<(), Failed>
-    ensures whole { OnOk result (W.written out.new ≡ and_all (W.written out.old) (witness_text (first ∷ following.now))) }
-    ensures prefix { OnErr result (WritesPrefix (witness_text (first ∷ following.now)) (W.written out.old) (W.written out.new)) }
-    ensures failed { OnErr result (Rose (W.failures out.old) (W.failures out.new)) }
-    ensures quiet { OnOk result (W.failures out.new ≡ W.failures out.old) }
+    ensures { Writes W.Sink (witness_text (first ∷ following.now)) out.old out.new result }
 {
     let mut pid = first;
     let mut count: usize = 1;

@@ -1,6 +1,7 @@
 -- The files without names, by number.
 use Rattle.std.proofs.Common.{◌≡◌, ◌∙◌, ap, ℕ, zero, suc, ◌+◌, Bool, false, cond, ◌&&◌, List, [], ◌∷◌, ◌++◌, length, map, filter, Option, None, Some, add-one, refl, arith}
 use Rattle.std.specs.List.{range_with_len}
+use Rattle.pv_explore.proofs.Ranges.{range-suc}
 use Rattle.pv_model.specs.Answers.Files.{unnamed_files}
 use Rattle.pv_model.specs.Bytes.{is_empty}
 use Rattle.pv_model.specs.Numbered.{Numbered, at_number, numbered_from}
@@ -26,12 +27,6 @@ pub unnamed-are : (t : Tree) → filter (is_unnamed t) (range_with_len 0 (length
 unnamed-are t =
     numbers-from (is_unnamed t) 0 t.nodes
     (λ i none. let same : 0 + i ≡ i = omega arith in ap (is_unnamed t) same ∙ ap (λ (o : Option Node). is_file o && is_empty (names_of t i)) none)
-
-range-suc : (a n : ℕ) → range_with_len a (suc n) ≡ range_with_len a n ++ (a + n) ∷ []
-range-suc a zero = let same : a ≡ a + 0 = omega arith in ap (λ k. k ∷ []) same
-range-suc a (suc n) =
-    let same : a + 1 + n ≡ a + suc n = omega arith in
-    ap (λ (ms : List ℕ). a ∷ ms) (range-suc (a + 1) n ∙ ap (λ k. range_with_len (a + 1) n ++ k ∷ []) same)
 
 pub range-next : (n : ℕ) → range_with_len 0 (n + 1) ≡ range_with_len 0 n ++ n ∷ []
 range-next n =

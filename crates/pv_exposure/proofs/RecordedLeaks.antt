@@ -1,5 +1,5 @@
 -- The lines of leaks of which only the first of each line and file text is stored.
-use Rattle.std.proofs.Common.{◌≡◌, ◌∙◌, sym, ap, ap₂, ℕ, ◌/◌, ◌%◌, ◌≤◌, Bool, true, false, cond, ◌||◌, if◌then◌else◌, ◌==◌, bytes_eq, List, [], ◌∷◌, ◌++◌, map, flat_map, filter, fold, append_assoc, codes, Option, None, Some, refl, arith}
+use Rattle.std.proofs.Common.{◌≡◌, ◌∙◌, sym, ap, ap₂, ℕ, ◌/◌, ◌%◌, Bool, true, false, cond, ◌||◌, if◌then◌else◌, ◌==◌, bytes_eq, List, [], ◌∷◌, ◌++◌, map, flat_map, filter, fold, append_assoc, codes, Option, None, Some, refl, arith}
 use Rattle.std.specs.Prelude.{max, option_map}
 use Rattle.std.specs.List.{join_by, list_any, range_with_len}
 use Rattle.std.proofs.lemmas.Bool.{eq-eqb}
@@ -16,6 +16,7 @@ use Rattle.pv_model.specs.Answers.Observed.{groups, with_alike}
 use Rattle.pv_model.specs.Bytes.{Bytes}
 use Rattle.pv_model.specs.Held.{among}
 use Rattle.pv_laws_trees.proofs.Entries.{bytes_eq-same, bytes_eq-itself}
+use Rattle.pv_explore.proofs.Ranges.{among-most}
 use Rattle.pv_exposure.specs.Collected.{RecordedLeak, all_recorded_lines, greatest, has_key, recorded_at, recorded_lines, recorded_lines_by, recorded_of, key_of, last_recorded, ranges_recorded, with_all}
 use Rattle.pv_exposure.proofs.Firsts.{keyed}
 
@@ -94,25 +95,10 @@ new-again {X = X} key x ys had (z ∷ xs) known =
 
 -- ---- the greatest number
 
-fold-least : (n : ℕ) (ns : List ℕ) → n ≤ fold max n ns
-fold-least n [] = omega arith
-fold-least n (m ∷ ns) = let more = fold-least (max n m) ns in omega (arith, more)
-
-fold-above : (n m : ℕ) (ns : List ℕ) → list_any (λ k. k == m) ns ≡ true → m ≤ fold max n ns
-fold-above n m [] is = absurd (let no : false ≡ true = is in cc)
-fold-above n m (k ∷ ns) is = by (k == m) refl is (fold-above (max n k) m ns)
-  where
-    by : (b : Bool) → (k == m) ≡ b → (b || list_any (λ j. j == m) ns) ≡ true → (list_any (λ j. j == m) ns ≡ true → m ≤ fold max (max n k) ns) → m ≤ fold max (max n k) ns
-    by true same is rest =
-        let least = fold-least (max n k) ns in
-        let equal : k ≡ m = grind (arith, nat_tests, same) in
-        omega (arith, least, equal)
-    by false other is rest = rest is
-
 -- a number that an earlier one equals does not change the greatest one
 greatest-again : (m : ℕ) (ms ns : List ℕ) → among ms m ≡ true → fold max 0 (ms ++ m ∷ ns) ≡ fold max 0 (ms ++ ns)
 greatest-again m ms ns is =
-    let least = fold-above 0 m ms is in
+    let least = among-most ms 0 m is in
     let same : max (fold max 0 ms) m ≡ fold max 0 ms = omega (arith, least) in
     fold-append max 0 ms (m ∷ ns) ∙ ap (λ k. fold max k ns) same ∙ sym (fold-append max 0 ms ns)
 

@@ -78,37 +78,14 @@ fn text_of_states(
     alloc: Global,
     tree: &Tree,
     states: &mut SearchedStates<'_>,
-) -> Result<Vec<u8>, AllocError>
+) -> Result<Vec<u8>, StepFault>
     ensures unchanged { states.new ≡ states.old }
     ensures text { IfOk result (λ text. text.items ≡ answer_bytes (lines_of_all tree.now.tree states.old.complete (length states.old.found) (exposed_after (named_files tree.now.tree) [] (flat_map located_at states.old.found)))) }
 {
     let named = named_files(alloc, tree)?;
     let records = records_of(alloc, &named, states)?;
-    text_of_all(alloc, tree, states.is_complete(), states.len(), &records)
-}
-
-// The lines of a search, and whether the visited states are all.
-#[derive(Drop)]
-struct ExposureText {
-    lines: Vec<u8>,
-    complete: bool,
-}
-
-// Returns the lines of the search of a machine.
-fn exposure_text<P: Progress>(
-    alloc: Global,
-    first_machine: &FirstMachine,
-    states: u32,
-    progress: &mut P,
-) -> Result<ExposureText, StepFault>
-    requires { 1 ≤ states }
-    ensures lines { IfOk result (λ text. text.lines.items ≡ answer_bytes (exposure_lines program_of states first_machine.now)) }
-    ensures complete { IfOk result (λ text. text.complete ≡ is_complete program_of states first_machine.now) }
-{
-    let mut visits = SearchedStates::search(alloc, first_machine, states, progress)?;
-    let lines = text_of_states(alloc, first_machine.tree(), &mut visits)?;
-    let complete = visits.is_complete();
-    Ok(ExposureText { lines, complete })
+    let complete = states.is_complete();
+    Ok(text_of_all(alloc, tree, complete, states.len(), &records)?)
 }
 
 /// Writes what an attacker gains who takes over a process, at each line of its program. The search visits at most
@@ -142,7 +119,8 @@ pub fn write_exposure<W: Sink, P: Progress>(
     ensures written { WritesOr W.Sink FailsBy (answer_bytes (exposure_lines program_of states first_machine.now)) out.old out.new result }
     ensures complete { IfOk result (λ complete. complete ≡ is_complete program_of states first_machine.now) }
 {
-    let text = exposure_text(alloc, first_machine, states, progress)?;
-    write_whole(out, &text.lines)?;
-    Ok(text.complete)
+    let mut visits = SearchedStates::search(alloc, first_machine, states, progress)?;
+    let lines = text_of_states(alloc, first_machine.tree(), &mut visits)?;
+    write_whole(out, &lines)?;
+    Ok(visits.is_complete())
 }

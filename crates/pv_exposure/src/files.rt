@@ -3,8 +3,7 @@ ghost use Rattle.std.specs.Prelude.{◌≡◌, ◌&&◌, ◌++◌, ◌∷◌, []
 ghost use Rattle.pv_exposure.specs.Unnamed.{is_unnamed};
 ghost use Rattle.pv_model.specs.Answers.Files.{files_of_tree, unnamed_files};
 
-use crate::leaks::is_file;
-use pv_access::named_files;
+use pv_access::{is_file, named_files};
 use pv_tree::Tree;
 use std::alloc::{AllocError, Global};
 

@@ -4,17 +4,15 @@ ghost use Rattle.std.specs.List.{list_any};
 ghost use Rattle.pv_exposure.specs.Collected.{recorded_at, record_key, key_of, with_all};
 ghost use Rattle.pv_exposure.specs.Stored.{all_recorded, recorded_by_file, recorded_in, located_in};
 ghost use Rattle.pv_model.specs.Answers.Exposure.{is_closed_to};
-ghost use Rattle.pv_model.specs.Answers.Files.{files_of_tree, is_file_at, node_brief};
+ghost use Rattle.pv_model.specs.Answers.Files.{files_of_tree};
 ghost use Rattle.pv_model.specs.State.{Process, process_at};
 
-use crate::brief::NodeBrief;
-use pv_answers::Fragment;
+use pv_access::is_file;
+use pv_answers::{NodeBrief, text_of};
 use pv_audit::leak;
 use pv_calls_state::Parts;
-use pv_model::{Kind, Why};
+use pv_model::Why;
 use pv_step_cache::tables::Keys;
-use pv_streams::Gathered;
-use pv_tree::Tree;
 use std::alloc::{AllocError, Global};
 
 /// A process that is not closed to a file.
@@ -41,17 +39,6 @@ pub(crate) struct Visit<'a> {
     pub(crate) witness: &'a [u32],
     /// The number of the process.
     pub(crate) pid: u32,
-}
-
-// Returns a node in brief.
-fn brief_of(alloc: Global, tree: &Tree, node: u16) -> Result<Vec<u8>, AllocError>
-    ensures { IfOk result (λ text. text.items ≡ node_brief tree.now.tree node) }
-{
-    let mut text = Gathered::new(alloc);
-    match (NodeBrief { tree, node }).write(&mut text) {
-        Ok(()) => Ok(text.bytes),
-        Err(_) => Err(AllocError),
-    }
 }
 
 // Returns the key of a line and a file text.
@@ -107,7 +94,8 @@ fn add_file(
     ensures keys { keys.new ≡ map key_of (all_recorded leaks.new.items) }
 {
     let line = line_of(visit);
-    let file = brief_of(alloc, visit.parts.tree(), node)?;
+    let tree = visit.parts.tree();
+    let file = text_of(alloc, &NodeBrief { tree, node })?;
     let key = key_of_line(alloc, line, &file)?;
     if keys.contains(&key) {
         return Ok(());
@@ -149,13 +137,6 @@ pub(crate) fn add_files(
         add_file(alloc, leaks, keys, visit, *node)?;
     }
     Ok(())
-}
-
-/// Returns whether a number is the node of a file.
-pub(crate) fn is_file(tree: &Tree, node: u16) -> bool
-    ensures { result ≡ is_file_at tree.now.tree node }
-{
-    tree.is_used(node) && matches!(tree.kind(node), Kind::File | Kind::Executable)
 }
 
 // Returns whether a live process is closed to the file with a number, if its state has one.

@@ -2,15 +2,15 @@
 //!
 //! A search visits the states, and `exposure` goes over them once. `programs` records each program that a process has,
 //! with its leaks (`leaks`): of each line and file text the first. `files` lists the files of a state. `text` has the
-//! lines of the records, `ranges` ascending numbers as ranges, and `brief` the words of files and reasons.
+//! lines of the records, `ranges` ascending numbers as ranges, and `reasons` the words of reasons.
 #![tactic(auto)]
 
-mod brief;
 mod exposure;
 mod files;
 mod leaks;
 mod programs;
 mod ranges;
+mod reasons;
 mod text;
 
 pub use exposure::write_exposure;

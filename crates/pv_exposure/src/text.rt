@@ -3,36 +3,33 @@ ghost use Rattle.std.specs.Prelude.{◌≡◌, ◌++◌, ◌∷◌, [], bytes_eq
 ghost use Rattle.std.specs.List.{list_any};
 ghost use Rattle.pv_exposure.specs.Collected.{Exposed, all_recorded_lines, recorded_lines_by, recorded_text, last_recorded, lines_of_all, lines_of_exposed, ranges_recorded, safe_line};
 ghost use Rattle.pv_exposure.specs.Stored.{all_recorded, first_at, recorded_in, recorded_of_file};
-ghost use Rattle.pv_model.specs.Answers.Explore.{states_line, witness_text};
+ghost use Rattle.pv_model.specs.Answers.Explore.{witness_text};
 ghost use Rattle.pv_model.specs.Answers.Lines.{answer_bytes, answer_line, answer_line_bytes, counted_from};
-ghost use Rattle.pv_model.specs.Answers.ProgramNames.{program_line};
-ghost use Rattle.pv_model.specs.Grammar.Programs.{program_of};
 
-use crate::brief::{NodeBrief, WhyText};
 use crate::leaks::StoredLeak;
 use crate::programs::ProgramRecord;
-use crate::ranges::{append, append_ranges, ascending, greatest};
-use pv_answers::{Line, Plain};
-use pv_explore::{Witness, write_states};
-use pv_programs::write_program;
-use pv_script::Program;
+use crate::ranges::append_ranges;
+use crate::reasons::WhyText;
+use pv_answers::{Line, NodeBrief, Plain, append};
+use pv_explore::{Witness, ascending, greatest, write_states};
+use pv_programs::append_program_line;
 use pv_step_cache::tables::Keys;
 use pv_streams::Gathered;
 use pv_tree::Tree;
 use std::alloc::{AllocError, Global};
 
 // Appends the line of a leak if it has a file text.
-fn push_line(lines: &mut Vec<u16>, leak: &StoredLeak, file: &[u8]) -> Result<(), AllocError>
+fn push_line(lines: &mut Vec<u32>, leak: &StoredLeak, file: &[u8]) -> Result<(), AllocError>
     ensures { OnOk result (lines.new.items ≡ lines.old.items ++ map (λ k. k.line) (recorded_of_file file.now (recorded_in leak.now ∷ []))) }
 {
     if leak.file.as_slice() == file {
-        lines.push(leak.line)?;
+        lines.push(u32::from(leak.line))?;
     }
     Ok(())
 }
 
 // Returns the lines of the leaks of a file text.
-fn lines_of_file(alloc: Global, leaks: &[StoredLeak], file: &[u8]) -> Result<Vec<u16>, AllocError>
+fn lines_of_file(alloc: Global, leaks: &[StoredLeak], file: &[u8]) -> Result<Vec<u32>, AllocError>
     ensures { IfOk result (λ lines. lines.items ≡ map (λ k. k.line) (recorded_of_file file.now (all_recorded leaks.now))) }
 {
     let mut lines = Vec::new(alloc);
@@ -88,13 +85,13 @@ fn append_first(
     out: &mut Gathered,
     leaks: &[StoredLeak],
     file: &[u8],
-    line: u16,
+    line: u32,
     ranges: &[u8],
 ) -> Result<(), AllocError>
     ensures { OnOk result (out.new.bytes.items ≡ out.old.bytes.items ++ answer_bytes (recorded_lines_by ranges.now (first_at line (recorded_of_file file.now (all_recorded leaks.now))))) }
 {
     for leak in leaks {
-        if leak.file.as_slice() == file && leak.line == line {
+        if leak.file.as_slice() == file && u32::from(leak.line) == line {
             return append_leak(out, leak, ranges);
         }
     }
@@ -184,22 +181,6 @@ fn append_safe_if(
     Ok(())
 }
 
-// Appends the line PROG of a program.
-fn append_name(
-    alloc: Global,
-    out: &mut Gathered,
-    tree: &Tree,
-    number: usize,
-    program: &Program,
-) -> Result<(), AllocError>
-    ensures { OnOk result (out.new.bytes.items ≡ out.old.bytes.items ++ answer_line_bytes (program_line program_of tree.now.tree number program.now)) }
-{
-    match write_program(alloc, tree, number, program, out) {
-        Ok(()) => Ok(()),
-        Err(_) => Err(AllocError),
-    }
-}
-
 // Appends the lines of a program, given its number and whether the search is complete.
 fn append_program(
     alloc: Global,
@@ -211,7 +192,7 @@ fn append_program(
 ) -> Result<(), AllocError>
     ensures { OnOk result (out.new.bytes.items ≡ out.old.bytes.items ++ answer_bytes (lines_of_exposed tree.now.tree complete (number, program.now))) }
 {
-    append_name(alloc, out, tree, number, program.program())?;
+    append_program_line(alloc, out, tree, number, program.program())?;
     append_leaks(alloc, out, program.leaks())?;
     append_safe_if(out, tree, complete, program.safe())
 }
@@ -232,16 +213,6 @@ fn append_programs(
     Ok(())
 }
 
-// Appends the line DONE.
-fn append_states(out: &mut Gathered, states: usize, complete: bool) -> Result<(), AllocError>
-    ensures { OnOk result (out.new.bytes.items ≡ out.old.bytes.items ++ answer_line_bytes (states_line states complete)) }
-{
-    match write_states(out, states, complete) {
-        Ok(()) => Ok(()),
-        Err(_) => Err(AllocError),
-    }
-}
-
 /// Returns all lines, given the number of visited states and whether the search is complete.
 ///
 /// # Errors
@@ -258,6 +229,8 @@ pub(crate) fn text_of_all(
 {
     let mut out = Gathered::new(alloc);
     append_programs(alloc, &mut out, tree, complete, programs)?;
-    append_states(&mut out, states, complete)?;
-    Ok(out.bytes)
+    match write_states(&mut out, states, complete) {
+        Ok(()) => Ok(out.bytes),
+        Err(_) => Err(AllocError),
+    }
 }

@@ -101,13 +101,13 @@ module _ (v : Version) (skips : Bool) (before after unreported reported : Option
         → IfSome known (λ host. IsTreeOf v host t) → BeginsImage t before after → Imports v skips known (Err image.WriteImage) before after unreported reported
     imports-begun None done t are reports is begun = (tt, tt)
     imports-begun (Some host) done t are reports is begun =
-        (record { tree = t; is_tree = is; image = begun.image; holds = begun.holds; written = begun.written }, reports.0 ∙ ap (λ ps. and_all unreported (flat_map skipped_line ps)) are)
+        (record { tree = t; is = is; image = begun }, reports.0 ∙ ap (λ ps. and_all unreported (flat_map skipped_line ps)) are)
 
     pub imports-done : (known : Option HostEntries) (done last : Unit {0}) (t : Tree) → AreLeftOut known → ReportsPairs pairs skips unreported (Ok done) reported
         → IfSome known (λ host. IsTreeOf v host t) → WritesImage t before after → Imports v skips known (Ok last) before after unreported reported
     imports-done None done last t are reports is image = tt
     imports-done (Some host) done last t are reports is image = (
-      record { tree = t; is_tree = is; image = image.image; holds = image.holds; written = image.written },
+      record { tree = t; is = is; image = image },
       reports.0 ∙ ap (λ ps. and_all unreported (flat_map skipped_line ps)) are,
       λ stays. sym are ∙ reports.1 stays,
     )

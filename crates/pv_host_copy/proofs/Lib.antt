@@ -1,9 +1,7 @@
--- Lemmas: Containers (the parent directory of an entry), AddedEntries (an entry added in its directory), WholeReads (a
+-- Lemmas: WholeReads (a
 -- file read up to a maximum length), FirstPaths (the first path of a file or symbolic link), Stepping (the import, step
 -- by step), Walks (the descent into host directories), Imports (a whole import), SkippedLines (the lines of skipped
 -- entries), Exports (the export, name by name), Shown (the import of the directory that an export makes).
-pub mod AddedEntries
-pub mod Containers
 pub mod Exports
 pub mod FirstPaths
 pub mod Imports

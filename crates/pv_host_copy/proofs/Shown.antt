@@ -19,7 +19,8 @@ use Rattle.pv_host_copy.specs.declared.fault.SkipReason.TheVariants.{Size, Text}
 use Rattle.pv_host_copy.specs.Encoded.{Encoded, encodes, encodes_first, encodes_again, encodes_node, encodes_within, encoded_entries, first_path}
 use Rattle.pv_host_copy.specs.Gathered.{Gathered, nothing_gathered, and_entry, and_first_entry, and_node, and_linked, and_file, and_link, and_directory, first_of, gather}
 use Rattle.pv_host_copy.specs.Hosts.{HostEntries, is_same}
-use Rattle.pv_host_copy.specs.Paths.{is_path, below}
+use Rattle.pv_image_manifest.specs.Paths.{is_path}
+use Rattle.pv_host_copy.specs.Paths.{below}
 use Rattle.pv_host_copy.specs.Shown.{and_shown, shown_entries, shown_within, shown, AreDistinct, IsContainedIn, lines_from, ExportIsImported}
 use Rattle.pv_host_copy.proofs.Exports.{none-within}
 

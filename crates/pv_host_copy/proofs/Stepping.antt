@@ -1,13 +1,12 @@
 -- The steps of an import.
-use Rattle.std.proofs.Common.{◌≡◌, ◌≢◌, ◌∙◌, ap, arith, ℕ, ◌+◌, ◌≤◌, ◌<◌, Bool, true, false, List, [], ◌∷◌, ◌++◌, length, Option, None, Some, Result, Ok, Err, refl, sym, subst}
+use Rattle.std.proofs.Common.{◌≡◌, ◌≢◌, ◌∙◌, ap, arith, ℕ, ◌+◌, ◌≤◌, ◌<◌, Bool, true, false, [], ◌∷◌, ◌++◌, length, Option, None, Some, Result, Ok, Err, refl, sym, subst}
 use Rattle.std.specs.Global.{Vec}
 use Rattle.std.specs.Prelude.{map, nat_le, IfSome, IsSome, IsErrAnd, if◌then◌else◌}
 use Rattle.std.proofs.lemmas.Bool.{le-leb, leb-true}
 use Rattle.std.proofs.lemmas.List.{map_push}
-use Rattle.pv_model.specs.declared.fault.ManifestFault.{ManifestFault}
 use Rattle.pv_model.specs.declared.version.Version.{Version}
 use Rattle.pv_model.specs.Bytes.{Bytes}
-use Rattle.pv_model.specs.Grammar.Manifests.{add_entry, and_entries, add_entries, path_of}
+use Rattle.pv_model.specs.Grammar.Manifests.{add_entry, path_of}
 use Rattle.pv_model.specs.Manifest.{Entry, make, further_name}
 use Rattle.pv_model.specs.Room.{greatest_length}
 use Rattle.pv_model.specs.Tree.{Node, Tree, file_node, directory_node}
@@ -17,16 +16,18 @@ use Rattle.pv_host_copy.specs.declared.fault.CopyStop.{CopyStop}
 use Rattle.pv_host_copy.specs.declared.fault.CopyStop.TheVariants as stop
 use Rattle.pv_host_copy.specs.declared.fault.HostFault.{HostFault}
 use Rattle.pv_host_copy.specs.declared.fault.HostFault.TheVariants as host
+use Rattle.pv_host_copy.specs.declared.fault.Refused.{Refused}
 use Rattle.pv_host_copy.specs.declared.fault.SkipReason.{SkipReason}
 use Rattle.pv_host_copy.specs.declared.fault.SkipReason.TheVariants.{Name, Size}
 use Rattle.pv_host_copy.specs.declared.first.First.{First}
 use Rattle.pv_host_copy.specs.declared.importing.Importing.{Importing}
 use Rattle.pv_host_copy.specs.declared.skipped.Skipped.{Skipped}
-use Rattle.pv_host_copy.specs.Adding.{Adds, IsUnadded}
 use Rattle.pv_host_copy.specs.Firsts.{first_pair, skipped_pair}
 use Rattle.pv_host_copy.specs.Gathered.{Gathered, and_entry, and_skipped, and_first_entry, and_linked, and_file, first_of}
 use Rattle.pv_host_copy.specs.Importing.{Holds, Steps, Refuses, Stops, StopsIf, Goes, GoesIf, Settles}
-use Rattle.pv_host_copy.specs.Paths.{is_path}
+use Rattle.pv_image_manifest.specs.Adding.{fault_at}
+use Rattle.pv_image_manifest.specs.Paths.{is_path}
+use Rattle.pv_image_manifest.proofs.GrowingTrees.{add_last}
 use Rattle.pv_host_copy.specs.Reading.{IsValid}
 use Rattle.pv_host_copy.specs.Stopped.{IsRefused, refused_pair, stop_of}
 
@@ -100,32 +101,19 @@ unknown (Some a) never = absurd (never refl)
 
 -- ---- one step
 
-and_last : (es : List (ℕ × Entry)) (e : ℕ × Entry) (t u v : Tree) → add_entries es t ≡ Ok u → add_entry e.0 u e.1 ≡ Ok v → add_entries (es ++ e ∷ []) t ≡ Ok v
-and_last [] e t u v is last =
-    let same : t ≡ u = cc in
-    ap (λ w. and_entries (add_entry e.0 w e.1) (add_entries [])) same ∙ ap (λ r. and_entries r (add_entries [])) last
-and_last (x ∷ es) e t u v is last = by (add_entry x.0 t x.1) is (λ next. and_last es e next u v)
-  where
-    by : (added : Result Tree ManifestFault) → and_entries added (add_entries es) ≡ Ok u
-        → ((next : Tree) → add_entries es next ≡ Ok u → add_entry e.0 u e.1 ≡ Ok v → add_entries (es ++ e ∷ []) next ≡ Ok v) → and_entries added (add_entries (es ++ e ∷ [])) ≡ Ok v
-    by (Err fault) is h = cc
-    by (Ok next) is h = h next is last
-
 -- one more entry
 pub entry-steps : (before after : Importing) (e : Entry) (t : Tree) → t ≡ before.tree.value.tree → ((line : ℕ) → add_entry line t e ≡ Ok after.tree.value.tree)
     → after.firsts.items ≡ before.firsts.items → after.reported.items ≡ before.reported.items → Steps (and_entry e) before after
 entry-steps before after e t is adds firsts reported = λ start g h. record {
-  tree = and_last g.entries (length g.entries + 1, e) start t after.tree.value.tree (h.tree ∙ ap (λ u. Ok u) (sym is)) (adds (length g.entries + 1));
+  tree = add_last g.entries (length g.entries + 1, e) start t after.tree.value.tree (h.tree ∙ ap (λ u. Ok u) (sym is)) (adds (length g.entries + 1));
   firsts = ap (map first_pair) firsts ∙ h.firsts;
   reported = ap (map skipped_pair) reported ∙ h.reported;
 }
 
 -- an entry that cannot be added
-pub entry-stops : (before : Importing) (e : Entry) (path : Bytes) (t : Tree) (s : CopyStop) → t ≡ before.tree.value.tree → path_of e ≡ path → IsUnadded e path t s
-    → Stops (and_entry e) before s
-entry-stops before e path t stop.Read is at adds = adds
-entry-stops before e path t stop.Memory is at adds = tt
-entry-stops before e path t (stop.Entry refused) is at adds = λ start g h. record {
+pub entry-stops : (before : Importing) (e : Entry) (t : Tree) (refused : Refused) → t ≡ before.tree.value.tree → path_of e ≡ refused.path.items
+    → ((line : ℕ) → add_entry line t e ≡ Err (fault_at line refused.fault)) → Stops (and_entry e) before (stop.Entry refused)
+entry-stops before e t refused is at fails = λ start g h. record {
   earlier = g.entries;
   line = length g.entries + 1;
   entry = e;
@@ -133,14 +121,9 @@ entry-stops before e path t (stop.Entry refused) is at adds = λ start g h. reco
   appears = refl;
   so_far = t;
   added = h.tree ∙ ap (λ u. Ok u) (sym is);
-  is_fault = adds.1 (length g.entries + 1);
-  is_path = at ∙ sym adds.0;
+  is_fault = fails (length g.entries + 1);
+  is_path = at;
 }
-
-pub entry-goes : {X : Type 0} (before after : Importing) (e : Entry) (path : Bytes) (t : Tree) (r : Result X CopyStop) → t ≡ before.tree.value.tree → path_of e ≡ path
-    → Adds e path t r after.tree.value.tree → after.firsts.items ≡ before.firsts.items → after.reported.items ≡ before.reported.items → Goes (and_entry e) before r after
-entry-goes before after e path t (Ok x) is at adds firsts reported = entry-steps before after e t is adds firsts reported
-entry-goes before after e path t (Err s) is at adds firsts reported = entry-stops before e path t s is at adds
 
 -- one more skipped path
 pub reported-steps : (before after : Importing) (path : Bytes) (why : SkipReason) (t : Skipped) → after.tree.value ≡ before.tree.value → after.firsts.items ≡ before.firsts.items
@@ -246,15 +229,14 @@ module _ (v : Version) (before now : Importing) (path : Bytes) (identity : Ident
         (new-reported v before now path identity same settled (file_node executable all) (nat_le (length all) (greatest_length v)) Size (not_le (length all) (greatest_length v) long)) steps)
 
     -- a file that the image can contain
-    pub file-placed : {X : Type 0} (after : Importing) (r : Result X CopyStop) (bytes : Vec ℕ) (content : Bytes) → content ≡ bytes.items
-        → IfSome known (λ all. IsValid limit all (Some bytes))
-        → Goes (and_first_entry path identity (make path (file_node executable content))) now r after → GoesIf known (and_file v path identity executable) before r after
-    file-placed after r bytes content lent read goes = goes-if known (and_file v path identity executable) before r after (λ all is.
+    pub file-placed : {X : Type 0} (after : Importing) (r : Result X CopyStop) (bytes : Vec ℕ) → IfSome known (λ all. IsValid limit all (Some bytes))
+        → Goes (and_first_entry path identity (make path (file_node executable bytes.items))) now r after → GoesIf known (and_file v path identity executable) before r after
+    file-placed after r bytes read goes = goes-if known (and_file v path identity executable) before r after (λ all is.
         let whole : (bytes.items ≡ all) × (length all ≤ limit) = subst (λ o. IfSome o (λ all. IsValid limit all (Some bytes))) is read in
         let short : length all ≤ greatest_length v = subst (λ n. length all ≤ n) is_limit whole.1 in
         goes-on (and_file v path identity executable all) (and_first_entry path identity (make path (file_node executable all))) before now after r
         (new-placed v before now path identity same settled (file_node executable all) (nat_le (length all) (greatest_length v)) Size (le-leb (length all) (greatest_length v) short))
-        (subst (λ bs. Goes (and_first_entry path identity (make path (file_node executable bs))) now r after) (lent ∙ whole.0) goes))
+        (subst (λ bs. Goes (and_first_entry path identity (make path (file_node executable bs))) now r after) whole.0 goes))
 
 -- ---- directories
 

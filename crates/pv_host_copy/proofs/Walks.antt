@@ -12,7 +12,7 @@ use Rattle.pv_host_copy.specs.declared.entry.HostNode.TheVariants.{Directory, Fi
 use Rattle.pv_host_copy.specs.declared.entry.Identity.{Identity}
 use Rattle.pv_host_copy.specs.declared.fault.CopyStop.{CopyStop}
 use Rattle.pv_host_copy.specs.declared.fault.CopyStop.TheVariants as stop
-use Rattle.pv_host_copy.specs.declared.fault.EntryFault.{EntryFault}
+use Rattle.pv_image_manifest.specs.declared.fault.EntryFault.{EntryFault}
 use Rattle.pv_host_copy.specs.declared.fault.HostFault.{HostFault}
 use Rattle.pv_host_copy.specs.declared.fault.HostFault.TheVariants as host
 use Rattle.pv_host_copy.specs.declared.fault.SkipReason.{SkipReason}
@@ -22,7 +22,8 @@ use Rattle.pv_host_copy.specs.declared.walking.OpenDirectory.{OpenDirectory}
 use Rattle.pv_host_copy.specs.Gathered.{Gathered, and_entry, and_first_entry, and_skipped, and_node, and_linked, and_directory, and_file, and_link, first_of, gather}
 use Rattle.pv_host_copy.specs.Hosts.{HostEntries, no_more, a_directory, a_file, a_link, an_other}
 use Rattle.pv_host_copy.specs.Importing.{Holds, Steps, Stops, StopsIf, Goes, GoesIf, Keeps}
-use Rattle.pv_host_copy.specs.Paths.{is_path, below}
+use Rattle.pv_image_manifest.specs.Paths.{is_path}
+use Rattle.pv_host_copy.specs.Paths.{below}
 use Rattle.pv_host_copy.specs.Stopped.{IsRefused, refused_pair, stop_of}
 use Rattle.pv_host_copy.specs.Reporting.{IsDirectory, IsFile, IsLink, IsFewer, IsOther, Reports, left_below}
 use Rattle.pv_host_copy.specs.Walking.{OpensNone, Takes, and_opened}

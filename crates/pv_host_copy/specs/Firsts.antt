@@ -6,7 +6,7 @@ use Rattle.pv_host_copy.specs.declared.entry.Identity.{Identity}
 use Rattle.pv_host_copy.specs.declared.first.First.{First}
 use Rattle.pv_host_copy.specs.declared.skipped.Skipped.{Skipped}
 use Rattle.pv_host_copy.specs.declared.fault.SkipReason.{SkipReason}
-use Rattle.pv_host_copy.specs.Paths.{is_path}
+use Rattle.pv_image_manifest.specs.Paths.{is_path}
 
 abbrev pub first_pair : First → Identity × Bytes
 first_pair first = (first.identity, first.path.items)

@@ -10,7 +10,8 @@ use Rattle.pv_host_copy.specs.declared.entry.Identity.{Identity}
 use Rattle.pv_host_copy.specs.declared.fault.SkipReason.{SkipReason}
 use Rattle.pv_host_copy.specs.declared.fault.SkipReason.TheVariants.{Name, Size, Text, Kind}
 use Rattle.pv_host_copy.specs.Hosts.{HostEntries, no_more, a_directory, a_file, a_link, an_other, is_same}
-use Rattle.pv_host_copy.specs.Paths.{is_path, below}
+use Rattle.pv_image_manifest.specs.Paths.{is_path}
+use Rattle.pv_host_copy.specs.Paths.{below}
 
 -- the entries so far, numbered from 1, the first path of each file and symbolic link among them, and the skipped paths
 pub record Gathered : Type 0 where

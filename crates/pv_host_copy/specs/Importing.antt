@@ -7,13 +7,13 @@ use Rattle.pv_model.specs.Tree.{Node, Tree, directory_node}
 use Rattle.pv_host_copy.specs.declared.entry.Identity.{Identity}
 use Rattle.pv_host_copy.specs.declared.fault.CopyStop.{CopyStop}
 use Rattle.pv_host_copy.specs.declared.fault.CopyStop.TheVariants as stop
-use Rattle.pv_host_copy.specs.declared.fault.EntryFault.{EntryFault}
+use Rattle.pv_image_manifest.specs.declared.fault.EntryFault.{EntryFault}
 use Rattle.pv_host_copy.specs.declared.fault.SkipReason.{SkipReason}
 use Rattle.pv_host_copy.specs.declared.fault.SkipReason.TheVariants.{Name}
 use Rattle.pv_host_copy.specs.declared.importing.Importing.{Importing}
 use Rattle.pv_host_copy.specs.Firsts.{first_pair, skipped_pair}
 use Rattle.pv_host_copy.specs.Gathered.{Gathered, and_entry, and_linked, and_skipped, first_of}
-use Rattle.pv_host_copy.specs.Paths.{is_path}
+use Rattle.pv_image_manifest.specs.Paths.{is_path}
 use Rattle.pv_host_copy.specs.Stopped.{IsRefused, refused_pair}
 
 -- the tree is that of the gathered entries, added to a start tree; the first paths and the skipped paths are those

@@ -1,6 +1,4 @@
-pub mod Adding
 pub mod Created
-pub mod Entries
 pub mod Exported
 pub mod Firsts
 pub mod Gathered

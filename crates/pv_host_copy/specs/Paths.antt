@@ -1,15 +1,6 @@
--- The paths of entries, in an image of either version.
-use Rattle.std.specs.Prelude.{Bool, false, ◌&&◌, ◌==◌, [], ◌∷◌, ◌++◌}
-use Rattle.std.specs.List.{list_all}
-use Rattle.pv_model.specs.declared.version.Version.{Version}
+-- The paths of an import and of an export.
+use Rattle.std.specs.Prelude.{◌∷◌, ◌++◌}
 use Rattle.pv_model.specs.Bytes.{Bytes}
-use Rattle.pv_model.specs.Tree.{is_name}
-use Rattle.pv_model.specs.Walk.{split_slashes}
-
--- a slash followed by one or more names that are separated by single slashes
-abbrev pub is_path : Version → Bytes → Bool
-is_path v [] = false
-is_path v (b ∷ bs) = (b == 47) && list_all (is_name v) (split_slashes bs)
 
 -- the path of a name in a directory; the path of the root is empty
 abbrev pub below : Bytes → Bytes → Bytes

@@ -7,11 +7,11 @@ use Rattle.pv_model.specs.Manifest.{Entry}
 use Rattle.pv_model.specs.Tree.{Tree}
 use Rattle.pv_host_copy.specs.declared.fault.CopyStop.{CopyStop}
 use Rattle.pv_host_copy.specs.declared.fault.CopyStop.TheVariants as stop
-use Rattle.pv_host_copy.specs.declared.fault.EntryFault.{EntryFault}
+use Rattle.pv_image_manifest.specs.declared.fault.EntryFault.{EntryFault}
 use Rattle.pv_host_copy.specs.declared.fault.HostFault.{HostFault}
 use Rattle.pv_host_copy.specs.declared.fault.HostFault.TheVariants.{Read, Memory}
 use Rattle.pv_host_copy.specs.declared.fault.Refused.{Refused}
-use Rattle.pv_host_copy.specs.Adding.{fault_at}
+use Rattle.pv_image_manifest.specs.Adding.{fault_at}
 use Rattle.pv_host_copy.specs.Gathered.{entries_of}
 use Rattle.pv_host_copy.specs.Hosts.{HostEntries}
 use Rattle.pv_host_copy.specs.Imported.{greatest_tree}

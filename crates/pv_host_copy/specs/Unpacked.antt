@@ -20,12 +20,6 @@ IsReadFault (Image fault) = ⊤
 IsReadFault Memory = ⊤
 IsReadFault fault = ⊥
 
--- the errors of reading its bytes
-abbrev pub IsReadOrOutOfMemory : ExportFault → Type 0
-IsReadOrOutOfMemory Read = ⊤
-IsReadOrOutOfMemory Memory = ⊤
-IsReadOrOutOfMemory fault = ⊥
-
 -- an error of the image is that of its bytes
 abbrev pub AppearsInImage : Result Tree ImageFault → ExportFault → Type 0
 AppearsInImage held (Image fault) = held ≡ Err fault

@@ -2,12 +2,11 @@
 use Rattle.std.specs.Prelude.{◌≡◌, ◌≢◌, ◌⊎◌, Bool, false, List, [], flat_map, Option, None, IfSome, Result, Ok, Err}
 use Rattle.pv_model.specs.declared.version.Version.{Version}
 use Rattle.pv_model.specs.Bytes.{Bytes}
-use Rattle.pv_model.specs.Image.{IsWrittenImageOf}
-use Rattle.pv_model.specs.Tree.{Tree}
 use Rattle.pv_streams.specs.Sinks.{and_all, WritesPrefix}
+use Rattle.pv_image_write.specs.Written.{WritesImageOf, BeginsImageOf}
 use Rattle.pv_host_copy.specs.declared.fault.CopyStop.{CopyStop}
 use Rattle.pv_host_copy.specs.declared.fault.CopyStop.TheVariants as copy
-use Rattle.pv_host_copy.specs.declared.fault.EntryFault.{EntryFault}
+use Rattle.pv_image_manifest.specs.declared.fault.EntryFault.{EntryFault}
 use Rattle.pv_host_copy.specs.declared.fault.SkipReason.{SkipReason}
 use Rattle.pv_host_copy.specs.declared.image.ImportStop.{ImportStop}
 use Rattle.pv_host_copy.specs.declared.image.ImportStop.TheVariants.{Read, Memory, Refused, WriteLines, WriteImage}
@@ -16,22 +15,6 @@ use Rattle.pv_host_copy.specs.Hosts.{HostEntries}
 use Rattle.pv_host_copy.specs.Imported.{IsTreeOf}
 use Rattle.pv_host_copy.specs.Lines.{refused_line, skipped_line}
 use Rattle.pv_host_copy.specs.Stopped.{IsRefusedOf, refused_pair}
-
--- the output grew by an image of the tree of a host directory
-pub record HasImported (v : Version) (host : HostEntries) (before after : Option Bytes) : Type 0 where
-  pub tree : Tree
-  pub is_tree : IsTreeOf v host tree
-  pub image : Bytes
-  pub holds : IsWrittenImageOf image tree
-  pub written : after ≡ and_all before image
-
--- the output grew by a prefix of such an image
-pub record HasBegunImporting (v : Version) (host : HostEntries) (before after : Option Bytes) : Type 0 where
-  pub tree : Tree
-  pub is_tree : IsTreeOf v host tree
-  pub image : Bytes
-  pub holds : IsWrittenImageOf image tree
-  pub written : WritesPrefix image before after
 
 -- the report grew by a line for each skipped path
 abbrev pub WritesSkipped : Version → HostEntries → Option Bytes → Option Bytes → Type 0
@@ -61,7 +44,7 @@ pub record ReportsUnskipped (v : Version) (skips : Bool) (host : HostEntries) (u
 
 -- nothing of the image was written, unless a write of the image failed
 abbrev pub LeavesImage : Version → Option HostEntries → ImportStop → Option Bytes → Option Bytes → Type 0
-LeavesImage v known WriteImage before after = IfSome known (λ host. HasBegunImporting v host before after)
+LeavesImage v known WriteImage before after = IfSome known (λ host. BeginsImageOf (IsTreeOf v host) before after)
 LeavesImage v known stop before after = after ≡ before
 
 -- the report if no image was written, or not completely; it is empty if the host cannot be read
@@ -76,7 +59,7 @@ LeavesLines v skips known WriteImage unreported reported = IfSome known (λ host
 -- allowed; or the import failed
 abbrev pub Imports : Version → Bool → Option HostEntries → Result (Unit {0}) ImportStop → (before after unreported reported : Option Bytes) → Type 0
 Imports v skips known (Ok done) before after unreported reported =
-    IfSome known (λ host. HasImported v host before after × WritesSkipped v host unreported reported × (skips ≡ false → left_out v host ≡ []))
+    IfSome known (λ host. WritesImageOf (IsTreeOf v host) before after × WritesSkipped v host unreported reported × (skips ≡ false → left_out v host ≡ []))
 Imports v skips known (Err stop) before after unreported reported = LeavesImage v known stop before after × LeavesLines v skips known stop unreported reported
 
 -- ---- step by step

@@ -1,13 +1,13 @@
 //! Exporting the tree of an image to a host directory.
-ghost use Rattle.std.specs.Prelude.{◌≡◌, ◌≤◌, false, map, drop, take, vec_len, IsTrue, IsSome, IfOk, OnOk};
+ghost use Rattle.std.specs.Prelude.{◌≡◌, false, map, IsSome, IfOk, OnOk};
 ghost use Rattle.std.specs.Option.{option_copied};
 ghost use Rattle.pv_dirs.specs.Trees.{bytes_at};
-ghost use Rattle.pv_listing.specs.Lines.{IsNextChild, last_name};
-ghost use Rattle.pv_model.specs.Tree.{Node, entries_at, is_directory_at, node_at, IsWellFormed};
+ghost use Rattle.pv_model.specs.Tree.{is_directory_at, node_at, IsWellFormed};
 ghost use Rattle.pv_host_copy.specs.Exported.{path_pair, CreatesNode, Exports, Makes, MakesNew};
 ghost use Rattle.pv_host_copy.specs.Encoded.{first_path, encoded_entries, encodes_node, encodes_within};
 
 use crate::target::{HostTarget, TargetFault};
+use pv_listing::next_child;
 use pv_model::Kind;
 use pv_model::limits::ROOT;
 use pv_tree::Tree;
@@ -91,8 +91,8 @@ fn export_new<T: HostTarget>(
     Ok(())
 }
 
-// Creates a node at a path, a directory without its entries. This function and the next are not inlined, so that the
-// recursion needs little stack.
+// Creates a node at a path, a directory without its entries. This function is not inlined, so that the recursion
+// needs little stack.
 #[inline(never)]
 fn export_node<T: HostTarget>(
     alloc: Global,
@@ -114,32 +114,6 @@ fn export_node<T: HostTarget>(
         return target.make_name(alloc, path, first);
     }
     export_new(alloc, tree, firsts, path, node, target)
-}
-
-// Replaces the last name of a path by the next name of a directory, and returns its node. If there is no next name,
-// returns `None`, and the path is that of the directory. The first `base` bytes of the path are the directory's path,
-// and `before` is a guess of the number of its names that precede the next one.
-#[inline(never)]
-fn next_child(
-    tree: &Tree,
-    directory: u16,
-    base: usize,
-    path: &mut Vec<u8>,
-    before: u32,
-) -> Result<Option<u16>, AllocError>
-    requires well_formed { IsWellFormed tree.now.tree }
-    requires directory { IsTrue (is_directory_at tree.now.tree directory) }
-    requires within { base ≤ vec_len path.old }
-    ensures { IfOk result (λ child. IsNextChild (entries_at tree.now.tree directory) (last_name (drop base path.old.items)) (take base path.old.items) child path.new.items) }
-{
-    let next = tree.next_entry(directory, path.get(base + 1..), before);
-    path.truncate(base);
-    let Some((name, child)) = next else {
-        return Ok(None);
-    };
-    path.push(b'/')?;
-    path.extend_from_slice(name.as_slice())?;
-    Ok(Some(child))
 }
 
 // Creates all entries of the directory at the end of a path, up to `depth` levels. If a node cannot be created, the

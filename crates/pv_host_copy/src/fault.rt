@@ -4,6 +4,7 @@ ghost use Rattle.pv_host_copy.specs.Stopped.{stop_of};
 ghost use Rattle.pv_host_copy.specs.declared.fault.CopyStop.TheVariants.{Memory as MemoryStop};
 ghost use Rattle.pv_host_copy.specs.declared.fault.HostFault.TheVariants.{Memory as NoMemory};
 
+use pv_image_manifest::EntryFault;
 use std::alloc::{AllocError, AllocFailed};
 
 /// An error of a host.
@@ -26,19 +27,6 @@ pub enum SkipReason {
     Text,
     /// It is not a directory, file or symbolic link.
     Kind,
-}
-
-/// Why an entry cannot be added to a tree.
-#[derive(Clone, Copy, Debug, PartialEq, Eq)]
-pub enum EntryFault {
-    /// The parent of its path is not a directory.
-    Parent,
-    /// Its name exists already.
-    Exists,
-    /// The source of another name is not a file or symbolic link.
-    Source,
-    /// The image has too few inodes or blocks, or the directory has no room for another name.
-    Room,
 }
 
 /// A path that could not be added to a tree, which stops a copy.

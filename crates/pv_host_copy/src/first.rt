@@ -5,7 +5,7 @@ ghost use Rattle.std.specs.Option.{option_copied};
 ghost use Rattle.pv_host_copy.specs.Firsts.{first_pair, has_path};
 ghost use Rattle.pv_host_copy.specs.Gathered.{first_of};
 ghost use Rattle.pv_host_copy.specs.Hosts.{is_same};
-ghost use Rattle.pv_host_copy.specs.Paths.{is_path};
+ghost use Rattle.pv_image_manifest.specs.Paths.{is_path};
 
 use crate::entry::Identity;
 use pv_model::Version;

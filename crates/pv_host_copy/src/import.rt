@@ -1,6 +1,5 @@
 //! Importing a host directory to the tree of an image.
 ghost use Rattle.std.specs.Prelude.{◌≡◌, map, IfOk, IfErr, IfSome};
-ghost use Rattle.pv_model.specs.Image.{greatest_blocks as blocks_of};
 ghost use Rattle.pv_host_copy.specs.Firsts.{skipped_pair};
 ghost use Rattle.pv_host_copy.specs.Gathered.{left_out, nothing_gathered};
 ghost use Rattle.pv_host_copy.specs.Importing.{Holds};
@@ -13,7 +12,7 @@ use crate::importing::Importing;
 use crate::skipped::Skipped;
 use crate::walking::import_directory;
 use pv_model::Version;
-use pv_model::limits::{BLOCK, BLOCKS_V1, BLOCKS_V2, INODES};
+use pv_model::limits::{BLOCK, INODES};
 use pv_tree::Store;
 use std::alloc::{AllocError, Global};
 
@@ -26,22 +25,12 @@ pub struct Imported {
     pub reported: Vec<Skipped>,
 }
 
-// Returns the maximum number of blocks of an image of a version.
-fn greatest_blocks(version: Version) -> u16
-    ensures { result ≡ blocks_of version }
-{
-    match version {
-        Version::V1 => BLOCKS_V1 as u16,
-        Version::V2 => BLOCKS_V2 as u16,
-    }
-}
-
 // Creates a tree with only a root, in an image of the maximum size.
 fn empty(alloc: Global, version: Version) -> Result<Importing, AllocError>
     ensures holds { IfOk result (Holds (greatest_tree version) nothing_gathered) }
     ensures version { IfOk result (λ importing. importing.version ≡ version) }
 {
-    let blocks = greatest_blocks(version);
+    let blocks = version.layout().greatest_blocks;
     let zeros = vec![in alloc; 0; BLOCK * blocks as usize]?;
     let store = Store::empty(alloc, zeros, blocks, INODES as u16, version)?;
     Ok(Importing {

@@ -1,22 +1,18 @@
 //! The state of an import.
-ghost use Rattle.std.specs.Prelude.{◌≡◌, ◌-◌, ◌+◌, [], true, IsTrue, OnOk};
+ghost use Rattle.std.specs.Prelude.{◌≡◌, IsTrue, OnOk};
 ghost use Rattle.std.specs.List.{list_all};
-ghost use Rattle.pv_model.specs.Room.{greatest_length};
-ghost use Rattle.pv_model.specs.Tree.{file_node, link_node};
 ghost use Rattle.pv_tree.specs.Holding.{IsUnheld};
-ghost use Rattle.pv_host_copy.specs.Entries.{is_content};
 ghost use Rattle.pv_host_copy.specs.Firsts.{has_path};
-ghost use Rattle.pv_host_copy.specs.Paths.{is_path};
+ghost use Rattle.pv_image_manifest.specs.Contents.{has_paths};
+ghost use Rattle.pv_image_manifest.specs.Paths.{is_path};
 
-use crate::adding::add_under;
-use crate::content::Content;
 use crate::entry::Identity;
-use crate::fault::{CopyStop, SkipReason};
+use crate::fault::{CopyStop, Refused, SkipReason};
 use crate::file::HostFile;
 use crate::first::{First, first_of};
-use crate::paths::{is_link_text, is_path};
 use crate::reading::read_within;
 use crate::skipped::Skipped;
+use pv_image_manifest::{Content, add_entry, is_link_text, is_path};
 use pv_model::{Layout, Version};
 use pv_tree::{Store, Tree};
 use std::alloc::{AllocError, Global};
@@ -35,7 +31,7 @@ pub(crate) struct Importing {
 
 impl Importing {
     ghost use Rattle.pv_host_copy.specs.Importing.{Goes, GoesIf, Keeps, Settles, Steps};
-    ghost use Rattle.pv_host_copy.specs.Entries.{entry_of};
+    ghost use Rattle.pv_image_manifest.specs.Contents.{entry_of_content};
     ghost use Rattle.pv_host_copy.specs.Gathered.{and_entry, and_skipped, and_file, and_link, and_first_entry};
 
     /// Records a skipped path.
@@ -54,13 +50,19 @@ impl Importing {
     }
 
     // Adds an entry at a path.
-    fn add(&mut self, alloc: Global, path: &[u8], content: Content) -> Result<(), CopyStop>
+    fn add(&mut self, alloc: Global, path: &[u8], content: &Content) -> Result<(), CopyStop>
         requires named { IsTrue (is_path self.old.version path.now) }
-        requires formed { IsTrue (is_content self.old.version content) }
-        ensures goes { Goes (and_entry (entry_of path.now content.entry)) self.old result self.new }
+        requires formed { IsTrue (has_paths (is_path self.old.version) content.now) }
+        ensures goes { Goes (and_entry (entry_of_content path.now content.now)) self.old result self.new }
         ensures version { self.new.version ≡ self.old.version }
     {
-        add_under(alloc, &mut *self.tree, path, content)
+        match add_entry(&mut *self.tree, path, content) {
+            Ok(()) => Ok(()),
+            Err(fault) => {
+                let path = Vec::from_slice(alloc, path)?;
+                Err(CopyStop::Entry(Refused { path, fault }))
+            }
+        }
     }
 
     // Adds a file or symbolic link at its first path.
@@ -69,11 +71,11 @@ impl Importing {
         alloc: Global,
         path: &[u8],
         identity: Identity,
-        content: Content,
+        content: &Content,
     ) -> Result<(), CopyStop>
         requires named { IsTrue (is_path self.old.version path.now) }
-        requires formed { IsTrue (is_content self.old.version content) }
-        ensures goes { Goes (and_first_entry path.now identity (entry_of path.now content.entry)) self.old result self.new }
+        requires formed { IsTrue (has_paths (is_path self.old.version) content.now) }
+        ensures goes { Goes (and_first_entry path.now identity (entry_of_content path.now content.now)) self.old result self.new }
         ensures version { self.new.version ≡ self.old.version }
     {
         self.add(alloc, path, content)?;
@@ -95,7 +97,8 @@ impl Importing {
         let Some(first) = first_of(&self.firsts, self.version, identity) else {
             return Ok(false);
         };
-        add_under(alloc, &mut *self.tree, path, Content::Name(first))?;
+        let source = Vec::from_slice(alloc, first)?;
+        self.add(alloc, path, &Content::Name(source))?;
         Ok(true)
     }
 
@@ -121,11 +124,7 @@ impl Importing {
             self.report(alloc, path, SkipReason::Size)?;
             return Ok(());
         };
-        let content = Content::File {
-            executable,
-            bytes: &bytes,
-        };
-        self.add_first(alloc, path, identity, content)
+        self.add_first(alloc, path, identity, &Content::File { executable, bytes })
     }
 
     /// Adds a symbolic link at a path, or skips it.
@@ -135,19 +134,19 @@ impl Importing {
         alloc: Global,
         path: &[u8],
         identity: Identity,
-        text: &[u8],
+        text: Vec<u8>,
     ) -> Result<(), CopyStop>
-        ensures goes { Goes (and_link self.old.version path.now identity text.now) self.old result self.new }
+        ensures goes { Goes (and_link self.old.version path.now identity text.items) self.old result self.new }
         ensures version { self.new.version ≡ self.old.version }
     {
         if self.settle(alloc, path, identity)? {
             return Ok(());
         }
-        if !is_link_text(text) {
+        if !is_link_text(&text) {
             self.report(alloc, path, SkipReason::Text)?;
             return Ok(());
         }
-        self.add_first(alloc, path, identity, Content::Link(text))
+        self.add_first(alloc, path, identity, &Content::Link(text))
     }
 
     /// Adds a directory without its entries at a path, or skips it. Returns whether it was added.
@@ -160,7 +159,7 @@ impl Importing {
             self.report(alloc, path, SkipReason::Name)?;
             return Ok(false);
         }
-        self.add(alloc, path, Content::Directory)?;
+        self.add(alloc, path, &Content::Directory)?;
         Ok(true)
     }
 }

@@ -1,16 +1,13 @@
 //! Importing a host directory as the image of a tree, and exporting the tree of an image to a host directory.
 //!
 //! `directory`, `entry` and `file` define the traits and types of a host directory, and `fault` the errors. For
-//! imports, `adding` adds an entry of a manifest to a tree, and `paths` checks its path. `importing` has the tree so
-//! far, with the first paths of its files (`first`) and the skipped entries (`skipped`, with their lines in `lines`).
-//! `reading` reads the bytes of a file, `walking` descends into directories, `import` imports a directory, and `image`
-//! writes the image. For exports, `target` defines the trait of a directory in which a tree is created, `exporting`
+//! imports, `importing` has the tree so far, with the first paths of its files (`first`) and the skipped entries
+//! (`skipped`, with their lines in `lines`). `reading` reads the bytes of a file, `walking` descends into directories,
+//! `import` imports a directory, and `image` writes the image. For exports, `target` defines the trait of a directory in which a tree is created, `exporting`
 //! creates the tree, and `unpacking` reads it from an image and reports errors. `laws` states what an import makes of an
 //! export.
 #![tactic(auto)]
 
-mod adding;
-mod content;
 mod directory;
 mod entry;
 mod exporting;
@@ -22,7 +19,6 @@ mod import;
 mod importing;
 mod laws;
 mod lines;
-mod paths;
 mod reading;
 mod skipped;
 mod target;
@@ -32,7 +28,7 @@ mod walking;
 pub use directory::HostDirectory;
 pub use entry::{HostEntry, HostNode, Identity};
 pub use exporting::{ExportStop, export};
-pub use fault::{CopyStop, EntryFault, HostFault, Refused, SkipReason};
+pub use fault::{CopyStop, HostFault, Refused, SkipReason};
 pub use file::HostFile;
 pub use image::{ImportStop, import_image};
 pub use import::{Imported, import_tree};

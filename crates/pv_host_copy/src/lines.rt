@@ -5,8 +5,9 @@ ghost use Rattle.pv_host_copy.specs.Firsts.{skipped_pair};
 ghost use Rattle.pv_host_copy.specs.Lines.{ending, line_front, path_line, refused_ending, refused_line, skipped_line, unmade_line};
 ghost use Rattle.pv_host_copy.specs.Stopped.{refused_pair};
 
-use crate::fault::{EntryFault, Refused, SkipReason};
+use crate::fault::{Refused, SkipReason};
 use crate::skipped::Skipped;
+use pv_image_manifest::EntryFault;
 use pv_listing::write_path;
 use pv_streams::{Failed, Sink, write_whole};
 

@@ -4,7 +4,7 @@ ghost use Rattle.pv_model.specs.Mount.{mounted};
 ghost use Rattle.pv_model.specs.Stream.{Rose};
 ghost use Rattle.pv_streams.specs.Sources.{FailsToGive};
 ghost use Rattle.pv_host_copy.specs.Encoded.{encoded_entries};
-ghost use Rattle.pv_host_copy.specs.Unpacked.{IsReadFault, IsReadOrOutOfMemory, AppearsInImage, WritesExport, ReportsUnmade};
+ghost use Rattle.pv_host_copy.specs.Unpacked.{IsReadFault, AppearsInImage, WritesExport, ReportsUnmade};
 
 use crate::exporting::{ExportStop, export};
 use crate::lines::write_unmade;
@@ -47,19 +47,6 @@ impl fmt::Display for ExportFault {
     }
 }
 
-// Reads an image to its end.
-fn read_image<S: Source>(alloc: Global, image: &mut S) -> Result<Vec<u8>, ExportFault>
-    ensures whole { IfOk result (λ bytes. IfSome (S.remaining image.old) (λ all. all ≡ bytes.items)) }
-    ensures read { result ≡ Err ExportFault.Read → FailsToGive S.Source image.old image.new }
-    ensures kind { IfErr result IsReadOrOutOfMemory }
-{
-    match read_whole(alloc, image) {
-        Ok(bytes) => Ok(bytes),
-        Err(RunFault::Read) => Err(ExportFault::Read),
-        Err(_) => Err(ExportFault::Memory),
-    }
-}
-
 /// Reads an image from a source and returns its tree, with directories sorted by name.
 ///
 /// # Errors
@@ -73,7 +60,11 @@ pub fn read_tree<S: Source>(alloc: Global, image: &mut S) -> Result<Store, Expor
     ensures read { result ≡ Err ExportFault.Read → FailsToGive S.Source image.old image.new }
     ensures kind { IfErr result IsReadFault }
 {
-    let bytes = read_image(alloc, image)?;
+    let bytes = match read_whole(alloc, image) {
+        Ok(bytes) => bytes,
+        Err(RunFault::Read) => return Err(ExportFault::Read),
+        Err(_) => return Err(ExportFault::Memory),
+    };
     let mut store = match mount(alloc, bytes) {
         Ok(store) => store,
         Err(ImageFault::Memory) => return Err(ExportFault::Memory),

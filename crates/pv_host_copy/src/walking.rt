@@ -56,7 +56,7 @@ fn take<D: HostDirectory>(
             Ok(None)
         }
         HostNode::Link { identity, text } => {
-            importing.keep_link(alloc, &path, identity, &text)?;
+            importing.keep_link(alloc, &path, identity, text)?;
             Ok(None)
         }
         HostNode::Other => {

@@ -21,8 +21,8 @@ use Rattle.pv_laws_trees.proofs.Images.{mounted-image}
 use Rattle.pv_laws_trees.specs.Preserved.{EachIsNamed}
 use Rattle.pv_image_write.specs.Placed.{placed}
 use Rattle.pv_image_write.specs.Written.{WritesImage, BeginsImage}
-use Rattle.pv_image.specs.Migrated.{mounted_first, has_room, enlarged, enlarged_within, migrated, IsFirstImageOf, KeepsNodes, Migrates, LacksRoom, IsMigrated}
-use Rattle.pv_image.specs.Written.{WritesMigrated, BeginsMigrated}
+use Rattle.pv_image.specs.Migrated.{mounted_first, has_room, enlarged, enlarged_within, migrated, IsFirstImageOf, KeepsNodes, Migrates, LacksRoom}
+use Rattle.pv_image.specs.Written.{HoldsMigrated, WritesMigrated, BeginsMigrated}
 use Rattle.pv_image.proofs.Enlarged.{roomy, enlarged-keeps, keeps-enlarged, placed-enlarged}
 
 -- ---- images of version 1
@@ -186,31 +186,22 @@ module _ (bytes : Bytes) (blocks inodes : ℕ) where
     as_written-enlarged image as_written =
         subst (IsWrittenImageOf image) (ap (λ (t : Tree). placed t V2 blocks inodes) same ∙ placed-enlarged old named blocks inodes) as_written
 
-    as_written-migrated : (image : Bytes) → IsWrittenImageOf image (placed u V2 blocks inodes) → IsMigrated bytes blocks inodes image
-    as_written-migrated image as_written = record {
-      old = old;
-      new = enlarged old blocks inodes;
-      held = first-mounted bytes old held;
-      mounts = image-mounted image (enlarged old blocks inodes) (as_written-enlarged image as_written).is_image;
-      keeps = keeps-of bytes blocks inodes old (first-image bytes old held) room-old;
+    holds-migrated : (image : Bytes) → IsWrittenImageOf image (placed u V2 blocks inodes) → HoldsMigrated bytes blocks inodes image
+    holds-migrated image as_written = record {
+      tree = enlarged old blocks inodes;
+      is_new = becomes;
+      holds = as_written-enlarged image as_written;
+      preserved = record {
+        old = old;
+        new = enlarged old blocks inodes;
+        held = first-mounted bytes old held;
+        mounts = image-mounted image (enlarged old blocks inodes) (as_written-enlarged image as_written).is_image;
+        keeps = keeps-of bytes blocks inodes old (first-image bytes old held) room-old;
+      };
     }
 
     pub reports-migrated : (before after : Option Bytes) → WritesImage (placed u V2 blocks inodes) before after → WritesMigrated bytes blocks inodes before after
-    reports-migrated before after written = record {
-      tree = enlarged old blocks inodes;
-      is_new = becomes;
-      image = written.image;
-      holds = as_written-enlarged written.image written.holds;
-      preserved = as_written-migrated written.image written.holds;
-      written = written.written;
-    }
+    reports-migrated before after written = record { image = written.image; holds = holds-migrated written.image written.holds; written = written.written }
 
     pub begins-migrated : (before after : Option Bytes) → BeginsImage (placed u V2 blocks inodes) before after → BeginsMigrated bytes blocks inodes before after
-    begins-migrated before after begun = record {
-      tree = enlarged old blocks inodes;
-      is_new = becomes;
-      image = begun.image;
-      holds = as_written-enlarged begun.image begun.holds;
-      preserved = as_written-migrated begun.image begun.holds;
-      written = begun.written;
-    }
+    begins-migrated before after begun = record { image = begun.image; holds = holds-migrated begun.image begun.holds; written = begun.written }

@@ -18,20 +18,14 @@ pub record HoldsMigrated (old_bytes : Bytes) (blocks inodes : ℕ) (image : Byte
 
 -- the output grew by an image of exactly the migrated tree
 pub record WritesMigrated (old_bytes : Bytes) (blocks inodes : ℕ) (before after : Option Bytes) : Type 0 where
-  pub tree : Tree
-  pub is_new : migrated old_bytes blocks inodes ≡ Ok tree
   pub image : Bytes
-  pub holds : IsWrittenImageOf image tree
-  pub preserved : IsMigrated old_bytes blocks inodes image
+  pub holds : HoldsMigrated old_bytes blocks inodes image
   pub written : after ≡ and_all before image
 
 -- the output grew by a prefix of such an image
 pub record BeginsMigrated (old_bytes : Bytes) (blocks inodes : ℕ) (before after : Option Bytes) : Type 0 where
-  pub tree : Tree
-  pub is_new : migrated old_bytes blocks inodes ≡ Ok tree
   pub image : Bytes
-  pub holds : IsWrittenImageOf image tree
-  pub preserved : IsMigrated old_bytes blocks inodes image
+  pub holds : HoldsMigrated old_bytes blocks inodes image
   pub written : WritesPrefix image before after
 
 -- an error of the image or of the sizes is that of migration, and then nothing was written; if a write failed, a prefix

@@ -1,59 +1,20 @@
 -- Adding the entries of a manifest one by one.
-use Rattle.std.proofs.Common.{◌≡◌, ◌∙◌, ap, ℕ, suc, ◌+◌, ◌-◌, ◌<◌, true, false, List, [], ◌∷◌, length, drop, get_or, Option, None, Some, is_some, Result, Ok, Err, refl, sym, subst, arith}
+use Rattle.std.proofs.Common.{◌≡◌, ◌∙◌, ap, ℕ, suc, ◌+◌, ◌-◌, ◌<◌, List, [], ◌∷◌, length, drop, get_or, Result, Ok, Err, sym, subst, arith}
 use Rattle.std.specs.Prelude.{map}
 use Rattle.std.proofs.Math.Seq.{drop-cons}
 use Rattle.pv_model.specs.declared.fault.ManifestFault.{ManifestFault}
 use Rattle.pv_model.specs.declared.fault.ManifestFault.TheVariants.{Form, Size, Parent, Exists, Source, Room, Memory}
 use Rattle.pv_model.specs.declared.version.Version.TheVariants.{V1}
-use Rattle.pv_model.specs.Bytes.{Bytes}
-use Rattle.pv_model.specs.Grammar.Manifests.{container, path_of, data_blocks, entry_in, entry_at, add_entry, and_entries, add_entries, tree_of, Manifest as ManifestAndLines}
+use Rattle.pv_model.specs.Grammar.Manifests.{data_blocks, add_entry, and_entries, add_entries, tree_of, Manifest as ManifestAndLines}
 use Rattle.pv_model.specs.Image.{inode_blocks}
-use Rattle.pv_model.specs.Manifest.{empty_tree, Entry as ManifestEntry}
-use Rattle.pv_model.specs.Tree.{Tree, root, find_entry}
-use Rattle.pv_model.specs.Walk.{components}
+use Rattle.pv_model.specs.Manifest.{empty_tree}
 use Rattle.pv_tree.specs.Changes.{root_alone}
 use Rattle.pv_tree.specs.Holding.{HeldTree, IsUnheld}
-use Rattle.pv_image_manifest.specs.declared.entry.Content.{Content}
-use Rattle.pv_image_manifest.specs.declared.entry.Content.TheVariants.{Directory, File, Link, Name}
 use Rattle.pv_image_manifest.specs.declared.entry.Entry.{Entry}
 use Rattle.pv_image_manifest.specs.declared.manifest.Manifest.{Manifest}
 use Rattle.pv_image_manifest.specs.Building.{Makes}
-use Rattle.pv_image_manifest.specs.Contents.{entry_of_content}
 use Rattle.pv_image_manifest.specs.Entries.{entry_of_line}
 use Rattle.pv_image_manifest.specs.Reading.{RefusesManifest, manifest_before}
-
--- ---- one entry
-
-path-is : (path : Bytes) (content : Content) → path_of (entry_of_content path content) ≡ path
-path-is path Directory = refl
-path-is path (File executable bytes) = refl
-path-is path (Link text) = refl
-path-is path (Name source) = refl
-
-module _ (line : ℕ) (t : Tree) (path : Bytes) (content : Content) where
-  abbrev entry : ManifestEntry
-  entry = entry_of_content path content
-
-  pub add-parent : container t (components path) root ≡ None → add_entry line t entry ≡ Err (Parent line)
-  unfolding add_entry
-  add-parent none = ap (entry_at line t entry) (ap (λ p. container t (components p) root) (path-is path content) ∙ none)
-
-  module _ (d : ℕ) (name : Bytes) (contained : container t (components path) root ≡ Some (d, name)) where
-    added : add_entry line t entry ≡ entry_at line t entry (Some (d, name))
-    unfolding add_entry
-    added = ap (entry_at line t entry) (ap (λ p. container t (components p) root) (path-is path content) ∙ contained)
-
-    pub add-exists : is_some (find_entry t d name) ≡ true → add_entry line t entry ≡ Err (Exists line)
-    add-exists there = added ∙ rw there refl
-
-    pub add-in : is_some (find_entry t d name) ≡ false → add_entry line t entry ≡ entry_in line t entry d name
-    add-in absent = added ∙ rw absent refl
-
-pub absent_from : (o : Option ℕ) → is_some o ≡ false → o ≡ None
-absent_from None e = refl
-absent_from (Some n) e = cc
-
--- ---- all entries
 
 pub next_entry : (es : List Entry) (i : ℕ) (e : Entry) → i < length es → e ≡ get_or es i e → drop i es ≡ e ∷ drop (i + 1) es
 next_entry es i e within is =

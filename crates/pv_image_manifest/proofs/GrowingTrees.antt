@@ -1,5 +1,5 @@
 -- A tree that grows entry by entry.
-use Rattle.std.proofs.Common.{◌≡◌, ◌∙◌, ap, ℕ, List, [], ◌∷◌, ◌++◌, Result, Ok, Err, refl, sym, subst}
+use Rattle.std.proofs.Common.{◌≡◌, ◌∙◌, ap, ℕ, List, [], ◌∷◌, ◌++◌, Result, Ok, Err, sym, subst}
 use Rattle.std.specs.Prelude.{map}
 use Rattle.std.proofs.lemmas.List.{map_push}
 use Rattle.pv_model.specs.declared.fault.ManifestFault.{ManifestFault}
@@ -13,7 +13,7 @@ use Rattle.pv_image_manifest.specs.Building.{Makes}
 use Rattle.pv_image_manifest.specs.Entries.{entry_of_line}
 use Rattle.pv_image_manifest.specs.Growing.{IsGrown}
 
-add_last : (es : List (ℕ × ManifestEntry)) (e : ℕ × ManifestEntry) (t u v : Tree) → add_entries es t ≡ Ok u → add_entry e.0 u e.1 ≡ Ok v → add_entries (es ++ e ∷ []) t ≡ Ok v
+pub add_last : (es : List (ℕ × ManifestEntry)) (e : ℕ × ManifestEntry) (t u v : Tree) → add_entries es t ≡ Ok u → add_entry e.0 u e.1 ≡ Ok v → add_entries (es ++ e ∷ []) t ≡ Ok v
 add_last [] e t u v is last =
     let same : t ≡ u = cc in
     ap (λ w. and_entries (add_entry e.0 w e.1) (add_entries [])) same ∙ ap (λ r. and_entries r (add_entries [])) last

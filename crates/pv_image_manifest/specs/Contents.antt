@@ -11,12 +11,16 @@ use Rattle.pv_image_manifest.specs.declared.entry.Content.TheVariants.{Directory
 abbrev pub is_link_byte : ℕ → Bool
 is_link_byte b = not (b == 0)
 
--- the target of a symbolic link is valid, and the source of another name is the path of an entry
+-- the target of a symbolic link is valid, and the source of another name is a path
+abbrev pub has_paths : (Bytes → Bool) → Content → Bool
+has_paths is_path Directory = true
+has_paths is_path (File executable bytes) = true
+has_paths is_path (Link text) = is_link_text text.items
+has_paths is_path (Name source) = is_path source.items
+
+-- the source of another name is the path of an entry of a manifest
 abbrev pub is_content : Content → Bool
-is_content Directory = true
-is_content (File executable bytes) = true
-is_content (Link text) = is_link_text text.items
-is_content (Name source) = is_manifest_path source.items
+is_content = has_paths is_manifest_path
 
 -- the entry of a path and its contents
 abbrev pub entry_of_content : Bytes → Content → ManifestEntry

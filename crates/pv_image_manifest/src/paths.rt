@@ -4,14 +4,16 @@ ghost use Rattle.std.specs.List.{list_all};
 ghost use Rattle.pv_model.specs.Grammar.Manifests.{is_manifest_path as encodes_manifest_path};
 ghost use Rattle.pv_model.specs.Tree.{is_link_text as may_be_link_text};
 ghost use Rattle.pv_image_manifest.specs.Contents.{is_link_byte};
+ghost use Rattle.pv_image_manifest.specs.Paths.{is_path as encodes_path};
 
 use pv_model::limits::LINK_TEXT;
 use pv_model::{Version, is_name};
 use pv_text::components::split_component;
 
-/// Returns whether a path is a slash followed by one or more names that are separated by single slashes.
-pub fn is_manifest_path(path: &[u8]) -> bool
-    ensures { result ≡ encodes_manifest_path path.now }
+/// Returns whether a path is a slash followed by one or more names that are separated by single slashes, in an image of
+/// a version.
+pub fn is_path(version: Version, path: &[u8]) -> bool
+    ensures { result ≡ encodes_path version path.now }
 {
     let [b'/', names @ ..] = path else {
         return false;
@@ -19,12 +21,19 @@ pub fn is_manifest_path(path: &[u8]) -> bool
     let mut rest = Some(names);
     while let Some(names) = rest {
         let (name, following) = split_component(names);
-        if !is_name(Version::V1, name) {
+        if !is_name(version, name) {
             return false;
         }
         rest = following;
     }
     true
+}
+
+/// Returns whether a manifest can have this path: `is_path` in version 1.
+pub fn is_manifest_path(path: &[u8]) -> bool
+    ensures { result ≡ encodes_manifest_path path.now }
+{
+    is_path(Version::V1, path)
 }
 
 // Returns whether no byte is 0.

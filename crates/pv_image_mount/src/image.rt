@@ -2,15 +2,16 @@
 ghost use Rattle.std.specs.Prelude.{◌≡◌, ◌+◌, ◌*◌, ◌<◌, ◌≤◌, length, IfOk, IfErr};
 ghost use Rattle.pv_model.specs.declared.format.TheConstants.{HEADER, MAGIC};
 ghost use Rattle.pv_model.specs.declared.limits.TheConstants.{BLOCK, INODES};
-ghost use Rattle.pv_model.specs.Image.{block, greatest_blocks, inode, inode_blocks, inode_length, size, stored_count};
-ghost use Rattle.pv_model.specs.Mount.{are_image_sizes, block_number, has_sizes, inode_number, is_data_block, kind, version_of, HasSizes, IsFaultOf};
+ghost use Rattle.pv_model.specs.Image.{block, inode, inode_blocks, inode_length, size, stored_count};
+ghost use Rattle.pv_model.specs.Mount.{block_number, has_sizes, inode_number, is_data_block, kind, version_of, HasSizes, IsFaultOf};
 ghost use Rattle.pv_image_mount.specs.Numbers.{IsNumber};
 
 use crate::fields::{u8_at, u16_at, u32_at};
+use crate::sizes::{are_image_sizes, inode_blocks};
 use pv_model::format::{
     BLOCKS_AT, HEADER, INODES_AT, KIND_AT, MAGIC, NAMES_AT_V1, NAMES_AT_V2, SIZE_AT,
 };
-use pv_model::limits::{BLOCK, INODES};
+use pv_model::limits::BLOCK;
 use pv_model::{ImageFault, Version};
 
 // Returns the version whose magic number the bytes start with.
@@ -27,30 +28,13 @@ fn version_of(bytes: &[u8]) -> Option<Version>
     }
 }
 
-// Returns the number of blocks that contain this many inodes.
-fn inode_blocks(version: Version, inodes: u16) -> usize
-    ensures { result ≡ inode_blocks version inodes }
-{
-    (inodes as usize * version.layout().inode_length).div_ceil(BLOCK)
-}
-
-// Returns whether an image can have these sizes.
-fn are_image_sizes(version: Version, blocks: u16, inodes: u16) -> bool
-    ensures { result ≡ are_image_sizes version blocks inodes }
-{
-    inodes >= 1
-        && inodes as usize <= INODES
-        && inode_blocks(version, inodes) + 1 <= blocks as usize
-        && blocks <= version.layout().greatest_blocks
-}
-
 // Returns whether the sizes in the header are valid and match the length of the bytes.
 fn has_sizes(version: Version, bytes: &[u8]) -> bool
     requires { HEADER ≤ length bytes.now }
     ensures { result ≡ has_sizes version bytes.now }
 {
     let blocks = u16_at(bytes, BLOCKS_AT);
-    are_image_sizes(version, blocks, u16_at(bytes, INODES_AT))
+    are_image_sizes(version, blocks as u32, u16_at(bytes, INODES_AT) as u32)
         && bytes.len() == BLOCK * blocks as usize
 }
 
@@ -148,6 +132,6 @@ impl<'a> Image<'a> {
     pub(crate) fn is_data_block(&self, k: u16) -> bool
         ensures { result ≡ is_data_block self.now.version self.now.bytes.now k }
     {
-        inode_blocks(self.version, self.inodes) < k as usize && k < self.blocks
+        inode_blocks(self.version, self.inodes as u32) < k as usize && k < self.blocks
     }
 }

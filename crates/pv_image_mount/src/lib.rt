@@ -3,10 +3,11 @@
 //!
 //! The check makes four passes over the inodes, in the order in which the format lists errors: `inodes` checks kinds
 //! and sizes, `used_blocks` the blocks that inodes use, `slots` the contents of directories and symbolic links, and
-//! `places` the position of inodes in the tree. `fields` reads numbers, `image` defines `Image`, `contents` reads the
-//! contents of inodes, `targets` the inodes that directories name, and `reach` finds the inodes that are reachable from
-//! the root. Each pass reads the contents of an inode once. If the names of a directory do not ascend from slot to
-//! slot, their keys are sorted to find duplicates; if two keys are equal, the names are sorted.
+//! `places` the position of inodes in the tree. `fields` reads numbers, `sizes` checks the sizes of an image, `image`
+//! defines `Image`, `contents` reads the contents of inodes, `targets` the inodes that directories name, and `reach`
+//! finds the inodes that are reachable from the root. Each pass reads the contents of an inode once. If the names of a
+//! directory do not ascend from slot to slot, their keys are sorted to find duplicates; if two keys are equal, the names
+//! are sorted.
 #![tactic(auto)]
 
 ghost use Rattle.std.specs.Prelude.{◌≡◌, ◌⊎◌, IfErr, IfOk};
@@ -20,6 +21,7 @@ mod inodes;
 mod mounting;
 mod places;
 mod reach;
+mod sizes;
 mod slots;
 mod targets;
 mod used_blocks;
@@ -27,6 +29,7 @@ mod used_blocks;
 use crate::image::Image;
 pub use mounting::mount;
 use pv_model::{ImageFault, Version};
+pub use sizes::{are_image_sizes, inode_blocks};
 use std::alloc::Global;
 
 /// Checks whether bytes are an image, and returns the version of its format. It allocates memory for the contents of

@@ -17,6 +17,18 @@ pub record BeginsImage (t : Tree) (before after : Option Bytes) : Type 0 where
   pub holds : IsWrittenImageOf image t
   pub written : WritesPrefix image before after
 
+-- the output grew by an image of exactly a tree that has this property
+pub record WritesImageOf (IsTree : Tree → Type 0) (before after : Option Bytes) : Type 0 where
+  pub tree : Tree
+  pub is : IsTree tree
+  pub image : WritesImage tree before after
+
+-- the output grew by a prefix of such an image
+pub record BeginsImageOf (IsTree : Tree → Type 0) (before after : Option Bytes) : Type 0 where
+  pub tree : Tree
+  pub is : IsTree tree
+  pub image : BeginsImage tree before after
+
 -- a front of some bytes was written, and the rest of them is in the window
 pub record IsPut (before now : Option Bytes) (window all : Bytes) : Type 0 where
   pub front : Bytes

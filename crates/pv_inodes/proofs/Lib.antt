@@ -13,6 +13,7 @@ pub mod Becoming
 pub mod Bytes
 pub mod Claims
 pub mod Contents
+pub mod Copying
 pub mod Edits
 pub mod Emptiness
 pub mod Growth

@@ -73,7 +73,7 @@ impl Inodes {
         requires blocks { self.old.blocks ≡ other.now.blocks }
         ensures { self.new ≡ other.now }
     {
-        self.blocks.copy_from(&other.blocks);
+        self.blocks.copy_used_from(&other.blocks);
         self.inodes = other.inodes;
         self.version = other.version;
         self.least = other.least;

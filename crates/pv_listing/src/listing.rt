@@ -39,10 +39,18 @@ impl From<Failed> for ListStop {
     }
 }
 
-// Replaces the last name of a path by the next name of a directory, and returns its node. If there is no next name,
-// returns `None`, and the path is that of the directory. The first `base` bytes of the path are the directory's path,
-// and `before` is a guess of the number of its names that precede the next one.
-fn next_child(
+/// Replaces the last name of a path by the next name of a directory, in byte order, and returns its node. If there is no
+/// next name, returns `None`, and the path is that of the directory.
+///
+/// The first `base` bytes of `path` are the directory's path. After them the path has a slash and the last name, or
+/// nothing before the first name. `before` is a guess of the number of names that precede the next one; a wrong guess
+/// takes more time. The function is not inlined, so that a recursion that calls it needs little stack.
+///
+/// # Errors
+///
+/// Returns `AllocError` if memory for the path cannot be allocated.
+#[inline(never)]
+pub fn next_child(
     tree: &Tree,
     directory: u16,
     base: usize,

@@ -1,109 +1,57 @@
 -- The demand of a step, by the fetched instruction and the answer.
-use Rattle.std.proofs.Common.{◌≡◌, ◌∙◌, ◌⊎◌, ⊎_elim, ℕ, zero, suc, ◌≤◌, ◌-◌, Bool, true, false, cond, ◌&&◌, List, [], ◌∷◌, length, take, nat_le, slice_get, Option, None, Some, refl, sym, ap, ap₂, subst, arith}
-use Rattle.std.specs.List.{cons_option, filter_map}
-use Rattle.std.proofs.lemmas.Bool.{le-leb}
+use Rattle.std.proofs.Common.{◌≡◌, ◌∙◌, ◌⊎◌, ⊎_elim, ℕ, Bool, true, false, cond, ◌&&◌, List, [], ◌∷◌, ◌++◌, append-nil, nat_le, option_to_list, Option, None, Some, refl, sym, ap, subst}
+use Rattle.std.specs.List.{cons_option}
 use Rattle.pv_model.specs.declared.call.Call.{Call}
-use Rattle.pv_model.specs.declared.call.Call.TheVariants.{Unveil, Execve, Open, OpenAt, Chdir, Stat, Lstat, Readlink, Mkdir, Symlink, Link, Unlink, Rmdir, Rename}
-use Rattle.pv_model.specs.declared.instruction.Instruction.{Instruction}
-use Rattle.pv_model.specs.declared.instruction.Instruction.TheVariants as Line
 use Rattle.pv_model.specs.declared.outcome.Outcome.{Outcome}
 use Rattle.pv_model.specs.Answer.{Answered, answer}
-use Rattle.pv_model.specs.Answers.Needs.{Asked, Judged, asked, asked_by, asked_next, asked_of, begins_program, judged, judged_at, judged_walks, promises_needed}
-use Rattle.pv_model.specs.Effect.{end_of}
+use Rattle.pv_answers.proofs.NextOnes.{register-next}
+use Rattle.pv_model.specs.Answers.Needs.{Asked, Judged, asked, asked_by, asked_next, asked_of, begins_program, judged_walks, promises_needed}
 use Rattle.pv_model.specs.Grammar.Programs.{program_of}
-use Rattle.pv_model.specs.Program.{calls_for, next, next_by, perform}
+use Rattle.pv_model.specs.Program.{calls_for, next}
 use Rattle.pv_model.specs.State.{Process, State, process_at}
+use Rattle.pv_model.specs.Answers.Observed.{is_unveil}
 use Rattle.pv_model.specs.Step.{step}
-use Rattle.pv_model.specs.Touch.{place_found}
-use Rattle.pv_model.specs.Walks.{Walk, walk_number, walks_of}
-use Rattle.pv_calls_path.specs.Ends.{end_begun}
-use Rattle.pv_calls_path.proofs.Begun.{begun-ends}
-use Rattle.pv_laws_states.specs.Courses.{is_unveil}
+use Rattle.pv_model.specs.Walks.{Walk, walks_of}
 use Rattle.pv_procs.specs.declared.processes.Fetched.{Fetched}
 use Rattle.pv_procs.specs.declared.processes.Fetched.TheVariants.{Gone, Register}
 use Rattle.pv_procs.specs.Turns.{IsFetched, RegisterNext}
-use Rattle.pv_script.specs.Context.{is_some_on_registers}
 use Rattle.pv_needs.specs.declared.process_images.JudgedWalks.{JudgedWalks}
-use Rattle.pv_needs.specs.Asking.{ends_before, ends_of, judged_begun}
+use Rattle.pv_needs.specs.Asking.{begun_walks, ends_before, ends_of, judged_begun}
 use Rattle.pv_needs.specs.Granted.{demand, is_refused}
 use Rattle.pv_needs.specs.ProcessImages.{first_walks, judged_in}
+use Rattle.pv_needs.proofs.Walks.{first-walk, walks-known}
 
 -- ---- the checked walks
 
-take-none : {X : Type 0} (n : ℕ) → take {A = X} n [] ≡ []
-take-none zero = refl
-take-none (suc n) = refl
+none-begun : (a b : Bool) → judged_in (record { first = cond a None None; second = cond b None None }) ≡ []
+none-begun true true = refl
+none-begun true false = refl
+none-begun false true = refl
+none-begun false false = refl
 
-module _ (s : State) (pid : ℕ) (p : Process) where
-  -- the first walks of a list end where `Ends` says
-  abbrev EndsBegun : List Walk → ℕ → Type 0
-  EndsBegun ws n = (k : ℕ) (w : Walk) → walk_number ws k ≡ Some w → k ≤ n → end_begun s pid p w ≡ place_found (end_of s p w)
-
-  same-judged : (ws : List Walk) (n k : ℕ) (w : Walk) → EndsBegun ws n → walk_number ws k ≡ Some w → k ≤ n → judged_begun s pid p w ≡ judged s p w
-  same-judged ws n k w begun at within = ap (judged_at s w.needed) (begun k w at within)
-
-  nothing : (a b : Bool) → judged_in (record { first = cond a None None; second = cond b None None }) ≡ []
-  nothing true true = refl
-  nothing true false = refl
-  nothing false true = refl
-  nothing false false = refl
-
-  alone : (o : Option Judged) (b : Bool) → judged_in (record { first = o; second = cond b None None }) ≡ cons_option o []
-  alone o true = refl
-  alone o false = refl
-
-  list-judged : (ws : List Walk) → length ws ≤ 2 → (n : ℕ) → EndsBegun ws n → judged_in (first_walks (ends_of s pid p ws) n) ≡ filter_map (judged s p) (take n ws)
-  list-judged [] short n begun = nothing (nat_le 1 n) (nat_le 2 n) ∙ sym (ap (filter_map (judged s p)) (take-none n))
-  list-judged (w ∷ []) short zero begun = refl
-  list-judged (w ∷ []) short (suc n) begun =
-      ap (λ (b : Bool). judged_in (record { first = cond b (judged_begun s pid p w) None; second = cond (nat_le 2 (suc n)) None None })) (le-leb 1 (suc n) (omega arith))
-      ∙ alone (judged_begun s pid p w) (nat_le 2 (suc n))
-      ∙ ap (λ (o : Option Judged). cons_option o []) (same-judged (w ∷ []) (suc n) 1 w begun refl (omega arith))
-      ∙ sym (ap (λ (vs : List Walk). filter_map (judged s p) (w ∷ vs)) (take-none n))
-  list-judged (w ∷ v ∷ []) short zero begun = refl
-  list-judged (w ∷ v ∷ []) short (suc zero) begun = ap (λ (o : Option Judged). cons_option o []) (same-judged (w ∷ v ∷ []) 1 1 w begun refl (omega arith))
-  list-judged (w ∷ v ∷ []) short (suc (suc n)) begun =
-      ap₂ (λ (a b : Bool). judged_in (record { first = cond a (judged_begun s pid p w) None; second = cond b (judged_begun s pid p v) None }))
-      (le-leb 1 (suc (suc n)) (omega arith)) (le-leb 2 (suc (suc n)) (omega arith))
-      ∙ ap₂ (λ (a b : Option Judged). cons_option a (cons_option b []))
-      (same-judged (w ∷ v ∷ []) (suc (suc n)) 1 w begun refl (omega arith)) (same-judged (w ∷ v ∷ []) (suc (suc n)) 2 v begun refl (omega arith))
-      ∙ sym (ap (λ (vs : List Walk). filter_map (judged s p) (w ∷ v ∷ vs)) (take-none n))
-  list-judged (w ∷ v ∷ u ∷ rest) short n begun = absurd (omega arith)
-
-  pub by-unveil : (call : Call) (n : ℕ) → judged_walks s p call n ≡ cond (is_unveil call) [] (filter_map (judged s p) (take n (walks_of call)))
-  by-unveil (Unveil path permissions) n = refl
-  by-unveil _ n = refl
-
--- a call walks at most twice
-pub walks-short : (call : Call) → length (walks_of call) ≤ 2
-walks-short (Unveil (Some path) (Some text)) = omega arith
-walks-short (Execve path) = omega arith
-walks-short (Open path flags) = omega arith
-walks-short (OpenAt start path flags) = omega arith
-walks-short (Chdir path) = omega arith
-walks-short (Stat path) = omega arith
-walks-short (Lstat path) = omega arith
-walks-short (Readlink path) = omega arith
-walks-short (Mkdir path) = omega arith
-walks-short (Symlink text path) = omega arith
-walks-short (Link path new) = omega arith
-walks-short (Unlink path) = omega arith
-walks-short (Rmdir path) = omega arith
-walks-short (Rename path new) = omega arith
-walks-short _ = omega arith
+list-begun : (s : State) (pid : ℕ) (p : Process) (ws : List Walk) (n : ℕ) → judged_in (first_walks (ends_of s pid p ws) n) ≡ begun_walks s pid p ws n
+list-begun s pid p [] n = none-begun (nat_le 1 n) (nat_le 2 n)
+list-begun s pid p (w ∷ []) n =
+    first-walk (nat_le 1 n) (judged_begun s pid p w) (cons_option (cond (nat_le 2 n) None None) [])
+    ∙ ap (λ (js : List Judged). cond (nat_le 1 n) (option_to_list (judged_begun s pid p w)) [] ++ js) (none-begun false (nat_le 2 n))
+    ∙ append-nil (cond (nat_le 1 n) (option_to_list (judged_begun s pid p w)) [])
+list-begun s pid p (w ∷ v ∷ rest) n =
+    first-walk (nat_le 1 n) (judged_begun s pid p w) (cons_option (cond (nat_le 2 n) (judged_begun s pid p v) None) [])
+    ∙ ap (λ (js : List Judged). cond (nat_le 1 n) (option_to_list (judged_begun s pid p w)) [] ++ js)
+    (first-walk (nat_le 2 n) (judged_begun s pid p v) [] ∙ append-nil (cond (nat_le 2 n) (option_to_list (judged_begun s pid p v)) []))
 
 -- the demands of the walks that a call began are known before the call
 walks-asked : (s : State) (pid : ℕ) (p : Process) (call : Call) → process_at s pid ≡ Some p
     → judged_in (first_walks (ends_before s pid p call) (answer program_of s pid call).walks) ≡ judged_walks s p call (answer program_of s pid call).walks
-walks-asked s pid p call at = by (is_unveil call) ∙ sym (by-unveil s pid p call n)
+walks-asked s pid p call at = by (is_unveil call) ∙ walks-known s pid p call at
   where
     n : ℕ
     n = (answer program_of s pid call).walks
 
     by : (b : Bool) → judged_in (first_walks (cond b (let it : JudgedWalks = record { first = None; second = None } in it) (ends_of s pid p (walks_of call))) n)
-        ≡ cond b [] (filter_map (judged s p) (take n (walks_of call)))
-    by true = nothing s pid p (nat_le 1 n) (nat_le 2 n)
-    by false = list-judged s pid p (walks_of call) (walks-short call) n (λ k w is within. begun-ends program_of s pid p at call k w is within)
+        ≡ cond b [] (begun_walks s pid p (walks_of call) n)
+    by true = none-begun (nat_le 1 n) (nat_le 2 n)
+    by false = list-begun s pid p (walks_of call) n
 
 -- ---- a step
 
@@ -113,23 +61,10 @@ module _ (s : State) (pid : ℕ) where
   unfolding asked
   asks-gone none = ap (asked_of program_of s pid) none
 
-  inside-next : (p : Process) (o : Option Instruction) → is_some_on_registers o ≡ true → asked_next program_of s pid p (next_by p o) ≡ None
-  unfolding perform
-  inside-next p None is = cc is
-  inside-next p (Some (Line.Set r n)) is = refl
-  inside-next p (Some (Line.Add r n)) is = refl
-  inside-next p (Some (Line.Put bytes)) is = refl
-  inside-next p (Some (Line.Peek r k)) is = refl
-  inside-next p (Some (Line.Jump line)) is = refl
-  inside-next p (Some (Line.JumpIfZero r line)) is = refl
-  inside-next p (Some (Line.JumpIfNotZero r line)) is = refl
-  inside-next p (Some (Line.JumpIfNegative r line)) is = refl
-  inside-next p (Some _) is = cc is
-
   -- a step on registers
   pub asks-inside : RegisterNext (process_at s pid) → asked program_of s pid ≡ None
   unfolding asked
-  asks-inside at = ap (asked_of program_of s pid) at.1 ∙ inside-next at.0 (slice_get at.0.program (at.0.line - 1)) at.2
+  asks-inside at = let it = register-next (process_at s pid) at in ap (asked_of program_of s pid) it.1 ∙ ap (asked_next program_of s pid it.0) it.3
 
   -- a step without a call
   pub asks-nothing : (f : Fetched) → (f ≡ Register) ⊎ (f ≡ Gone) → IsFetched f (process_at s pid) → asked program_of s pid ≡ None

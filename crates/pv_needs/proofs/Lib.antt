@@ -1,9 +1,11 @@
 -- Lemmas about the records of a run: Times (counts), Targets (the targets at which walks were checked), RecordedImages
--- (the process images of a process), Keeping (records in lists, by index), Bounds (of process images), Asked (the
--- demand of a step), AskedRuns (the demands of a run), Numbers (the numbers of the processes that make calls),
+-- (the process images of a process), Keeping (records in lists, by index), Bounds (of process images), Walks (the
+-- walks of a call), Promised (the promises that a call needs), Asked (the demand of a step), AskedRuns (the demands of a run), Numbers (the numbers of the processes that make calls),
 -- NeedsText (the texts of the records), RecordedLines (their lines), Restraining (their calls of pledge(2) and
 -- unveil(2)), LineBytes (the bytes of lines), KnownPaths (the path of a directory). TurnsMade has turns, TurnsTaken follows them step by step, TurnsLines writes them, and Rounds
 -- finds the process with the next turn.
+pub mod Walks
+pub mod Promised
 pub mod Asked
 pub mod AskedRuns
 pub mod Bounds

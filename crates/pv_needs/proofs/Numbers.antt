@@ -21,7 +21,7 @@ use Rattle.pv_model.specs.Walks.{walks_of}
 use Rattle.pv_laws_access.proofs.EffectByCall.{does-effect}
 use Rattle.pv_laws_access.proofs.HasEffect.{Did, HasEffect, stays, restrains, begins, closes, copies, forks, reaps, moves, cuts, writes_bytes, makes, links, unlinks, renames, opens, creates}
 use Rattle.pv_laws_runs.proofs.Ranges.{program_of-encodes}
-use Rattle.pv_laws_states.specs.Courses.{is_unveil}
+use Rattle.pv_model.specs.Answers.Observed.{is_unveil}
 use Rattle.pv_laws_states.specs.States.{IsValid, is_number}
 use Rattle.pv_laws_states.proofs.Attempts.{Leads}
 use Rattle.pv_laws_states.proofs.BySteps.{step-keeps_whole}
@@ -29,7 +29,7 @@ use Rattle.pv_laws_states.proofs.Members.{find_number-list_all, live-found}
 use Rattle.pv_laws_states.proofs.Outcomes.{at_call, by_answer}
 use Rattle.pv_laws_states.proofs.Processes.{last_process-update}
 use Rattle.pv_needs.specs.Granted.{demand, demands_in, is_refused}
-use Rattle.pv_needs.proofs.Asked.{by-unveil, walks-short}
+use Rattle.pv_needs.proofs.Walks.{by-unveil, walks-short}
 
 -- ---- the last process number never decreases
 

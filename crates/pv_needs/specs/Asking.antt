@@ -1,18 +1,50 @@
 -- The demands of a call, computed before the call.
-use Rattle.std.specs.Prelude.{◌≡◌, ℕ, if◌then◌else◌, List, [], ◌∷◌, Option, None, Some}
+use Rattle.std.specs.Prelude.{◌≡◌, ℕ, if◌then◌else◌, nat_le, Bool, List, [], ◌∷◌, ◌++◌, flat_map, option_to_list, Option, None, Some}
+use Rattle.std.specs.List.{list_any}
 use Rattle.pv_model.specs.declared.call.Call.{Call}
+use Rattle.pv_model.specs.declared.open_flags.OpenFlags.{OpenFlags}
+use Rattle.pv_model.specs.declared.promise.Promise.{Promise}
+use Rattle.pv_model.specs.declared.promise.Promise.TheVariants.{Rpath, Wpath}
 use Rattle.pv_model.specs.Answers.Needs.{Asked, Judged, judged_at}
+use Rattle.pv_model.specs.Answers.Observed.{is_unveil}
+use Rattle.pv_model.specs.Answers.Policy.{same_need}
+use Rattle.pv_model.specs.Needs.{needs, needs_of_open}
+use Rattle.pv_model.specs.Promises.{Need}
 use Rattle.pv_model.specs.State.{Process, State}
 use Rattle.pv_model.specs.Walks.{Walk, walks_of}
 use Rattle.pv_calls_path.specs.Ends.{end_begun}
-use Rattle.pv_laws_states.specs.Courses.{is_unveil}
 use Rattle.pv_needs.specs.declared.process_images.JudgedWalks.{JudgedWalks}
 use Rattle.pv_needs.specs.ProcessImages.{RecordedImage, IsProcessMore}
+
+abbrev pub has_need : Need → Call → Bool
+has_need need call = list_any (same_need need) (needs call)
+
+abbrev pub either_need : Need
+either_need = Rpath ∷ Wpath ∷ []
+
+-- the promises that a call needs, alone or not
+abbrev pub promises_of : Call → List Promise
+promises_of call = flat_map (λ need. need) (needs call)
+
+abbrev pub promises_of_open : OpenFlags → List Promise
+promises_of_open flags = flat_map (λ need. need) (needs_of_open flags)
 
 module _ (s : State) (pid : ℕ) (me : Process) where
   -- the demand of a walk, if it is begun and ends at a place
   abbrev pub judged_begun : Walk → Option Judged
   judged_begun w = judged_at s w.needed (end_begun s pid me w)
+
+  abbrev pub if_begun : Bool → Walk → List Judged
+  if_begun is_begun w = if is_begun then option_to_list (judged_begun w) else []
+
+  abbrev pub begun_walks : List Walk → ℕ → List Judged
+  begun_walks [] n = []
+  begun_walks (w ∷ []) n = if_begun (nat_le 1 n) w
+  begun_walks (w ∷ v ∷ rest) n = if_begun (nat_le 1 n) w ++ if_begun (nat_le 2 n) v
+
+  -- the checked walks of a call of which the first n were begun
+  abbrev pub walks_begun : Call → ℕ → List Judged
+  walks_begun call n = if is_unveil call then [] else begun_walks (walks_of call) n
 
   abbrev pub ends_of : List Walk → JudgedWalks
   ends_of [] = record { first = None; second = None }

@@ -1,16 +1,17 @@
 //! The demands of a call on its sandbox: the promises that it needs, and its walks that are checked against the table.
-ghost use Rattle.std.specs.Prelude.{◌≡◌, filter_map, IfOk, IsSome, OnOk, Some};
-ghost use Rattle.pv_needs.specs.Asking.{ends_before, judged_begun};
-ghost use Rattle.pv_laws_states.specs.Courses.{is_unveil};
+ghost use Rattle.std.specs.Prelude.{◌≡◌, IfOk, IsSome, OnOk, Some};
+ghost use Rattle.std.specs.List.{list_any};
+ghost use Rattle.pv_needs.specs.Asking.{either_need, ends_before, has_need, judged_begun, promises_of, promises_of_open};
 ghost use Rattle.pv_laws_states.specs.States.{IsValid};
 ghost use Rattle.pv_model.specs.Answers.Needs.{begins_program as begins_by_definition, promises_needed as needed_by_definition};
-ghost use Rattle.pv_model.specs.Answers.Nodes.{first_of};
+ghost use Rattle.pv_model.specs.Answers.Policy.{same_need};
 ghost use Rattle.pv_model.specs.CallRef.{call_of, walk_of};
 ghost use Rattle.pv_model.specs.Needs.{needs_of_open};
 ghost use Rattle.pv_model.specs.State.{Process, process_at};
 
 use crate::process_images::{JudgedWalk, JudgedWalks};
 use crate::wording::{TargetText, TargetTexts};
+use pv_answers::is_unveil;
 use pv_calls_path::ends::end_of;
 use pv_calls_path::unveil::target_of;
 use pv_calls_state::Parts;
@@ -19,7 +20,7 @@ use std::alloc::AllocError;
 
 // Returns the promises that an open needs.
 fn needed_to_open(flags: OpenFlags) -> &'static [Promise]
-    ensures { result.now ≡ filter_map first_of (needs_of_open flags) }
+    ensures { result.now ≡ promises_of_open flags }
 {
     match (flags.mode, flags.create) {
         (Mode::Read, false) => &[Promise::Rpath],
@@ -31,10 +32,10 @@ fn needed_to_open(flags: OpenFlags) -> &'static [Promise]
     }
 }
 
-/// Returns the promises that a call needs. If either of two promises is enough, the first is returned.
+/// Returns the promises that a call needs, or the two of which it needs either.
 #[tactic(auto, unfolding(pv_model::specs::Needs::needs))]
-pub(crate) fn promises_needed(call: CallRef<'_>) -> &'static [Promise]
-    ensures { result.now ≡ needed_by_definition (call_of call.entry) }
+pub fn promises_of(call: CallRef<'_>) -> &'static [Promise]
+    ensures { result.now ≡ promises_of (call_of call.entry) }
 {
     match call {
         CallRef::Exit(_) | CallRef::Pledge(_, _) => &[],
@@ -42,8 +43,9 @@ pub(crate) fn promises_needed(call: CallRef<'_>) -> &'static [Promise]
         CallRef::Execve(_) => &[Promise::Exec],
         CallRef::Unveil(_, _) => &[Promise::Unveil],
         CallRef::Open(_, flags) | CallRef::OpenAt(_, _, flags) => needed_to_open(flags),
-        CallRef::Chdir(_) | CallRef::Stat(_) | CallRef::Lstat(_) | CallRef::Readlink(_) => {
-            &[Promise::Rpath]
+        CallRef::Chdir(_) => &[Promise::Rpath],
+        CallRef::Stat(_) | CallRef::Lstat(_) | CallRef::Readlink(_) => {
+            &[Promise::Rpath, Promise::Wpath]
         }
         CallRef::Mkdir(_)
         | CallRef::Symlink(_, _)
@@ -64,6 +66,43 @@ pub(crate) fn promises_needed(call: CallRef<'_>) -> &'static [Promise]
         | CallRef::Ftruncate(_, _)
         | CallRef::Getdents(_)
         | CallRef::Fchdir(_) => &[Promise::Stdio],
+    }
+}
+
+// Returns whether an open needs either of rpath and wpath: it never does.
+fn open_needs_either(flags: OpenFlags) -> bool
+    ensures { result ≡ list_any (same_need either_need) (needs_of_open flags) }
+{
+    match (flags.mode, flags.create) {
+        (Mode::Read, false) => false,
+        (Mode::Read, true) => false,
+        (Mode::Write, false) => false,
+        (Mode::Write, true) => false,
+        (Mode::ReadWrite, false) => false,
+        (Mode::ReadWrite, true) => false,
+    }
+}
+
+/// Returns whether a call needs either of rpath and wpath.
+#[tactic(auto, unfolding(pv_model::specs::Needs::needs))]
+pub fn needs_either(call: CallRef<'_>) -> bool
+    ensures { result ≡ has_need either_need (call_of call.entry) }
+{
+    match call {
+        CallRef::Open(_, flags) | CallRef::OpenAt(_, _, flags) => open_needs_either(flags),
+        CallRef::Stat(_) | CallRef::Lstat(_) | CallRef::Readlink(_) => true,
+        _ => false,
+    }
+}
+
+/// Returns the promises that a call needs. If either of two promises is enough, the first is returned.
+pub(crate) fn promises_needed(call: CallRef<'_>) -> &'static [Promise]
+    ensures { result.now ≡ needed_by_definition (call_of call.entry) }
+{
+    if needs_either(call) {
+        &[Promise::Rpath]
+    } else {
+        promises_of(call)
     }
 }
 
@@ -93,16 +132,6 @@ fn judged<'a>(
     };
     text.put(parts.tree(), target_of(parts.tree(), place))?;
     Ok(Some(text.walk(walk.needed)))
-}
-
-// Returns whether a call is an unveil(2), whose walk is not checked.
-fn is_unveil(call: CallRef<'_>) -> bool
-    ensures { result ≡ is_unveil (call_of call.entry) }
-{
-    match call {
-        CallRef::Unveil(_, _) => true,
-        _ => false,
-    }
 }
 
 /// Returns the demands of the walks of a live process's call, in the state before it. The walk of an unveil(2) is not

@@ -17,6 +17,7 @@ mod wording;
 mod worked;
 mod writing;
 
+pub use asking::{needs_either, promises_of};
 pub use needs::{write_demands, write_needs, write_restraints};
 pub use turns::write_turns;
 pub use worked::worked_runs_are_as_they_are_written;

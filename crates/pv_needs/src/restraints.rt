@@ -7,8 +7,7 @@ ghost use Rattle.pv_model.specs.Promise.{all_promises, promise_name};
 ghost use Rattle.pv_needs.specs.Restraints.{and_unveiling, c_byte, c_part, c_string, c_unveil, if_counted, judged_of, path_in_words, program_part, recorded_image_restraints, recorded_process_restraints, recorded_promises, recorded_restraints, same_path, unveil, unveilings};
 
 use crate::process_images::{ProcessImage, ProcessImages, Recorded, RecordedTarget, Times};
-use crate::writing::Count;
-use pv_answers::{Decimal, Fragment, Plain, Quoted};
+use pv_answers::{Count, Decimal, Plain, Quoted, append};
 use pv_model::{Perms, Promise, Text, is_plain};
 use pv_promises::ALL;
 use pv_streams::Gathered;
@@ -16,16 +15,6 @@ use pv_text::lines::first_of;
 use pv_text::texts::text;
 use std::alloc::{AllocError, Global};
 use std::marker::Model;
-
-// Appends a fragment of the text.
-fn append<P: Fragment>(out: &mut Gathered, fragment: &P) -> Result<(), AllocError>
-    ensures { OnOk result (out.new.bytes.items ≡ out.old.bytes.items ++ P.text fragment.now) }
-{
-    match fragment.write(out) {
-        Ok(()) => Ok(()),
-        Err(_) => Err(AllocError),
-    }
-}
 
 // Appends a byte of a string in C: the byte itself, or a backslash and three octal digits.
 fn append_c_byte(out: &mut Gathered, byte: u8) -> Result<(), AllocError>

@@ -10,7 +10,7 @@ ghost use Rattle.pv_needs.specs.KnownWords.{IsKnown, directory_in, known_words};
 
 use crate::paths::{around_last, is_path_of};
 use crate::process_images::JudgedWalk;
-use pv_answers::{Decimal, Fragment, Plain, Quoted, write_target};
+use pv_answers::{Decimal, Plain, Quoted, TargetWords, append};
 use pv_model::limits::ROOT;
 use pv_model::{Perms, Target};
 use pv_streams::Gathered;
@@ -45,10 +45,7 @@ fn write_directory(words: &mut Gathered, node: u16, path: &[u8]) -> Result<(), A
     ensures { OnOk result (words.new.bytes.items ≡ codes "node " ++ decimal node ++ codes " " ++ quote path.now) }
 {
     let number = Decimal(u32::from(node));
-    match (Plain(b"node "), number, Plain(b" "), Quoted(path)).write(words) {
-        Ok(()) => Ok(()),
-        Err(_) => Err(AllocError),
-    }
+    append(words, &(Plain(b"node "), number, Plain(b" "), Quoted(path)))
 }
 
 // Writes in words a name in a directory with this path.
@@ -59,12 +56,9 @@ fn write_name(words: &mut Gathered, path: &mut Vec<u8>, name: &[u8]) -> Result<(
     let length = path.len();
     path.push(b'/')?;
     path.extend_from_slice(name)?;
-    let written = Quoted(path.as_slice()).write(words);
+    let appended = append(words, &Quoted(path.as_slice()));
     path.truncate(length);
-    match written {
-        Ok(()) => Ok(()),
-        Err(_) => Err(AllocError),
-    }
+    appended
 }
 
 // Writes in words a target whose directory has this path.
@@ -104,10 +98,8 @@ fn write_and_guess(
     ensures { OnOk result (words.new.bytes.items ≡ target_words tree.now.tree target.now) }
 {
     path.clear();
-    match write_target(words, tree, target) {
-        Ok(()) => path.extend_from_slice(path_in(target, words.bytes.as_slice())),
-        Err(_) => Err(AllocError),
-    }
+    append(words, &TargetWords { tree, target })?;
+    path.extend_from_slice(path_in(target, words.bytes.as_slice()))
 }
 
 /// The target of a walk, with the buffer for its words.

@@ -1,28 +1,14 @@
 //! The lines of the records.
-ghost use Rattle.std.specs.Prelude.{◌≡◌, ◌≤◌, decimal, flat_map, length};
+ghost use Rattle.std.specs.Prelude.{◌≡◌, ◌≤◌, flat_map, length};
 ghost use Rattle.pv_needs.specs.RecordedLines.{recorded_lines, recorded_process_lines, recorded_promise_lines, recorded_promises_lines, recorded_image_lines, recorded_target_lines, recorded_times_text};
 ghost use Rattle.pv_model.specs.Answers.Lines.{answer_bytes};
 ghost use Rattle.pv_streams.specs.Sinks.{Writes};
 
 use crate::process_images::{ProcessImage, ProcessImages, Recorded, RecordedTarget, Times};
-use itoa::Buffer;
-use pv_answers::{Fragment, Letters, Line, Plain};
+use pv_answers::{Count, Fragment, Letters, Line, Plain};
 use pv_model::Promise;
 use pv_promises::ALL;
-use pv_streams::{Failed, Sink, write_whole};
-
-/// A count in decimal digits.
-#[derive(Clone, Copy)]
-pub(crate) struct Count(pub(crate) u64);
-
-impl Fragment for Count {
-    ghost text = { λ p. decimal p.0 };
-
-    fn write<W: Sink>(&self, out: &mut W) -> Result<(), Failed> {
-        let mut buffer = Buffer::new();
-        write_whole(out, buffer.format(self.0).as_bytes())
-    }
-}
+use pv_streams::{Failed, Sink};
 
 // A count in words, with the line of the last call.
 #[derive(Clone, Copy)]

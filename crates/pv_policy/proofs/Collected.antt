@@ -36,7 +36,8 @@ use Rattle.pv_model.specs.Promises.{Need}
 use Rattle.pv_model.specs.Grammar.Programs.{program_of}
 use Rattle.pv_model.specs.State.{Program, State}
 use Rattle.pv_policy.specs.Groups.{and_more, and_one}
-use Rattle.pv_policy.specs.Usage.{Noted, UsedPromise, UsedTarget, Usage, Walked, all_used_by, and_all_granted, and_calls, and_granted, and_walks, bytes_or_none, either_need, first_bytes, granted_more, has_need, has_promise, idle_granted, idle_of, idle_promise, if_restricted, is_held, is_rpath, need_bytes, new_bytes, noted, noted_key, nothing_at, permissions_at, permissions_in, promise_bytes, promise_more, promises_of, target_more, target_words, unused, unused_by, unused_promise, unused_target, usage_bytes, usage_key, usage_more, walked, walked_words, words_of}
+use Rattle.pv_needs.specs.Asking.{either_need, has_need, promises_of}
+use Rattle.pv_policy.specs.Usage.{Noted, UsedPromise, UsedTarget, Usage, Walked, all_used_by, and_all_granted, and_calls, and_granted, and_walks, bytes_or_none, first_bytes, granted_more, has_promise, idle_granted, idle_of, idle_promise, if_restricted, is_held, is_rpath, need_bytes, new_bytes, noted, noted_key, nothing_at, permissions_at, permissions_in, promise_bytes, promise_more, target_more, target_words, unused, unused_by, unused_promise, unused_target, usage_bytes, usage_key, usage_more, walked, walked_words, words_of}
 use Rattle.pv_policy.proofs.Groups.{row_of, rows-of-groups}
 
 -- ---- elements made of others

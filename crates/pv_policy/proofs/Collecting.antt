@@ -1,13 +1,12 @@
 -- The calls of the visited states are those of the definitions.
-use Rattle.std.proofs.Common.{◌≡◌, ◌⊎◌, ⊎_elim, ◌∙◌, refl, sym, subst, ap, ap₂, ℕ, zero, suc, ◌+◌, ◌-◌, ◌<◌, ◌≤◌, add-one, true, List, [], ◌∷◌, ◌++◌, append_assoc, append-nil, length, get_or, take, map, flat_map, codes, slice_get, Option, None, Some, option_map}
+use Rattle.std.proofs.Common.{◌≡◌, ◌⊎◌, ⊎_elim, ◌∙◌, refl, sym, subst, ap, ap₂, ℕ, zero, suc, ◌+◌, ◌<◌, ◌≤◌, add-one, List, [], ◌∷◌, ◌++◌, append_assoc, append-nil, length, get_or, take, map, flat_map, codes, slice_get, Option, None, Some, option_map}
 use Rattle.std.proofs.lemmas.List.{map-append}
 use Rattle.std.proofs.lemmas.List.Folds.{flat_map-map}
 use Rattle.std.proofs.lemmas.List.Sums.{fold-append}
+use Rattle.pv_answers.proofs.NextOnes.{register-next}
 use Rattle.pv_explore.specs.declared.visited.VisitedState.{VisitedState}
 use Rattle.pv_explore.specs.Visiting.{Visits, found_of, visited_states}
 use Rattle.pv_model.specs.declared.call.Call.{Call}
-use Rattle.pv_model.specs.declared.instruction.Instruction.{Instruction}
-use Rattle.pv_model.specs.declared.instruction.Instruction.TheVariants as Line
 use Rattle.pv_model.specs.Answers.Explore.{Found, Move, done_line, is_complete, move, moves_of, states_found, witness_text}
 use Rattle.pv_model.specs.Answers.Lines.{answer_bytes, answer_line, answer_line_bytes, counted_from}
 use Rattle.pv_model.specs.Answers.Observed.{observations_at, observed, of_calls, of_next, of_process}
@@ -15,7 +14,7 @@ use Rattle.pv_model.specs.Answers.Policy.{Request, policy_lines, request, reques
 use Rattle.pv_model.specs.Bytes.{Bytes}
 use Rattle.pv_model.specs.Grammar.Programs.{program_of}
 use Rattle.pv_model.specs.Held.{live_processes}
-use Rattle.pv_model.specs.Program.{calls_for, next, next_by, perform}
+use Rattle.pv_model.specs.Program.{calls_for, next}
 use Rattle.pv_model.specs.State.{Process, State, process_at}
 use Rattle.pv_model.specs.Tree.{Tree}
 use Rattle.pv_policy.specs.Collecting.{calls_at, calls_of, calls_of_process, visited_bytes}
@@ -26,7 +25,6 @@ use Rattle.pv_policy.proofs.Nexts.{flat-all, flat-next}
 use Rattle.pv_procs.specs.declared.processes.Fetched.{Fetched}
 use Rattle.pv_procs.specs.declared.processes.Fetched.TheVariants.{Gone, Register}
 use Rattle.pv_procs.specs.Turns.{IsFetched, RegisterNext}
-use Rattle.pv_script.specs.Context.{is_some_on_registers}
 
 module _ {X Y Z : Type 0} (f : Y → Z) (g : X → List Y) where
   map-flat : (xs : List X) → map f (flat_map g xs) ≡ flat_map (λ x. map f (g x)) xs
@@ -61,21 +59,10 @@ module _ (f : Found) (pid : ℕ) where
   pub calls-gone : process_at f.state pid ≡ None → [] ≡ calls_of_process f pid
   calls-gone none = sym (ap calls_by none)
 
-  inside-next : (p : Process) (o : Option Instruction) → is_some_on_registers o ≡ true → observed_by (of_next (request program_of) f.state pid (move program_of f pid).stepped p (next_by p o)) ≡ []
-  unfolding perform
-  inside-next p None is = cc is
-  inside-next p (Some (Line.Set r n)) is = refl
-  inside-next p (Some (Line.Add r n)) is = refl
-  inside-next p (Some (Line.Put bytes)) is = refl
-  inside-next p (Some (Line.Peek r k)) is = refl
-  inside-next p (Some (Line.Jump line)) is = refl
-  inside-next p (Some (Line.JumpIfZero r line)) is = refl
-  inside-next p (Some (Line.JumpIfNotZero r line)) is = refl
-  inside-next p (Some (Line.JumpIfNegative r line)) is = refl
-  inside-next p (Some _) is = cc is
-
   pub calls-inside : RegisterNext (process_at f.state pid) → [] ≡ calls_of_process f pid
-  calls-inside at = sym (ap calls_by at.1 ∙ inside-next at.0 (slice_get at.0.program (at.0.line - 1)) at.2)
+  calls-inside at =
+      let it = register-next (process_at f.state pid) at in
+      sym (ap calls_by it.1 ∙ ap (λ n. observed_by (of_next (request program_of) f.state pid (move program_of f pid).stepped it.0 n)) it.3)
 
   -- a process without a call
   pub calls-none : (x : Fetched) → (x ≡ Register) ⊎ (x ≡ Gone) → IsFetched x (process_at f.state pid) → [] ≡ calls_of_process f pid

@@ -13,10 +13,11 @@ use Rattle.pv_model.specs.Calls.Restraints.{entries_of_table}
 use Rattle.pv_model.specs.Grammar.Programs.{program_of}
 use Rattle.pv_model.specs.State.{Process, State, process_at}
 use Rattle.pv_model.specs.Unveil.{governing_entry, judgement}
-use Rattle.pv_policy.specs.Asked.{Has, at_entry, at_governor, entry_granted, used_in, walks_begun}
+use Rattle.pv_needs.specs.Asking.{walks_begun}
+use Rattle.pv_needs.proofs.Walks.{walks-known}
+use Rattle.pv_policy.specs.Asked.{Has, at_entry, at_governor, entry_granted, used_in}
 use Rattle.pv_policy.specs.Usage.{Noted, noted_by, request_of}
 use Rattle.pv_policy.specs.declared.asked.Asked.{Asked}
-use Rattle.pv_policy.proofs.Walking.{walks-known}
 
 -- the permissions that walks used, as the definitions have them
 module _ (r : Request) (permissions : Perms) where

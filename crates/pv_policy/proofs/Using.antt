@@ -25,7 +25,8 @@ use Rattle.pv_model.specs.Tree.{Tree, is_directory_at}
 use Rattle.pv_model.specs.Unveil.{Table, governing_entry, judge_entry, judgement, permissions_at, permissions_of, target_of}
 use Rattle.pv_model.specs.Walk.{resolve}
 use Rattle.pv_model.specs.Walks.{Walk}
-use Rattle.pv_policy.specs.Asked.{at_entry, at_governor, begun_walk, entry_granted, used_in}
+use Rattle.pv_needs.specs.Asking.{judged_begun}
+use Rattle.pv_policy.specs.Asked.{at_entry, at_governor, entry_granted, used_in}
 use Rattle.pv_unveil.proofs.Climbing.{resolve-directory}
 use Rattle.pv_unveil.specs.Up.{directory_of}
 
@@ -111,7 +112,7 @@ module _ (s : State) (pid : ℕ) (me : Process) (whole : IsValid s) (lives : pro
       by (refused walks e cause) well none = cc none
 
   -- the target of a walk is in a directory
-  pub walk-directory : (w : Walk) (j : Judged) → begun_walk s pid me w ≡ Some j → is_directory_at s.tree (directory_of (place_of j.target)) ≡ true
+  pub walk-directory : (w : Walk) (j : Judged) → judged_begun s pid me w ≡ Some j → is_directory_at s.tree (directory_of (place_of j.target)) ≡ true
   walk-directory w j is = by (end_begun s pid me w) refl is
     where
       by : (o : Option Place) → end_begun s pid me w ≡ o → judged_at s w.needed o ≡ Some j → is_directory_at s.tree (directory_of (place_of j.target)) ≡ true

@@ -3,10 +3,8 @@ use Rattle.std.specs.Prelude.{ℕ, ◌==◌, Bool, true, false, not, ◌&&◌, �
 use Rattle.std.specs.Fmt.{decimal}
 use Rattle.std.specs.List.{list_any}
 use Rattle.pv_model.specs.declared.call.Call.{Call}
-use Rattle.pv_model.specs.declared.open_flags.OpenFlags.{OpenFlags}
 use Rattle.pv_model.specs.declared.perms.Perms.{Perms}
 use Rattle.pv_model.specs.declared.promise.Promise.{Promise}
-use Rattle.pv_model.specs.declared.promise.Promise.TheVariants.{Rpath, Wpath}
 use Rattle.pv_model.specs.Answers.Explain.{need_text, permissions_lacked}
 use Rattle.pv_model.specs.Answers.Explore.{by_line}
 use Rattle.pv_model.specs.Answers.Lines.{AnswerLine, answer_line, answer_line_bytes, answer_bytes}
@@ -14,16 +12,17 @@ use Rattle.pv_model.specs.Answer.{answer}
 use Rattle.pv_model.specs.Answers.Needs.{Judged, asked_by, same_promise}
 use Rattle.pv_model.specs.Answers.Numbers.{Numbers}
 use Rattle.pv_model.specs.Answers.Observed.{Observation, is_pledge}
-use Rattle.pv_model.specs.Answers.Policy.{Granted, Request, entries_held, idle_line, idle_permission_line, is_none_of, is_promised, is_restricted_call, permissions_text, permissions_used, promises_in_use, same_need}
+use Rattle.pv_model.specs.Answers.Policy.{Granted, Request, entries_held, idle_line, idle_permission_line, is_none_of, is_promised, is_restricted_call, permissions_text, permissions_used, promises_in_use}
 use Rattle.pv_model.specs.Answers.ProgramNames.{program_line, program_numbers}
 use Rattle.pv_model.specs.Bytes.{Bytes}
-use Rattle.pv_model.specs.Needs.{needs, needs_of_open}
+use Rattle.pv_model.specs.Needs.{needs}
 use Rattle.pv_model.specs.Perms.{join_permissions, no_permissions}
 use Rattle.pv_model.specs.Promise.{promise_bit, promise_name}
-use Rattle.pv_model.specs.Promises.{Need, Promises}
+use Rattle.pv_model.specs.Promises.{Promises}
 use Rattle.pv_model.specs.Grammar.Programs.{program_of}
 use Rattle.pv_model.specs.State.{Process, Program, State}
 use Rattle.pv_model.specs.Tree.{Tree}
+use Rattle.pv_needs.specs.Asking.{either_need, has_need, promises_of}
 use Rattle.pv_policy.specs.Groups
 
 -- ---- a call
@@ -78,14 +77,8 @@ pub record UsedPromise : Type 0 where
   pub needed : Bool
   pub held : Bool
 
-abbrev pub has_need : Need → Call → Bool
-has_need need call = list_any (same_need need) (needs call)
-
 abbrev pub has_promise : Promise → Call → Bool
 has_promise p call = list_any (list_any (same_promise p)) (needs call)
-
-abbrev pub either_need : Need
-either_need = Rpath ∷ Wpath ∷ []
 
 abbrev pub is_rpath : Promise → Bool
 is_rpath p = promise_bit p == 1
@@ -111,13 +104,6 @@ promise_by needed either n u = record u {
   needed = u.needed || list_any (same_promise u.promise) needed;
   held = u.held || is_held n.pledged n.call u.promise;
 }
-
--- the promises that a call needs, alone or not
-abbrev pub promises_of : Call → List Promise
-promises_of call = flat_map (λ need. need) (needs call)
-
-abbrev pub promises_of_open : OpenFlags → List Promise
-promises_of_open flags = flat_map (λ need. need) (needs_of_open flags)
 
 abbrev pub promise_more : Noted → UsedPromise → UsedPromise
 promise_more n u = promise_by (promises_of n.call) (has_need either_need n.call) n u

@@ -3,18 +3,17 @@ ghost use Rattle.std.specs.Prelude.{◌≡◌, ◌<◌, [], length, map, option_
 ghost use Rattle.pv_calls_path.specs.Ends.{end_begun};
 ghost use Rattle.pv_laws_states.specs.States.{IsValid};
 ghost use Rattle.pv_model.specs.Answers.Nodes.{target_words as words_of_target};
-ghost use Rattle.pv_model.specs.Answers.Observed.{is_unveil};
 ghost use Rattle.pv_model.specs.Answers.Policy.{place_of};
 ghost use Rattle.pv_model.specs.Calls.Restraints.{entries_of_table};
 ghost use Rattle.pv_model.specs.CallRef.{call_of, walk_of, walks_in};
 ghost use Rattle.pv_model.specs.State.{Process, process_at};
 ghost use Rattle.pv_model.specs.Tree.{is_directory_at};
-ghost use Rattle.pv_policy.specs.Asked.{Has, HasMore, begun_walk, begun_walks, entry_granted, used_in, walks_begun};
+ghost use Rattle.pv_needs.specs.Asking.{begun_walks, judged_begun, walks_begun};
+ghost use Rattle.pv_policy.specs.Asked.{Has, HasMore, entry_granted, used_in};
 ghost use Rattle.pv_unveil.specs.Up.{directory_of};
 
 use crate::noted::{AskedWalk, Granted};
-use crate::text::text_of;
-use pv_answers::TargetWords;
+use pv_answers::{TargetWords, is_unveil, text_of};
 use pv_calls_path::ends::end_of;
 use pv_calls_path::unveil::target_of;
 use pv_calls_state::Parts;
@@ -117,7 +116,7 @@ fn asked_walk(
 ) -> Result<Option<AskedWalk>, AllocError>
     requires whole { IsValid parts.now }
     requires live { IsSome (process_at parts.now pid) }
-    ensures { IfOk result (λ found. (me : Process) → process_at parts.now pid ≡ Some me → found ≡ begun_walk parts.now pid me (walk_of walk.entry)) }
+    ensures { IfOk result (λ found. (me : Process) → process_at parts.now pid ≡ Some me → found ≡ judged_begun parts.now pid me (walk_of walk.entry)) }
 {
     let Some(place) = end_of(parts, pid, walk) else {
         return Ok(None);
@@ -191,16 +190,6 @@ fn push_walks(
             push_walk(alloc, asked, parts, pid, first, count >= 1)?;
             push_walk(alloc, asked, parts, pid, second, count >= 2)
         }
-    }
-}
-
-/// Returns whether a call is an unveil(2), whose walk is not checked.
-pub(crate) fn is_unveil(call: CallRef<'_>) -> bool
-    ensures { result ≡ is_unveil (call_of call.entry) }
-{
-    match call {
-        CallRef::Unveil(_, _) => true,
-        _ => false,
     }
 }
 

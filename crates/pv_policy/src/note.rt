@@ -8,9 +8,10 @@ ghost use Rattle.pv_model.specs.Grammar.Programs.{program_of};
 ghost use Rattle.pv_model.specs.State.{Process, process_at};
 ghost use Rattle.pv_policy.specs.Usage.{and_call, noted_by, request_of};
 
-use crate::asked::{asked_by, entries_of, is_unveil};
+use crate::asked::{asked_by, entries_of};
 use crate::noted::{Granted, NotedCall};
 use crate::program_use::{ProgramUse, keep_call};
+use pv_answers::is_unveil;
 use pv_calls_state::Parts;
 use pv_model::CallRef;
 use pv_unveil::Table;

@@ -4,7 +4,7 @@ ghost use Rattle.pv_explore.specs.Visiting.{found_of};
 ghost use Rattle.pv_laws_states.specs.States.{IsValid};
 ghost use Rattle.pv_model.specs.declared.call.Call.{Call};
 ghost use Rattle.pv_model.specs.Answer.{answer};
-ghost use Rattle.pv_model.specs.Answers.Explore.{Found, is_complete, states_line, witness_text};
+ghost use Rattle.pv_model.specs.Answers.Explore.{Found, is_complete, witness_text};
 ghost use Rattle.pv_model.specs.Answers.Lines.{answer_bytes, answer_line, answer_line_bytes};
 ghost use Rattle.pv_model.specs.Answers.Policy.{policy_lines};
 ghost use Rattle.pv_model.specs.Grammar.Programs.{program_of};
@@ -43,11 +43,20 @@ fn by_bytes(alloc: Global, witness: &[u32], pid: u32) -> Result<Vec<u8>, AllocEr
 }
 
 // Returns the number of walks that the next call of a process in a visited state begins.
-fn walks_from(alloc: Global, visited: VisitedState, pid: u32) -> Result<u8, StepFault>
-    ensures { IfOk result (λ walks. (me : Process) (call : Call) → process_at visited.machine pid ≡ Some me → next me ≡ calls_for call → walks ≡ (answer program_of visited.machine pid call).walks) }
+fn walks_from(
+    alloc: Global,
+    visits: &mut SearchedStates<'_>,
+    visited: VisitedState,
+    pid: u32,
+) -> Result<u8, StepFault>
+    ensures unchanged { visits.new ≡ visits.old }
+    ensures walks { IfOk result (λ walks. (me : Process) (call : Call) → process_at visited.machine pid ≡ Some me → next me ≡ calls_for call → walks ≡ (answer program_of visited.machine pid call).walks) }
 {
     let VisitedState { machine, .. } = visited;
-    walks_of_call(alloc, &mut machine.into_session(), pid)
+    let mut session = machine.into_session();
+    let walks = walks_of_call(alloc, &mut session, pid)?;
+    visits.take_back(session);
+    Ok(walks)
 }
 
 // Returns the number of walks that the next call of a process in visited state `number` begins.
@@ -61,7 +70,7 @@ fn walks_at(
     ensures walks { IfOk result (λ walks. (f : Found) (me : Process) (call : Call) → slice_get visits.old.found number ≡ Some f → process_at f.state pid ≡ Some me → next me ≡ calls_for call → walks ≡ (answer program_of f.state pid call).walks) }
 {
     match visits.at(alloc, number)? {
-        Some(visited) => walks_from(alloc, visited, pid),
+        Some(visited) => walks_from(alloc, visits, visited, pid),
         None => Ok(0),
     }
 }
@@ -164,17 +173,6 @@ fn collect(alloc: Global, visits: &mut SearchedStates<'_>) -> Result<Vec<Program
     Ok(programs)
 }
 
-// Returns the line DONE.
-fn done_bytes(alloc: Global, count: usize, complete: bool) -> Result<Vec<u8>, AllocError>
-    ensures { IfOk result (λ bytes. bytes.items ≡ answer_line_bytes (states_line count complete)) }
-{
-    let mut text = Gathered::new(alloc);
-    match write_states(&mut text, count, complete) {
-        Ok(()) => Ok(text.bytes),
-        Err(_) => Err(AllocError),
-    }
-}
-
 // Returns the lines of a search.
 fn bytes_of(
     alloc: Global,
@@ -186,35 +184,12 @@ fn bytes_of(
 {
     let programs = collect(alloc, visits)?;
     let complete = visits.is_complete();
-    let mut lines = Vec::new(alloc);
-    push_programs(alloc, &mut lines, tree, complete, &programs)?;
-    let done = done_bytes(alloc, visits.len(), complete)?;
-    lines.extend_from_slice(&done)?;
-    Ok(lines)
-}
-
-// The lines of a search, and whether the visited states are all.
-#[derive(Drop)]
-struct PolicyText {
-    lines: Vec<u8>,
-    complete: bool,
-}
-
-// Returns the lines of the search of a machine.
-fn policy_text<P: Progress>(
-    alloc: Global,
-    first_machine: &FirstMachine,
-    states: u32,
-    progress: &mut P,
-) -> Result<PolicyText, StepFault>
-    requires { 1 ≤ states }
-    ensures lines { IfOk result (λ text. text.lines.items ≡ answer_bytes (policy_lines program_of states first_machine.now)) }
-    ensures complete { IfOk result (λ text. text.complete ≡ is_complete program_of states first_machine.now) }
-{
-    let mut visits = SearchedStates::search(alloc, first_machine, states, progress)?;
-    let lines = bytes_of(alloc, first_machine.tree(), &mut visits)?;
-    let complete = visits.is_complete();
-    Ok(PolicyText { lines, complete })
+    let mut out = Gathered::new(alloc);
+    push_programs(alloc, &mut out, tree, complete, &programs)?;
+    match write_states(&mut out, visits.len(), complete) {
+        Ok(()) => Ok(out.bytes),
+        Err(_) => Err(StepFault::NoMemory),
+    }
 }
 
 /// Writes what each program needs of its sandbox under any schedule, and what it holds and never uses. The search visits
@@ -249,7 +224,8 @@ pub fn write_policy<W: Sink, P: Progress>(
     ensures written { WritesOr W.Sink FailsBy (answer_bytes (policy_lines program_of states first_machine.now)) out.old out.new result }
     ensures complete { IfOk result (λ complete. complete ≡ is_complete program_of states first_machine.now) }
 {
-    let text = policy_text(alloc, first_machine, states, progress)?;
-    write_whole(out, &text.lines)?;
-    Ok(text.complete)
+    let mut visits = SearchedStates::search(alloc, first_machine, states, progress)?;
+    let lines = bytes_of(alloc, first_machine.tree(), &mut visits)?;
+    write_whole(out, &lines)?;
+    Ok(visits.is_complete())
 }

@@ -3,17 +3,17 @@ ghost use Rattle.std.specs.Prelude.{◌≡◌, ◌&&◌, map, not, option_copied
 ghost use Rattle.std.specs.List.{list_any};
 ghost use Rattle.std.specs.Option.{option_or};
 ghost use Rattle.pv_model.specs.Answers.Needs.{same_promise};
-ghost use Rattle.pv_model.specs.Answers.Observed.{is_pledge};
-ghost use Rattle.pv_model.specs.Answers.Policy.{promises_in_use, same_need};
+ghost use Rattle.pv_model.specs.Answers.Policy.{promises_in_use};
 ghost use Rattle.pv_model.specs.CallRef.{call_of};
-ghost use Rattle.pv_model.specs.Needs.{needs_of_open};
 ghost use Rattle.pv_policy.specs.Noting.{bytes_in, noted_in};
-ghost use Rattle.pv_policy.specs.Usage.{either_need, first_bytes, has_need, is_held, need_bytes, promise_by, promise_more, promises_of, promises_of_open, unused_promise};
+ghost use Rattle.pv_policy.specs.Usage.{first_bytes, is_held, need_bytes, promise_by, promise_more, unused_promise};
 ghost use Rattle.pv_promises.specs.Pledge.{bits_of};
 
 use crate::noted::NotedCall;
 use crate::text::need_lines;
-use pv_model::{CallRef, Mode, OpenFlags, Promise, Promises};
+use pv_answers::is_pledge;
+use pv_model::{CallRef, Promise, Promises};
+use pv_needs::{needs_either, promises_of};
 use pv_promises::has;
 use std::alloc::{AllocError, Global};
 use std::marker::Model;
@@ -41,98 +41,11 @@ impl Model for PromiseUse {
     ghost view = { λ u. record { promise = u.promise; alone = bytes_in u.alone; either = bytes_in u.either; needed = u.needed; held = u.held } };
 }
 
-// Returns the promises that an open needs.
-fn needed_to_open(flags: OpenFlags) -> &'static [Promise]
-    ensures { result.now ≡ promises_of_open flags }
-{
-    match (flags.mode, flags.create) {
-        (Mode::Read, false) => &[Promise::Rpath],
-        (Mode::Read, true) => &[Promise::Rpath, Promise::Cpath],
-        (Mode::Write, false) => &[Promise::Wpath],
-        (Mode::Write, true) => &[Promise::Wpath, Promise::Cpath],
-        (Mode::ReadWrite, false) => &[Promise::Rpath, Promise::Wpath],
-        (Mode::ReadWrite, true) => &[Promise::Rpath, Promise::Wpath, Promise::Cpath],
-    }
-}
-
-// Returns the promises that a call needs, or the two of which it needs either.
-#[tactic(auto, unfolding(pv_model::specs::Needs::needs))]
-fn promises_needed(call: CallRef<'_>) -> &'static [Promise]
-    ensures { result.now ≡ promises_of (call_of call.entry) }
-{
-    match call {
-        CallRef::Exit(_) | CallRef::Pledge(_, _) => &[],
-        CallRef::Fork => &[Promise::Proc],
-        CallRef::Execve(_) => &[Promise::Exec],
-        CallRef::Unveil(_, _) => &[Promise::Unveil],
-        CallRef::Open(_, flags) | CallRef::OpenAt(_, _, flags) => needed_to_open(flags),
-        CallRef::Chdir(_) => &[Promise::Rpath],
-        CallRef::Stat(_) | CallRef::Lstat(_) | CallRef::Readlink(_) => {
-            &[Promise::Rpath, Promise::Wpath]
-        }
-        CallRef::Mkdir(_)
-        | CallRef::Symlink(_, _)
-        | CallRef::Link(_, _)
-        | CallRef::Unlink(_)
-        | CallRef::Rmdir(_)
-        | CallRef::Rename(_, _) => &[Promise::Cpath],
-        CallRef::GetPid
-        | CallRef::GetPpid
-        | CallRef::Wait
-        | CallRef::Close(_)
-        | CallRef::Dup(_)
-        | CallRef::Dup2(_, _)
-        | CallRef::Read(_, _)
-        | CallRef::Write(_, _)
-        | CallRef::Lseek(_, _, _)
-        | CallRef::Fstat(_)
-        | CallRef::Ftruncate(_, _)
-        | CallRef::Getdents(_)
-        | CallRef::Fchdir(_) => &[Promise::Stdio],
-    }
-}
-
-// Returns whether an open needs either of rpath and wpath: it never does.
-fn open_needs_either(flags: OpenFlags) -> bool
-    ensures { result ≡ list_any (same_need either_need) (needs_of_open flags) }
-{
-    match (flags.mode, flags.create) {
-        (Mode::Read, false) => false,
-        (Mode::Read, true) => false,
-        (Mode::Write, false) => false,
-        (Mode::Write, true) => false,
-        (Mode::ReadWrite, false) => false,
-        (Mode::ReadWrite, true) => false,
-    }
-}
-
-// Returns whether a call needs either of rpath and wpath.
-#[tactic(auto, unfolding(pv_model::specs::Needs::needs))]
-fn needs_either(call: CallRef<'_>) -> bool
-    ensures { result ≡ has_need either_need (call_of call.entry) }
-{
-    match call {
-        CallRef::Open(_, flags) | CallRef::OpenAt(_, _, flags) => open_needs_either(flags),
-        CallRef::Stat(_) | CallRef::Lstat(_) | CallRef::Readlink(_) => true,
-        _ => false,
-    }
-}
-
 // Returns whether a promise is among some promises.
 fn is_among(promise: Promise, promises: &[Promise]) -> bool
     ensures { result ≡ list_any (same_promise promise) promises.now }
 {
     promises.iter().any(|other| promise.bit() == other.bit())
-}
-
-// Returns whether a call is a pledge(2).
-fn is_pledge(call: CallRef<'_>) -> bool
-    ensures { result ≡ is_pledge (call_of call.entry) }
-{
-    match call {
-        CallRef::Pledge(_, _) => true,
-        _ => false,
-    }
 }
 
 // Returns whether a call other than pledge(2) is made with a promise, by a process that is pledged.
@@ -257,7 +170,7 @@ pub(crate) fn add_call(
 ) -> Result<(), AllocError>
     ensures { OnOk result (uses.new ≡ map (promise_more (noted_in call.now)) uses.old) }
 {
-    let needed = promises_needed(call.call);
+    let needed = promises_of(call.call);
     add_to_each(alloc, uses, call, needed, needs_either(call.call))
 }
 

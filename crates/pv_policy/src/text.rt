@@ -4,25 +4,9 @@ ghost use Rattle.pv_model.specs.Answers.Lines.{answer_line, answer_line_bytes};
 ghost use Rattle.pv_model.specs.Answers.Policy.{permissions_text};
 ghost use Rattle.pv_policy.specs.Usage.{need_bytes, new_bytes};
 
-use pv_answers::{Decimal, Fragment, Letters, Line, Plain};
+use pv_answers::{Decimal, Letters, Line, Plain, text_of};
 use pv_model::Perms;
-use pv_streams::Gathered;
 use std::alloc::{AllocError, Global};
-
-/// Returns the bytes of a fragment.
-///
-/// # Errors
-///
-/// `AllocError`, if there is no memory.
-pub(crate) fn text_of<P: Fragment>(alloc: Global, fragment: &P) -> Result<Vec<u8>, AllocError>
-    ensures { IfOk result (λ bytes. bytes.items ≡ P.text fragment.now) }
-{
-    let mut text = Gathered::new(alloc);
-    match fragment.write(&mut text) {
-        Ok(()) => Ok(text.bytes),
-        Err(_) => Err(AllocError),
-    }
-}
 
 /// Returns the lines of a call with a need: its line BY, which is given, and the need.
 ///

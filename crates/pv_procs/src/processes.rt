@@ -156,6 +156,14 @@ impl Processes {
         number_after(&self.slots, last)
     }
 
+    /// Returns the last number that was assigned to a process.
+    pub fn last_number(&self) -> u32
+        ensures { result ≡ self.now.last_process }
+    {
+        let Processes { last, .. } = self;
+        *last
+    }
+
     /// Returns the parent of a zombie, or 0 if it has no parent, and its exit status.
     pub fn ended(&self, pid: u32) -> Option<(u32, u32)>
         ensures { result ≡ ended_process (find nat_cmp pid self.now.processes) }

@@ -1,21 +1,17 @@
 //! The line of a program.
-ghost use Rattle.std.specs.Prelude.{◌≡◌, ◌++◌, codes, decimal, option_map};
+ghost use Rattle.std.specs.Prelude.{◌≡◌, ◌++◌, codes, decimal, option_map, OnOk};
 ghost use Rattle.pv_model.specs.Answers.Lines.{answer_line, answer_line_bytes};
 ghost use Rattle.pv_model.specs.Answers.ProgramNames.{program_line};
 ghost use Rattle.pv_model.specs.Grammar.Programs.{program_of};
 ghost use Rattle.pv_model.specs.Listing.{listed_path};
 ghost use Rattle.pv_programs.specs.Naming.{path_words};
-ghost use Rattle.pv_session.specs.Running.{FailsBy};
-ghost use Rattle.pv_streams.specs.Sinks.{Writes, WritesOr};
 
 use crate::naming::path_of_program;
-use itoa::Buffer;
-use pv_answers::{Fragment, Line, Plain, Quoted};
+use pv_answers::{Count, Fragment, Line, Plain, Quoted, append};
 use pv_script::Program;
-use pv_session::Stop;
-use pv_streams::{Failed, Sink};
+use pv_streams::{Failed, Gathered, Sink};
 use pv_tree::Tree;
-use std::alloc::Global;
+use std::alloc::{AllocError, Global};
 
 // Returns a path as a listing has it: the path of the root is a slash.
 fn listed(path: &[u8]) -> &[u8]
@@ -39,8 +35,7 @@ impl<'a> Fragment for Named<'a> {
     ghost text = { λ p. decimal p.number ++ codes ", " ++ path_words (option_copied p.path) };
 
     fn write<W: Sink>(&self, out: &mut W) -> Result<(), Failed> {
-        let mut buffer = Buffer::new();
-        let number = Plain(buffer.format(self.number).as_bytes());
+        let number = Count(self.number as u64);
         match self.path {
             Some(path) => (number, Plain(b", "), Quoted(listed(path))).write(out),
             None => (number, Plain(b", "), Plain(b"no file")).write(out),
@@ -48,10 +43,10 @@ impl<'a> Fragment for Named<'a> {
     }
 }
 
-// Writes the line of a program, given the path of its file.
+// Appends the line of a program, given the path of its file.
 #[tactic(auto, unfolding(pv_model::specs::Trace::text_line))]
-fn write_named<W: Sink>(out: &mut W, number: usize, path: &Option<Vec<u8>>) -> Result<(), Failed>
-    ensures { Writes W.Sink (answer_line_bytes (answer_line 0 (codes "PROG") (decimal number ++ codes ", " ++ path_words (option_map (λ p. p.items) path.now)))) out.old out.new result }
+fn append_named(out: &mut Gathered, number: usize, path: &Option<Vec<u8>>) -> Result<(), AllocError>
+    ensures { OnOk result (out.new.bytes.items ≡ out.old.bytes.items ++ answer_line_bytes (answer_line 0 (codes "PROG") (decimal number ++ codes ", " ++ path_words (option_map (λ p. p.items) path.now)))) }
 {
     let path = match path {
         Some(path) => Some(path.as_slice()),
@@ -62,27 +57,24 @@ fn write_named<W: Sink>(out: &mut W, number: usize, path: &Option<Vec<u8>>) -> R
         word: *b"PROG",
         text: Named { number, path },
     };
-    line.write(out)
+    append(out, &line)
 }
 
-/// Writes the line PROG of a program: its number, and the path of the first executable file of a tree that parses as it,
-/// in the order of a listing, or `no file`.
+/// Appends the line PROG of a program: its number, and the path of the first executable file of a tree that parses as
+/// it, in the order of a listing, or `no file`.
 ///
 /// # Errors
 ///
-/// - `Memory`, if there is no memory. Nothing was written.
-/// - `Write`, if a write failed. The sink received a prefix of the line.
-pub fn write_program<W: Sink>(
+/// `AllocError`, if there is no memory.
+pub fn append_program_line(
     alloc: Global,
+    out: &mut Gathered,
     tree: &Tree,
     number: usize,
     program: &Program,
-    out: &mut W,
-) -> Result<(), Stop>
-    ensures { WritesOr W.Sink FailsBy (answer_line_bytes (program_line program_of tree.now.tree number program.now)) out.old out.new result }
+) -> Result<(), AllocError>
+    ensures { OnOk result (out.new.bytes.items ≡ out.old.bytes.items ++ answer_line_bytes (program_line program_of tree.now.tree number program.now)) }
 {
-    let Ok(path) = path_of_program(alloc, tree, program) else {
-        return Err(Stop::Memory);
-    };
-    Ok(write_named(out, number, &path)?)
+    let path = path_of_program(alloc, tree, program)?;
+    append_named(out, number, &path)
 }

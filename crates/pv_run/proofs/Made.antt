@@ -7,31 +7,36 @@ use Rattle.pv_model.specs.declared.run_fault.RunFault.TheVariants.{Read, Image, 
 use Rattle.pv_model.specs.Bytes.{Bytes}
 use Rattle.pv_model.specs.Grammar.Manifests.{Manifest, read_manifest, tree_of}
 use Rattle.pv_model.specs.Held.{named_tree}
-use Rattle.pv_model.specs.Image.{IsWrittenImageOf}
 use Rattle.pv_model.specs.RunFault.{of_manifest}
 use Rattle.pv_model.specs.Tree.{Tree}
 use Rattle.pv_image_manifest.specs.Reading.{RefusesManifest}
+use Rattle.pv_image_write.specs.Written.{WritesImage, WritesImageOf, BeginsImage as BeginsWrittenImage}
 use Rattle.pv_laws_trees.specs.Preserved.{EachIsNamed}
 use Rattle.pv_image.proofs.Named.{named_tree-all}
 use Rattle.pv_run.specs.Images.{BeginsImage, IsWriteFault, WrittenImage}
-use Rattle.pv_run.specs.Making.{HasBegunMaking, HasMade, AppearsInManifest, tree_made}
+use Rattle.pv_run.specs.Making.{AppearsInManifest, tree_made}
 
 -- ---- the checks of a manifest: its form and sizes, and then its entries
 
 module _ (bytes : Bytes) (written : Option Bytes) where
+  -- a check that fails
+  refuses : {X : Type 0} (checked : Result X ManifestFault) → ((f : ManifestFault) → checked ≡ Err f → tree_made bytes ≡ Err f) → (f : ManifestFault) (e : RunFault)
+      → e ≡ of_manifest f → RefusesManifest f checked → AppearsInManifest (tree_made bytes) written written e
+  refuses checked none (Form n) e is refused = rw is (none (Form n) refused, refl)
+  refuses checked none Size e is refused = rw is (none Size refused, refl)
+  refuses checked none (Parent n) e is refused = rw is (none (Parent n) refused, refl)
+  refuses checked none (Exists n) e is refused = rw is (none (Exists n) refused, refl)
+  refuses checked none (Source n) e is refused = rw is (none (Source n) refused, refl)
+  refuses checked none (Room n) e is refused = rw is (none (Room n) refused, refl)
+  refuses checked none ManifestMemory e is refused = rw is refl
+
   made-no_manifest : (f : ManifestFault) → read_manifest bytes ≡ Err f → tree_made bytes ≡ Err f
   unfolding tree_made
   made-no_manifest f invalid = rw invalid refl
 
   -- a manifest that is refused
   pub refuses_manifest : (f : ManifestFault) (e : RunFault) → e ≡ of_manifest f → RefusesManifest f (read_manifest bytes) → AppearsInManifest (tree_made bytes) written written e
-  refuses_manifest (Form n) e is refused = rw is (made-no_manifest (Form n) refused, refl)
-  refuses_manifest Size e is refused = rw is (made-no_manifest Size refused, refl)
-  refuses_manifest (Parent n) e is refused = rw is (made-no_manifest (Parent n) refused, refl)
-  refuses_manifest (Exists n) e is refused = rw is (made-no_manifest (Exists n) refused, refl)
-  refuses_manifest (Source n) e is refused = rw is (made-no_manifest (Source n) refused, refl)
-  refuses_manifest (Room n) e is refused = rw is (made-no_manifest (Room n) refused, refl)
-  refuses_manifest ManifestMemory e is refused = rw is refl
+  refuses_manifest = refuses (read_manifest bytes) made-no_manifest
 
   module _ (m : Manifest) (asked : read_manifest bytes ≡ Ok m) where
     pub made-tree : (t : Tree) → tree_of m ≡ Ok t → tree_made bytes ≡ Ok t
@@ -44,13 +49,7 @@ module _ (bytes : Bytes) (written : Option Bytes) where
 
     -- an entry that is refused
     pub refuses_tree : (f : ManifestFault) (e : RunFault) → e ≡ of_manifest f → RefusesManifest f (tree_of m) → AppearsInManifest (tree_made bytes) written written e
-    refuses_tree (Form n) e is refused = rw is (made-no_tree (Form n) refused, refl)
-    refuses_tree Size e is refused = rw is (made-no_tree Size refused, refl)
-    refuses_tree (Parent n) e is refused = rw is (made-no_tree (Parent n) refused, refl)
-    refuses_tree (Exists n) e is refused = rw is (made-no_tree (Exists n) refused, refl)
-    refuses_tree (Source n) e is refused = rw is (made-no_tree (Source n) refused, refl)
-    refuses_tree (Room n) e is refused = rw is (made-no_tree (Room n) refused, refl)
-    refuses_tree ManifestMemory e is refused = rw is refl
+    refuses_tree = refuses (tree_of m) made-no_tree
 
 -- ---- the image of the tree
 
@@ -58,29 +57,16 @@ module _ (made : Result Tree ManifestFault) (t u : Tree) (is : made ≡ Ok t) (n
   is_whole : named_tree u ≡ t
   is_whole = ap (λ (x : Tree). named_tree x) same ∙ named_tree-all t named
 
-  pub has_made : WrittenImage u before after → HasMade made before after
-  has_made as_written = record {
-    tree = t;
-    is_made = is;
-    image = as_written.image;
-    holds = subst (λ (x : Tree). IsWrittenImageOf as_written.image x) is_whole as_written.holds;
-    written = as_written.written;
-  }
-
-  pub has_begun_making : BeginsImage u before after → HasBegunMaking made before after
-  has_begun_making begun = record {
-    tree = t;
-    is_made = is;
-    image = begun.image;
-    holds = subst (λ (x : Tree). IsWrittenImageOf begun.image x) is_whole begun.holds;
-    written = begun.written;
-  }
+  -- the image that was made
+  pub made_whole : (result : Result (Unit {0}) RunFault) → OnOk result (WrittenImage u before after) → OnOk result (WritesImageOf (λ x. made ≡ Ok x) before after)
+  made_whole (Ok done) as_written = record { tree = t; is = is; image = subst (λ (x : Tree). WritesImage x before after) is_whole as_written }
+  made_whole (Err f) as_written = tt
 
   -- an image that was not written completely
   pub unmade : (result : Result (Unit {0}) RunFault) → IfErr result IsWriteFault → (result ≡ Err WriteImage → BeginsImage u before after) → (result ≡ Err Memory → after ≡ before)
       → IfErr result (AppearsInManifest made before after)
   unmade (Ok done) kind cut memory = tt
-  unmade (Err WriteImage) kind cut memory = has_begun_making (cut refl)
+  unmade (Err WriteImage) kind cut memory = record { tree = t; is = is; image = subst (λ (x : Tree). BeginsWrittenImage x before after) is_whole (cut refl) }
   unmade (Err Memory) kind cut memory = memory refl
   unmade (Err Read) kind cut memory = elim kind [ ]
   unmade (Err (Image f)) kind cut memory = elim kind [ ]
@@ -88,9 +74,3 @@ module _ (made : Result Tree ManifestFault) (t u : Tree) (is : made ≡ Ok t) (n
   unmade (Err (Schedule n)) kind cut memory = elim kind [ ]
   unmade (Err (Init n)) kind cut memory = elim kind [ ]
   unmade (Err WriteTrace) kind cut memory = elim kind [ ]
-
--- the image that was made, for any result
-pub made_whole : (made : Result Tree ManifestFault) (t u : Tree) → made ≡ Ok t → EachIsNamed t → u ≡ t → (before after : Option Bytes) → (result : Result (Unit {0}) RunFault)
-    → OnOk result (WrittenImage u before after) → OnOk result (HasMade made before after)
-made_whole made t u is named same before after (Ok done) written = has_made made t u is named same before after written
-made_whole made t u is named same before after (Err f) written = tt

@@ -53,6 +53,17 @@ module _ (t : Tree) (lines : List Bytes) where
 
 -- ---- the checks of a bundle: its manifest, and then the run on its tree
 
+-- a check of a manifest that fails
+pub refuses_checked : {X A : Type 0} (checked : Result X ManifestFault) (asked : Result A RunFault) → ((f : ManifestFault) → checked ≡ Err f → asked ≡ Err (of_manifest f))
+    → (f : ManifestFault) (e : RunFault) → e ≡ of_manifest f → RefusesManifest f checked → RefusesStart e asked
+refuses_checked checked asked none (Form n) e is refused = rw is (none (Form n) refused)
+refuses_checked checked asked none Size e is refused = rw is (none Size refused)
+refuses_checked checked asked none (Parent n) e is refused = rw is (none (Parent n) refused)
+refuses_checked checked asked none (Exists n) e is refused = rw is (none (Exists n) refused)
+refuses_checked checked asked none (Source n) e is refused = rw is (none (Source n) refused)
+refuses_checked checked asked none (Room n) e is refused = rw is (none (Room n) refused)
+refuses_checked checked asked none ManifestMemory e is refused = rw is tt
+
 module _ (bytes : Bytes) (m : Manifest) (asked : read_bundle bytes ≡ Ok m) where
   pub on_tree : (t : Tree) → tree_of m ≡ Ok t → bundle_started bytes ≡ started_on t m.listed.following
   unfolding bundle_started
@@ -64,13 +75,7 @@ module _ (bytes : Bytes) (m : Manifest) (asked : read_bundle bytes ≡ Ok m) whe
 
   -- an entry that is refused
   pub refuses_tree : (f : ManifestFault) (e : RunFault) → e ≡ of_manifest f → RefusesManifest f (tree_of m) → RefusesStart e (bundle_started bytes)
-  refuses_tree (Form n) e is refused = rw is (started-no_tree (Form n) refused)
-  refuses_tree Size e is refused = rw is (started-no_tree Size refused)
-  refuses_tree (Parent n) e is refused = rw is (started-no_tree (Parent n) refused)
-  refuses_tree (Exists n) e is refused = rw is (started-no_tree (Exists n) refused)
-  refuses_tree (Source n) e is refused = rw is (started-no_tree (Source n) refused)
-  refuses_tree (Room n) e is refused = rw is (started-no_tree (Room n) refused)
-  refuses_tree ManifestMemory e is refused = rw is tt
+  refuses_tree = refuses_checked (tree_of m) (bundle_started bytes) started-no_tree
 
 started-no_manifest : (bytes : Bytes) (f : ManifestFault) → read_bundle bytes ≡ Err f → bundle_started bytes ≡ Err (of_manifest f)
 unfolding bundle_started
@@ -78,13 +83,7 @@ started-no_manifest bytes f invalid = rw invalid refl
 
 -- a manifest that is refused
 pub refuses_manifest : (bytes : Bytes) (f : ManifestFault) (e : RunFault) → e ≡ of_manifest f → RefusesManifest f (read_bundle bytes) → RefusesStart e (bundle_started bytes)
-refuses_manifest bytes (Form n) e is refused = rw is (started-no_manifest bytes (Form n) refused)
-refuses_manifest bytes Size e is refused = rw is (started-no_manifest bytes Size refused)
-refuses_manifest bytes (Parent n) e is refused = rw is (started-no_manifest bytes (Parent n) refused)
-refuses_manifest bytes (Exists n) e is refused = rw is (started-no_manifest bytes (Exists n) refused)
-refuses_manifest bytes (Source n) e is refused = rw is (started-no_manifest bytes (Source n) refused)
-refuses_manifest bytes (Room n) e is refused = rw is (started-no_manifest bytes (Room n) refused)
-refuses_manifest bytes ManifestMemory e is refused = rw is tt
+refuses_manifest bytes = refuses_checked (read_bundle bytes) (bundle_started bytes) (started-no_manifest bytes)
 
 -- an error of a manifest or a schedule is an error of the start
 pub manifest_fault : (f : ManifestFault) (e : RunFault) → e ≡ of_manifest f → IsStartFault e
@@ -147,7 +146,7 @@ module _ (image schedule : Bytes) where
 
   -- an image that is refused
   pub refuses_image : (f : ImageFault) (e : RunFault) → e ≡ of_image f → (f ≡ ImageMemory) ⊎ (mounted image ≡ Err f) → RefusesStart e (image_started image schedule)
-  refuses_image ImageMemory e is why = rw is tt
+  refuses_image f e is (inl invalid) = rw (is ∙ ap of_image invalid) tt
   refuses_image Short e is (inr refused) = rw is (started-no_image Short refused)
   refuses_image Magic e is (inr refused) = rw is (started-no_image Magic refused)
   refuses_image ImageSize e is (inr refused) = rw is (started-no_image ImageSize refused)
@@ -155,40 +154,23 @@ module _ (image schedule : Bytes) where
   refuses_image (Block n) e is (inr refused) = rw is (started-no_image (Block n) refused)
   refuses_image (Dir n) e is (inr refused) = rw is (started-no_image (Dir n) refused)
   refuses_image (NoTree n) e is (inr refused) = rw is (started-no_image (NoTree n) refused)
-  refuses_image Short e is (inl invalid) = cc invalid
-  refuses_image Magic e is (inl invalid) = cc invalid
-  refuses_image ImageSize e is (inl invalid) = cc invalid
-  refuses_image (Inode n) e is (inl invalid) = cc invalid
-  refuses_image (Block n) e is (inl invalid) = cc invalid
-  refuses_image (Dir n) e is (inl invalid) = cc invalid
-  refuses_image (NoTree n) e is (inl invalid) = cc invalid
+  refuses_image ImageMemory e is (inr refused) = rw is tt
 
--- an error of the start on a tree is an error of the start
-pub start_fault : (f : RunFault) → IsFaultOnTree f → IsStartFault f
-start_fault (RunSchedule n) it = tt
-start_fault (RunInit n) it = tt
-start_fault RunMemory it = tt
-start_fault Read it = elim it [ ]
-start_fault (RunImage f) it = elim it [ ]
-start_fault (RunManifest f) it = elim it [ ]
-start_fault WriteTrace it = elim it [ ]
-start_fault WriteImage it = elim it [ ]
+-- an error of the start on a tree is one of more errors
+more_faults : (IsFault : RunFault → Type 0) → ((n : ℕ) → IsFault (RunSchedule n)) → ((n : ℕ) → IsFault (RunInit n)) → IsFault RunMemory → {A : Type 0} (result : Result A RunFault)
+    → IfErr result IsFaultOnTree → IfErr result IsFault
+more_faults IsFault schedule init memory (Ok done) it = tt
+more_faults IsFault schedule init memory (Err (RunSchedule n)) it = schedule n
+more_faults IsFault schedule init memory (Err (RunInit n)) it = init n
+more_faults IsFault schedule init memory (Err RunMemory) it = memory
+more_faults IsFault schedule init memory (Err Read) it = elim it [ ]
+more_faults IsFault schedule init memory (Err (RunImage f)) it = elim it [ ]
+more_faults IsFault schedule init memory (Err (RunManifest f)) it = elim it [ ]
+more_faults IsFault schedule init memory (Err WriteTrace) it = elim it [ ]
+more_faults IsFault schedule init memory (Err WriteImage) it = elim it [ ]
 
-pub image_fault : (f : RunFault) → IsFaultOnTree f → IsImageFault f
-image_fault (RunSchedule n) it = tt
-image_fault (RunInit n) it = tt
-image_fault RunMemory it = tt
-image_fault Read it = elim it [ ]
-image_fault (RunImage f) it = elim it [ ]
-image_fault (RunManifest f) it = elim it [ ]
-image_fault WriteTrace it = elim it [ ]
-image_fault WriteImage it = elim it [ ]
+pub start_faults : {A : Type 0} (result : Result A RunFault) → IfErr result IsFaultOnTree → IfErr result IsStartFault
+start_faults = more_faults IsStartFault (λ n. tt) (λ n. tt) tt
 
--- the same for results
-pub start_faults : {A : Type 0} → (result : Result A RunFault) → IfErr result IsFaultOnTree → IfErr result IsStartFault
-start_faults (Ok done) it = tt
-start_faults (Err f) it = start_fault f it
-
-pub image_faults : {A : Type 0} → (result : Result A RunFault) → IfErr result IsFaultOnTree → IfErr result IsImageFault
-image_faults (Ok done) it = tt
-image_faults (Err f) it = image_fault f it
+pub image_faults : {A : Type 0} (result : Result A RunFault) → IfErr result IsFaultOnTree → IfErr result IsImageFault
+image_faults = more_faults IsImageFault (λ n. tt) (λ n. tt) tt

@@ -41,12 +41,6 @@ abbrev pub IsListFault : ListFault → Type 0
 IsListFault (Image ImageMemory) = ⊥
 IsListFault fault = ⊤
 
--- the possible errors of reading an image that do not depend on its bytes
-abbrev pub IsReadOrOutOfMemory : ListFault → Type 0
-IsReadOrOutOfMemory Read = ⊤
-IsReadOrOutOfMemory Memory = ⊤
-IsReadOrOutOfMemory fault = ⊥
-
 -- nothing was written, unless there was no memory or a write failed
 abbrev pub WritesNothingUnlessBegun : Option Bytes → Option Bytes → ListFault → Type 0
 WritesNothingUnlessBegun before after Memory = ⊤

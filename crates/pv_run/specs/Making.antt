@@ -8,36 +8,19 @@ use Rattle.pv_model.specs.declared.stream.Sink.{Ghosts as Writing}
 use Rattle.pv_model.specs.declared.stream.Source.{Ghosts as Reading}
 use Rattle.pv_model.specs.Bytes.{Bytes}
 use Rattle.pv_model.specs.Grammar.Manifests.{read_manifest, tree_of}
-use Rattle.pv_model.specs.Image.{IsWrittenImageOf}
 use Rattle.pv_model.specs.Start.{and_then}
 use Rattle.pv_model.specs.Stream.{Rose}
 use Rattle.pv_model.specs.Tree.{Tree}
-use Rattle.pv_streams.specs.Sinks.{and_all, WritesPrefix}
 use Rattle.pv_streams.specs.Sources.{FailsToGive}
+use Rattle.pv_image_write.specs.Written.{WritesImageOf, BeginsImageOf}
 
 -- the tree that a manifest makes: its form and sizes are checked first, then its entries
 unfoldable pub tree_made : Bytes → Result Tree ManifestFault
 tree_made bytes = and_then (λ fault. fault) (read_manifest bytes) (λ manifest. tree_of manifest)
 
--- the output grew by bytes that hold exactly this tree
-pub record HasMade (made : Result Tree ManifestFault) (before after : Option Bytes) : Type 0 where
-  pub tree : Tree
-  pub is_made : made ≡ Ok tree
-  pub image : Bytes
-  pub holds : IsWrittenImageOf image tree
-  pub written : after ≡ and_all before image
-
--- a prefix of bytes that hold this tree was written
-pub record HasBegunMaking (made : Result Tree ManifestFault) (before after : Option Bytes) : Type 0 where
-  pub tree : Tree
-  pub is_made : made ≡ Ok tree
-  pub image : Bytes
-  pub holds : IsWrittenImageOf image tree
-  pub written : WritesPrefix image before after
-
 -- the manifest is refused and nothing was written; or a write failed, and a prefix of the image was written
 abbrev pub AppearsInManifest : Result Tree ManifestFault → Option Bytes → Option Bytes → RunFault → Type 0
-AppearsInManifest made before after WriteImage = HasBegunMaking made before after
+AppearsInManifest made before after WriteImage = BeginsImageOf (λ t. made ≡ Ok t) before after
 AppearsInManifest made before after (Manifest fault) = (made ≡ Err fault) × (after ≡ before)
 AppearsInManifest made before after fault = after ≡ before
 
@@ -59,7 +42,7 @@ WritesNothingUnlessWritten before after fault = after ≡ before
 -- that a read failed
 pub record MakesGiven {W : Type 0} (sink : Writing W) (given : (Bytes → Type 0) → Type 0) (Unread : Type 0) (old new : W) (result : Result (Unit {0}) RunFault) : Type 0 where
   -- success: the sink received exactly bytes that hold the manifest's tree
-  pub made : OnOk result (given (λ bytes. HasMade (tree_made bytes) (sink.written old) (sink.written new)))
+  pub made : OnOk result (given (λ bytes. WritesImageOf (λ t. tree_made bytes ≡ Ok t) (sink.written old) (sink.written new)))
   -- failure: the error is the first of the bytes, or the image could not be written completely
   pub refused : IfErr result (λ fault. given (λ bytes. AppearsInManifest (tree_made bytes) (sink.written old) (sink.written new) fault))
   pub kind : IfErr result IsMakeFault

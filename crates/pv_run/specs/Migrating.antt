@@ -6,30 +6,13 @@ use Rattle.pv_model.specs.declared.store_fault.MigrateFault.TheVariants.{Image, 
 use Rattle.pv_model.specs.declared.stream.Sink.{Ghosts as Writing}
 use Rattle.pv_model.specs.declared.stream.Source.{Ghosts as Reading}
 use Rattle.pv_model.specs.Bytes.{Bytes}
-use Rattle.pv_model.specs.Image.{IsWrittenImageOf}
 use Rattle.pv_model.specs.Stream.{Rose}
 use Rattle.pv_model.specs.Tree.{Tree}
 use Rattle.pv_image.specs.Migrated.{migrated}
-use Rattle.pv_streams.specs.Sinks.{and_all, WritesPrefix}
 use Rattle.pv_streams.specs.Sources.{FailsToGive}
+use Rattle.pv_image_write.specs.Written.{WritesImageOf, BeginsImageOf}
 use Rattle.pv_run.specs.declared.migrating.MigrateStop.{MigrateStop}
 use Rattle.pv_run.specs.declared.migrating.MigrateStop.TheVariants.{Read, Refused, Write}
-
--- the output grew by bytes that hold exactly the migrated tree
-pub record HasMigrated (new : Result Tree MigrateFault) (before after : Option Bytes) : Type 0 where
-  pub tree : Tree
-  pub is_new : new ≡ Ok tree
-  pub image : Bytes
-  pub holds : IsWrittenImageOf image tree
-  pub written : after ≡ and_all before image
-
--- a prefix of bytes that hold this tree was written
-pub record HasBegunMigrating (new : Result Tree MigrateFault) (before after : Option Bytes) : Type 0 where
-  pub tree : Tree
-  pub is_new : new ≡ Ok tree
-  pub image : Bytes
-  pub holds : IsWrittenImageOf image tree
-  pub written : WritesPrefix image before after
 
 -- the old image or the sizes are refused and nothing was written; or a write failed, and a prefix of the new image was
 -- written
@@ -37,18 +20,12 @@ abbrev pub AppearsInOldImage : Result Tree MigrateFault → Option Bytes → Opt
 AppearsInOldImage new before after Read = after ≡ before
 AppearsInOldImage new before after (Refused Memory) = after ≡ before
 AppearsInOldImage new before after (Refused fault) = (new ≡ Err fault) × (after ≡ before)
-AppearsInOldImage new before after Write = HasBegunMigrating new before after
+AppearsInOldImage new before after Write = BeginsImageOf (λ t. new ≡ Ok t) before after
 
 -- the reasons why an image is not migrated; out of memory is not nested in another error
 abbrev pub IsMigrateStop : MigrateStop → Type 0
 IsMigrateStop (Refused (Image ImageMemory)) = ⊥
 IsMigrateStop stop = ⊤
-
--- the possible errors of reading an image that do not depend on its bytes
-abbrev pub IsReadOrNoMemory : MigrateStop → Type 0
-IsReadOrNoMemory Read = ⊤
-IsReadOrNoMemory (Refused Memory) = ⊤
-IsReadOrNoMemory stop = ⊥
 
 -- nothing was written, unless a write failed
 abbrev pub WritesNothingUnlessBroken : Option Bytes → Option Bytes → MigrateStop → Type 0
@@ -59,7 +36,7 @@ WritesNothingUnlessBroken before after stop = after ≡ before
 pub record MigratesGiven {W : Type 0} (sink : Writing W) (blocks inodes : ℕ) (given : (Bytes → Type 0) → Type 0) (Unread : Type 0) (old new : W)
     (result : Result (Unit {0}) MigrateStop) : Type 0 where
   -- success: the sink received exactly bytes that hold the migrated tree
-  pub made : OnOk result (given (λ bytes. HasMigrated (migrated bytes blocks inodes) (sink.written old) (sink.written new)))
+  pub made : OnOk result (given (λ bytes. WritesImageOf (λ t. migrated bytes blocks inodes ≡ Ok t) (sink.written old) (sink.written new)))
   -- failure: the error is the first of the bytes and the sizes, or the new image could not be written completely
   pub refused : IfErr result (λ stop. given (λ bytes. AppearsInOldImage (migrated bytes blocks inodes) (sink.written old) (sink.written new) stop))
   pub kind : IfErr result IsMigrateStop

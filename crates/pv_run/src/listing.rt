@@ -1,8 +1,6 @@
 //! Listings of images.
-ghost use Rattle.std.specs.Prelude.{◌≡◌, IfOk, IfErr, IfSome, Err};
 ghost use Rattle.pv_model.specs.Listing.{listing};
-ghost use Rattle.pv_streams.specs.Sources.{FailsToGive};
-ghost use Rattle.pv_run.specs.Listings.{IsReadOrOutOfMemory, ListsGiven, ListsImage, WritesFlushed};
+ghost use Rattle.pv_run.specs.Listings.{ListsGiven, ListsImage, WritesFlushed};
 
 use pv_image_mount::mount;
 use pv_listing::{ListStop, write_listing};
@@ -10,19 +8,6 @@ use pv_model::{ListFault, RunFault};
 use pv_streams::{Sink, Source, read_whole};
 use pv_tree::Tree;
 use std::alloc::Global;
-
-// Reads an image to its end.
-fn read_image<S: Source>(alloc: Global, image: &mut S) -> Result<Vec<u8>, ListFault>
-    ensures whole { IfOk result (λ bytes. IfSome (S.remaining image.old) (λ all. all ≡ bytes.items)) }
-    ensures read { result ≡ Err ListFault.Read → FailsToGive S.Source image.old image.new }
-    ensures fault { IfErr result IsReadOrOutOfMemory }
-{
-    match read_whole(alloc, image) {
-        Ok(bytes) => Ok(bytes),
-        Err(RunFault::Read) => Err(ListFault::Read),
-        Err(_) => Err(ListFault::Memory),
-    }
-}
 
 // Writes the listing of a tree, and flushes it.
 #[tactic(auto, using(pv_streams::proofs::Sinks::begins_whole))]
@@ -72,6 +57,10 @@ fn list_bytes<W: Sink>(alloc: Global, bytes: Vec<u8>, out: &mut W) -> Result<(),
 pub fn list<S: Source, W: Sink>(alloc: Global, image: &mut S, out: &mut W) -> Result<(), ListFault>
     ensures { ListsImage S.Source W.Sink image.old image.new out.old out.new result }
 {
-    let bytes = read_image(alloc, image)?;
+    let bytes = match read_whole(alloc, image) {
+        Ok(bytes) => bytes,
+        Err(RunFault::Read) => return Err(ListFault::Read),
+        Err(_) => return Err(ListFault::Memory),
+    };
     list_bytes(alloc, bytes, out)
 }

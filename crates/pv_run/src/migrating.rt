@@ -1,7 +1,5 @@
 //! Migration of images from version 1 to version 2.
-ghost use Rattle.std.specs.Prelude.{◌≡◌, IfOk, IfErr, IfSome, Err};
-ghost use Rattle.pv_streams.specs.Sources.{FailsToGive};
-ghost use Rattle.pv_run.specs.Migrating.{IsReadOrNoMemory, MigratesGiven, MigratesImage};
+ghost use Rattle.pv_run.specs.Migrating.{MigratesGiven, MigratesImage};
 
 use pv_image::{MigratingStop, write_migrated};
 use pv_model::{MigrateFault, RunFault};
@@ -28,19 +26,6 @@ impl fmt::Display for MigrateStop {
             Self::Refused(fault) => write!(f, "{fault}"),
             Self::Write => write!(f, "write"),
         }
-    }
-}
-
-// Reads an image to its end.
-fn read_image<S: Source>(alloc: Global, image: &mut S) -> Result<Vec<u8>, MigrateStop>
-    ensures whole { IfOk result (λ bytes. IfSome (S.remaining image.old) (λ all. all ≡ bytes.items)) }
-    ensures read { result ≡ Err MigrateStop.Read → FailsToGive S.Source image.old image.new }
-    ensures fault { IfErr result IsReadOrNoMemory }
-{
-    match read_whole(alloc, image) {
-        Ok(bytes) => Ok(bytes),
-        Err(RunFault::Read) => Err(MigrateStop::Read),
-        Err(_) => Err(MigrateStop::Refused(MigrateFault::Memory)),
     }
 }
 
@@ -84,6 +69,10 @@ pub fn migrate_image<S: Source, W: Sink>(
 ) -> Result<(), MigrateStop>
     ensures { MigratesImage S.Source W.Sink blocks inodes image.old image.new out.old out.new result }
 {
-    let bytes = read_image(alloc, image)?;
+    let bytes = match read_whole(alloc, image) {
+        Ok(bytes) => bytes,
+        Err(RunFault::Read) => return Err(MigrateStop::Read),
+        Err(_) => return Err(MigrateStop::Refused(MigrateFault::Memory)),
+    };
     migrate_bytes(alloc, bytes, blocks, inodes, out)
 }

@@ -1,19 +1,22 @@
 -- Reports of errors and of warnings that were written.
-use Rattle.std.proofs.Common.{◌≡◌, ◌∙◌, Ok, Err, ap, subst, inl, inr, ⊎_elim, ℕ, List, [], sym, refl}
-use Rattle.std.specs.Prelude.{Option, map}
+use Rattle.std.proofs.Common.{◌≡◌, ◌∙◌, Err, ap, subst, ℕ, suc, Bool, false, List, [], length, take, sym}
+use Rattle.std.specs.Prelude.{IsTrue, Option, map, ◌↔◌}
 use Rattle.pv_model.specs.Bytes.{Bytes}
-use Rattle.pv_model.specs.Source.Judged.{read_source}
-use Rattle.pv_streams.proofs.Reporting.{written_none}
+use Rattle.pv_model.specs.Grammar.Lines.{lines_of}
+use Rattle.pv_model.specs.Source.Blocks.{blocks_of}
+use Rattle.pv_model.specs.Source.Judged.{REPORTED, faults_of_blocks, read_source}
 use Rattle.pv_streams.specs.Sinks.{WritesPrefix, and_all}
 use Rattle.pv_source.specs.declared.faults.Fault.{Fault}
 use Rattle.pv_source.specs.Outcome.{AreLines, BeginsFaults, ReportsFaults, fault_lines, reported_of}
 use Rattle.pv_source.specs.Reporting.{line_of}
 use Rattle.pv_source.specs.Warnings.{BeginsWarnings, Warns, warned_lines}
-use Rattle.pv_source.proofs.ReportedLines.{reported_faults}
+use Rattle.pv_source.proofs.ReportedLines.{read_invalid, reported_faults, some_fault}
 
--- without a warning, nothing is reported
-pub warns_nothing : (name source : Bytes) (written : Option Bytes) → warned_lines source ≡ [] → Warns name source written written
-warns_nothing name source written none = ([], none, written_none written, tt)
+-- a source with errors is invalid at their lines
+pub invalid_source : (source : Bytes) (faults : List Fault) (t : Bool) (reported : List ℕ) → (IsTrue t ↔ (reported ≡ [])) → t ≡ false → map line_of faults ≡ reported
+    → reported ≡ take REPORTED (faults_of_blocks (suc (length (lines_of source))) (blocks_of source)) → read_source source ≡ Err (map (λ (t : ℕ × Bytes). t.0) (map reported_of faults))
+invalid_source source faults t reported reports is same all =
+    read_invalid source _ (reported_faults faults ∙ same ∙ all) (some_fault t faults reported reports is same)
 
 module _ (name source : Bytes) (faults : List Fault) (text : Bytes) (is : text ≡ fault_lines name (map reported_of faults)) (lines : AreLines (map reported_of faults)) (before after : Option Bytes) where
   -- the text of warnings, or a prefix of it, was written

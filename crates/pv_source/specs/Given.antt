@@ -1,4 +1,4 @@
--- What the output for a source, and its translation in memory, leave behind.
+-- The output for a source, and its translation in memory: one relation for each function.
 use Rattle.std.specs.Prelude.{◌≡◌, ◌⊎◌, ℕ, [], Result, Ok, Err, IfErr, IfOk, IfSome, OnOk}
 use Rattle.std.specs.Global.{Vec}
 use Rattle.pv_model.specs.declared.stream.Sink.{Ghosts as Writing}

@@ -1,3 +1,4 @@
+pub mod Appending
 pub mod Given
 pub mod LineCheck
 pub mod Located

@@ -15,5 +15,5 @@ abbrev pub so_far_of : HeldTree → TreeSoFar
 so_far_of s = record { tree = s.tree; lacked_room = s.lacked_room }
 
 -- the result and the state after a line agree with the specification
-abbrev pub Finds : HeldTree × LineCheck → Judgement → Type 0
-Finds found judgement = (is_reported found.1 ≡ judgement.0) × (so_far_of found.0 ≡ judgement.1)
+abbrev pub Finds : Judgement → HeldTree × LineCheck → Type 0
+Finds judgement found = (is_reported found.1 ≡ judgement.0) × (so_far_of found.0 ≡ judgement.1)

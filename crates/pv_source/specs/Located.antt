@@ -1,6 +1,7 @@
 -- The instructions of the programs of a source, with their lines in the source and in their programs.
-use Rattle.std.specs.Prelude.{◌≡◌, ℕ, ◌+◌, true, List, [], ◌∷◌, ◌++◌, map, drop, flat_map, codes, Option, None, Some}
+use Rattle.std.specs.Prelude.{◌≡◌, ℕ, ◌+◌, true, List, [], ◌∷◌, ◌++◌, map, drop, flat_map, codes, Option, None, Some, Result}
 use Rattle.std.specs.Fmt.{decimal}
+use Rattle.std.specs.Global.{Vec}
 use Rattle.pv_model.specs.Answers.Lines.{counted_from}
 use Rattle.pv_model.specs.Bytes.{Bytes}
 use Rattle.pv_model.specs.Grammar.Texts.{ended}
@@ -9,6 +10,7 @@ use Rattle.pv_model.specs.Source.Judged.{exec_path, is_exec_block}
 use Rattle.pv_model.specs.Source.Programs.{ProgramLine, program_lines, taken_lines, count_instruction}
 use Rattle.pv_model.specs.Source.Written.{written_lines}
 use Rattle.pv_model.specs.Trace.{quote}
+use Rattle.pv_source.specs.Appending.{AppendsLines}
 
 -- an instruction: its line in the source, its line in its program, and its text
 pub record Located : Type 0 where
@@ -44,6 +46,10 @@ place_text path line number = decimal line ++ codes " " ++ quote path ++ codes "
 
 abbrev pub located_text : Bytes → Located → Bytes
 located_text path located = place_text path located.line located.number ++ located.text
+
+-- success: the lines of exactly these instructions of the program with this path were appended
+abbrev pub AppendsLocated : {T E : Type 0} → Bytes → List Located → (before after : Vec ℕ) → Result T E → Type 0
+AppendsLocated path located before after result = AppendsLines (map (located_text path) located) before after result
 
 abbrev pub located_texts : Option Bytes → List Located → List Bytes
 located_texts None located = []

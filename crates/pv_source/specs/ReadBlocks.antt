@@ -4,9 +4,9 @@ use Rattle.pv_source.specs.declared.blocks.Block.{Block as ReadBlock}
 use Rattle.pv_source.specs.declared.blocks.Kind.{Kind}
 use Rattle.pv_source.specs.declared.blocks.Kind.TheVariants.{Single, Program, Taken, CutOff, Schedule}
 use Rattle.pv_source.specs.declared.lines.Lines.{Lines}
-use Rattle.pv_source.specs.Reading.{numbered, numbered_text}
+use Rattle.pv_source.specs.Reading.{IsWithin, numbered, numbered_text, words_in}
 use Rattle.pv_model.specs.Source.Blocks.{Block, single, program, taken, cut_off, schedule, blocks_from}
-use Rattle.pv_model.specs.Source.Words.{NumberedLine, between, words_from}
+use Rattle.pv_model.specs.Source.Words.{NumberedLine}
 
 abbrev pub block_by : Kind → ℕ → List (List ℕ) → List NumberedLine → Block
 block_by Single n words body = single n words
@@ -17,7 +17,7 @@ block_by Schedule n words body = schedule n words body
 
 -- the parsed block
 abbrev pub block_of : ReadBlock → Block
-block_of b = block_by b.kind b.number (words_from b.words.now between) (numbered_text (b.number + 1) b.body.now)
+block_of b = block_by b.kind b.number (words_in b.words.now) (numbered_text (b.number + 1) b.body.now)
 
 -- a parsed block, and the blocks of the lines after it
 abbrev pub blocks_read : Option (ReadBlock × Lines) → List Block
@@ -33,5 +33,4 @@ Reads (Some p) block lines = (count : ℕ) × (block ≡ Some (block_of p.0, cou
 abbrev pub IsInside : Option (ReadBlock × Lines) → Lines → Type 0
 IsInside None lines = Unit {0}
 IsInside (Some p) lines =
-    (p.0.number + 1 + length p.0.body.now ≤ lines.number + length lines.text.now) × (p.1.number + length p.1.text.now ≤ lines.number + length lines.text.now)
-    × (length p.1.text.now ≤ length lines.text.now)
+    (p.0.number + 1 + length p.0.body.now ≤ lines.number + length lines.text.now) × IsWithin p.1 lines × (length p.1.text.now ≤ length lines.text.now)

@@ -1,14 +1,18 @@
 -- Words and lines of a source.
-use Rattle.std.specs.Prelude.{◌≡◌, ℕ, suc, ◌≤◌, false, List, [], ◌∷◌, ◌++◌, length, take, drop, flat_map, codes, Option, None, Some}
+use Rattle.std.specs.Prelude.{◌≡◌, ℕ, suc, ◌+◌, ◌≤◌, false, List, [], ◌∷◌, ◌++◌, length, take, drop, flat_map, codes, Option, None, Some}
 use Rattle.pv_model.specs.Answers.Lines.{counted_from}
 use Rattle.pv_model.specs.Bytes.{Bytes}
 use Rattle.pv_model.specs.Grammar.Lines.{lines_of}
 use Rattle.pv_source.specs.declared.lines.Line.{Line}
 use Rattle.pv_source.specs.declared.lines.Lines.{Lines}
 use Rattle.pv_model.specs.Source.Blocks.{lines_up_to}
-use Rattle.pv_model.specs.Source.Words.{NumberedLine, NumberedWords, is_blank, between, words_from, words_of}
+use Rattle.pv_model.specs.Source.Words.{NumberedLine, NumberedWords, is_blank, between, lines_that_count, words_from, words_of}
 
 -- ---- words
+
+-- the words of bytes, if the first byte is not inside a word
+abbrev pub words_in : Bytes → List Bytes
+words_in bytes = words_from bytes between
 
 -- the first byte is not a blank
 abbrev pub BeginsNoBlank : Bytes → Type 0
@@ -32,9 +36,17 @@ numbered_text n text = counted_from n (lines_of text)
 abbrev pub numbered : Lines → List NumberedLine
 numbered lines = numbered_text lines.number lines.text.now
 
+-- the lines that have a word
+abbrev pub worded_in : Lines → List NumberedWords
+worded_in lines = lines_that_count (numbered lines)
+
+-- lines end where other lines end, or before
+abbrev pub IsWithin : Lines → Lines → Type 0
+IsWithin rest lines = rest.number + length rest.text.now ≤ lines.number + length lines.text.now
+
 -- a line that has a word
 abbrev pub worded : Line → NumberedWords
-worded line = (line.number, words_from line.words.now between)
+worded line = (line.number, words_in line.words.now)
 
 abbrev pub if_words : ℕ → List Bytes → List NumberedLine → Option (NumberedWords × List NumberedLine) → Option (NumberedWords × List NumberedLine)
 if_words n [] lines onward = onward

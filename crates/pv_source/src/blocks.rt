@@ -1,8 +1,7 @@
 //! The blocks of a source: each is a line with the lines after it that belong to it.
-ghost use Rattle.std.specs.Prelude.{◌≡◌, ◌+◌, ◌<◌, ◌≤◌, ◌^◌, [], length, None, Some, IfSome};
+ghost use Rattle.std.specs.Prelude.{◌≡◌, ◌+◌, ◌<◌, ◌^◌, [], length, None, Some, IfSome};
 ghost use Rattle.pv_model.specs.Source.Blocks.{exec_by, exec_block, blocks_from};
-ghost use Rattle.pv_model.specs.Source.Words.{between, words_from};
-ghost use Rattle.pv_source.specs.Reading.{numbered};
+ghost use Rattle.pv_source.specs.Reading.{numbered, words_in};
 ghost use Rattle.pv_source.specs.ReadBlocks.{blocks_read, Reads, IsInside};
 
 use crate::lines::{Line, Lines, lines_before_mark, next_line, next_lines};
@@ -60,7 +59,7 @@ fn program_block<'a>(
 ) -> Option<(Block<'a>, Lines<'a>)>
     requires next { lines.number ≡ line.number + 1 }
     requires few { lines.number + length lines.text.now < 2 ^ 31 }
-    ensures reads { Reads result (exec_by line.entry.number (words_from line.entry.words.now between) (numbered lines.entry) (Some mark.now) None) (numbered lines.entry) }
+    ensures reads { Reads result (exec_by line.entry.number (words_in line.entry.words.now) (numbered lines.entry) (Some mark.now) None) (numbered lines.entry) }
     ensures inside { IsInside result lines.entry }
 {
     let Some((body, rest)) = lines_before_mark(mark, lines) else {
@@ -79,7 +78,7 @@ fn program_block<'a>(
 fn taken_block<'a>(line: Line<'a>, count: u32, lines: Lines<'a>) -> Option<(Block<'a>, Lines<'a>)>
     requires next { lines.number ≡ line.number + 1 }
     requires few { lines.number + length lines.text.now < 2 ^ 31 }
-    ensures reads { Reads result (exec_by line.entry.number (words_from line.entry.words.now between) (numbered lines.entry) None (Some count)) (numbered lines.entry) }
+    ensures reads { Reads result (exec_by line.entry.number (words_in line.entry.words.now) (numbered lines.entry) None (Some count)) (numbered lines.entry) }
     ensures inside { IsInside result lines.entry }
 {
     let Some((body, rest)) = next_lines(count, lines) else {
@@ -98,7 +97,7 @@ fn taken_block<'a>(line: Line<'a>, count: u32, lines: Lines<'a>) -> Option<(Bloc
 fn exec_block<'a>(line: Line<'a>, lines: Lines<'a>) -> Option<(Block<'a>, Lines<'a>)>
     requires next { lines.number ≡ line.number + 1 }
     requires few { lines.number + length lines.text.now < 2 ^ 31 }
-    ensures reads { Reads result (exec_block line.entry.number (words_from line.entry.words.now between) (numbered lines.entry)) (numbered lines.entry) }
+    ensures reads { Reads result (exec_block line.entry.number (words_in line.entry.words.now) (numbered lines.entry)) (numbered lines.entry) }
     ensures inside { IsInside result lines.entry }
 {
     let last = last_word(line.words);

@@ -7,11 +7,11 @@ ghost use Rattle.pv_model.specs.Grammar.Manifests.{entry_of};
 ghost use Rattle.pv_model.specs.Grammar.Texts.{ended};
 ghost use Rattle.pv_model.specs.Source.Blocks.{single};
 ghost use Rattle.pv_model.specs.Source.Judged.{second_text, has_three_words, exec_path, executable, entry_of_block};
-ghost use Rattle.pv_model.specs.Source.Programs.{program_lines, instructions_of};
-ghost use Rattle.pv_model.specs.Source.Words.{between, words_from};
-ghost use Rattle.pv_source.specs.Reading.{numbered};
+ghost use Rattle.pv_model.specs.Source.Programs.{instructions_of};
+ghost use Rattle.pv_source.specs.Reading.{words_in};
 ghost use Rattle.pv_source.specs.ReadBlocks.{block_of};
-ghost use Rattle.pv_source.specs.ReadEntries.{numbered_entry};
+ghost use Rattle.pv_source.specs.ReadEntries.{IsEntryOf};
+ghost use Rattle.pv_source.specs.ReadPrograms.{program_in};
 
 use crate::blocks::{Block, Kind};
 use crate::lines::{Lines, line_count};
@@ -26,7 +26,7 @@ use std::alloc::{AllocError, Global};
 
 /// Returns the second word of a line as a text, if it is one.
 pub fn second_text(words: &[u8]) -> Option<Text>
-    ensures { result ≡ second_text (words_from words.now between) }
+    ensures { result ≡ second_text (words_in words.now) }
 {
     let (_, rest) = next_word(words)?;
     let (word, _) = next_word(rest)?;
@@ -40,7 +40,7 @@ pub fn second_text(words: &[u8]) -> Option<Text>
 
 // Returns whether there are exactly three words.
 fn has_three_words(words: &[u8]) -> bool
-    ensures { result ≡ has_three_words (words_from words.now between) }
+    ensures { result ≡ has_three_words (words_in words.now) }
 {
     let Some((_, rest)) = next_word(words) else {
         return false;
@@ -56,7 +56,7 @@ fn has_three_words(words: &[u8]) -> bool
 
 /// Returns the path of an `exec` line of the right form.
 pub fn exec_path(words: &[u8]) -> Option<Text>
-    ensures { result ≡ exec_path (words_from words.now between) }
+    ensures { result ≡ exec_path (words_in words.now) }
 {
     if !has_three_words(words) {
         return None;
@@ -85,7 +85,7 @@ fn line_entry(alloc: Global, number: u32, line: &[u8]) -> Result<Option<Entry>, 
 
 // Returns the entry of a single line.
 fn single_entry(alloc: Global, number: u32, words: &[u8]) -> Result<Option<Entry>, AllocError>
-    ensures { IfOk result (λ o. option_map entry_of_line o ≡ numbered_entry number (entry_of_block (single number (words_from words.now between)))) }
+    ensures { IfOk result (IsEntryOf number (entry_of_block (single number (words_in words.now)))) }
 {
     let mut line = Vec::new(alloc);
     push_words(words, &mut line)?;
@@ -99,7 +99,7 @@ fn executable(
     words: &[u8],
     bytes: Vec<u8>,
 ) -> Result<Option<Entry>, AllocError>
-    ensures { (lines : List Bytes) → bytes.items ≡ ended lines → IfOk result (λ o. option_map entry_of_line o ≡ numbered_entry number (executable lines (exec_path (words_from words.now between)))) }
+    ensures { (lines : List Bytes) → bytes.items ≡ ended lines → IfOk result (IsEntryOf number (executable lines (exec_path (words_in words.now)))) }
 {
     let Some(path) = exec_path(words) else {
         return Ok(None);
@@ -117,7 +117,7 @@ fn executable(
 // Returns the bytes of a program up to its END.
 fn program_bytes(alloc: Global, body: Lines) -> Result<Vec<u8>, AllocError>
     requires { body.number + length body.text.now < 2 ^ 31 }
-    ensures { IfOk result (λ bytes. bytes.items ≡ ended (instructions_of (program_lines (numbered body.entry)))) }
+    ensures { IfOk result (λ bytes. bytes.items ≡ ended (instructions_of (program_in body.entry))) }
 {
     let (labels, _) = labels_of(alloc, body)?;
     let mut bytes = Vec::new(alloc);
@@ -142,7 +142,7 @@ fn taken_bytes(alloc: Global, text: &[u8]) -> Result<Vec<u8>, AllocError>
 #[tactic(auto, unfolding(pv_model::specs::Source::Judged::entry_of_block))]
 pub fn entry_of_block(alloc: Global, block: &Block) -> Result<Option<Entry>, AllocError>
     requires { block.now.number + 1 + length block.now.body.now < 2 ^ 31 }
-    ensures { IfOk result (λ o. option_map entry_of_line o ≡ numbered_entry block.now.number (entry_of_block (block_of block.now))) }
+    ensures { IfOk result (IsEntryOf block.now.number (entry_of_block (block_of block.now))) }
 {
     match block.kind {
         Kind::Single => single_entry(alloc, block.number, block.words),

@@ -1,11 +1,10 @@
 //! Checking the lines that belong to blocks: programs and schedules.
 ghost use Rattle.std.specs.Prelude.{◌≡◌, ◌+◌, ◌<◌, ◌^◌, ◌||◌, [], length, map, IfOk, OnOk, Some};
 ghost use Rattle.pv_model.specs.Source.Judged.{is_init, second_text, faults_in, invalid_turns, invalid_turn};
-ghost use Rattle.pv_model.specs.Source.Programs.{is_set_in, and_label, is_invalid, instruction_text, program_lines, taken_lines, reported_if, program_faults};
-ghost use Rattle.pv_model.specs.Source.Words.{between, words_from, lines_that_count};
-ghost use Rattle.pv_source.specs.Reading.{numbered};
+ghost use Rattle.pv_model.specs.Source.Programs.{is_set_in, and_label, is_invalid, reported_if, program_faults};
+ghost use Rattle.pv_source.specs.Reading.{words_in, worded_in};
 ghost use Rattle.pv_source.specs.ReadBlocks.{block_of};
-ghost use Rattle.pv_source.specs.ReadPrograms.{bytes_of, label_value, name_value};
+ghost use Rattle.pv_source.specs.ReadPrograms.{bytes_of, name_value, instruction_with, program_in, taken_in};
 ghost use Rattle.pv_source.specs.Reporting.{Reports};
 
 use crate::blocks::{Block, Kind};
@@ -56,7 +55,7 @@ fn has_invalid(
     line: &Labelled,
     text: &mut Vec<u8>,
 ) -> Result<bool, AllocError>
-    ensures { IfOk result (λ invalid. invalid ≡ is_invalid count before (instruction_text (map label_value labels.now) (words_from line.now.words.now between))) }
+    ensures { IfOk result (λ invalid. invalid ≡ is_invalid count before (instruction_with labels.now line.now)) }
 {
     if has_no_word(line.words) {
         return Ok(false);
@@ -85,7 +84,7 @@ fn report_line(
     text: &mut Vec<u8>,
     faults: &mut Faults,
 ) -> Result<(), AllocError>
-    ensures { OnOk result (Reports faults.old faults.new (reported_if (is_set_in (name_value line.now.label) (map bytes_of names.now) || is_invalid program.now.count before (instruction_text (map label_value program.now.labels.items) (words_from line.now.words.now between))) line.now.number [])) }
+    ensures { OnOk result (Reports faults.old faults.new (reported_if (is_set_in (name_value line.now.label) (map bytes_of names.now) || is_invalid program.now.count before (instruction_with program.now.labels.items line.now)) line.now.number [])) }
 {
     if faults.is_full() {
         return Ok(());
@@ -114,7 +113,7 @@ fn push_name<'a>(names: &mut Vec<&'a [u8]>, label: Option<&'a [u8]>) -> Result<(
 // Reports the lines with errors of a program that ends with END.
 fn report_program(alloc: Global, body: Lines, faults: &mut Faults) -> Result<(), AllocError>
     requires { body.number + length body.text.now < 2 ^ 31 }
-    ensures { OnOk result (Reports faults.old faults.new (program_faults (program_lines (numbered body.entry)))) }
+    ensures { OnOk result (Reports faults.old faults.new (program_faults (program_in body.entry))) }
 {
     let (labels, count) = labels_of(alloc, body)?;
     let program = Judged { labels, count };
@@ -156,7 +155,7 @@ fn report_taken_line(
 // Reports the lines with errors of a program whose lines are copied unchanged.
 fn report_taken(alloc: Global, body: Lines, faults: &mut Faults) -> Result<(), AllocError>
     requires { body.number + length body.text.now < 2 ^ 31 }
-    ensures { OnOk result (Reports faults.old faults.new (program_faults (taken_lines (numbered body.entry)))) }
+    ensures { OnOk result (Reports faults.old faults.new (program_faults (taken_in body.entry))) }
 {
     let count = line_count(body.text);
     let mut before: u32 = 0;
@@ -179,7 +178,7 @@ fn report_turn(
     text: &mut Vec<u8>,
     faults: &mut Faults,
 ) -> Result<(), AllocError>
-    ensures { OnOk result (Reports faults.old faults.new (reported_if (invalid_turn before (words_from line.entry.words.now between)) line.entry.number [])) }
+    ensures { OnOk result (Reports faults.old faults.new (reported_if (invalid_turn before (words_in line.entry.words.now)) line.entry.number [])) }
 {
     if faults.is_full() {
         return Ok(());
@@ -195,7 +194,7 @@ fn report_turn(
 // Reports the lines with errors of a schedule.
 fn report_turns(alloc: Global, lines: Lines, faults: &mut Faults) -> Result<(), AllocError>
     requires { lines.number + length lines.text.now < 2 ^ 31 }
-    ensures { OnOk result (Reports faults.old faults.new (invalid_turns 0 (lines_that_count (numbered lines.entry)))) }
+    ensures { OnOk result (Reports faults.old faults.new (invalid_turns 0 (worded_in lines.entry))) }
 {
     let mut text = Vec::new(alloc);
     let mut before: u32 = 0;
@@ -210,7 +209,7 @@ fn report_turns(alloc: Global, lines: Lines, faults: &mut Faults) -> Result<(), 
 
 /// Returns whether the second word of a line is the text `/init`.
 pub fn names_init(words: &[u8]) -> bool
-    ensures { result ≡ is_init (second_text (words_from words.now between)) }
+    ensures { result ≡ is_init (second_text (words_in words.now)) }
 {
     let Some(path) = second_text(words) else {
         return false;

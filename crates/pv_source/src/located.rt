@@ -1,13 +1,10 @@
 //! The instructions of the programs of a source, each with its line in the source and its line in the program.
-ghost use Rattle.std.specs.Prelude.{◌≡◌, ◌+◌, ◌<◌, ◌^◌, ◌++◌, length, map, IfOk, OnOk};
-ghost use Rattle.pv_model.specs.Grammar.Texts.{ended};
-ghost use Rattle.pv_model.specs.Source.Programs.{instruction_text, program_lines, taken_lines};
-ghost use Rattle.pv_model.specs.Source.Words.{between, words_from};
+ghost use Rattle.std.specs.Prelude.{◌≡◌, ◌+◌, ◌<◌, ◌^◌, length, IfOk};
 ghost use Rattle.pv_model.specs.Trace.{quote, quote_byte};
-ghost use Rattle.pv_source.specs.Located.{NumbersAreOfTranslation, located_from, located_in, located_instruction, located_lines, located_text, place_text};
-ghost use Rattle.pv_source.specs.Reading.{numbered};
+ghost use Rattle.pv_source.specs.Located.{NumbersAreOfTranslation, located_from, located_in, located_instruction, located_lines, place_text, AppendsLocated};
 ghost use Rattle.pv_source.specs.ReadBlocks.{block_of};
-ghost use Rattle.pv_source.specs.ReadPrograms.{label_value};
+ghost use Rattle.pv_source.specs.ReadPrograms.{instruction_with, program_in, taken_in};
+ghost use Rattle.pv_source.specs.Appending.{Appends, AppendsLines};
 
 use crate::blocks::{Block, Kind, next_block};
 use crate::entries::exec_path;
@@ -28,7 +25,7 @@ pub fn numbers_are_of_the_translation()
 
 // Appends a byte as it is written between quotation marks.
 fn push_quoted_byte(byte: u8, out: &mut Vec<u8>) -> Result<(), AllocError>
-    ensures { OnOk result (out.new.items ≡ out.old.items ++ quote_byte byte) }
+    ensures { Appends (quote_byte byte) out.old out.new result }
 {
     if is_plain(byte) {
         out.push(byte)?;
@@ -39,7 +36,7 @@ fn push_quoted_byte(byte: u8, out: &mut Vec<u8>) -> Result<(), AllocError>
 
 // Appends a text in quotation marks.
 fn push_quoted(text: &[u8], out: &mut Vec<u8>) -> Result<(), AllocError>
-    ensures { OnOk result (out.new.items ≡ out.old.items ++ quote text.now) }
+    ensures { Appends (quote text.now) out.old out.new result }
 {
     out.push(b'"')?;
     for byte in text {
@@ -51,7 +48,7 @@ fn push_quoted(text: &[u8], out: &mut Vec<u8>) -> Result<(), AllocError>
 
 // Appends the place of an instruction: its line in the source, the path of its program, and its line in the program.
 fn push_place(path: &[u8], line: u32, number: u32, out: &mut Vec<u8>) -> Result<(), AllocError>
-    ensures { OnOk result (out.new.items ≡ out.old.items ++ place_text path.now line number) }
+    ensures { Appends (place_text path.now line number) out.old out.new result }
 {
     let mut buffer = Buffer::new();
     out.extend_from_slice(buffer.format(line).as_bytes())?;
@@ -71,7 +68,7 @@ fn push_labelled(
     line: &Labelled,
     out: &mut Vec<u8>,
 ) -> Result<(), AllocError>
-    ensures { OnOk result (out.new.items ≡ out.old.items ++ ended (map (located_text path.now) (located_instruction line.now.number number (instruction_text (map label_value labels.now) (words_from line.now.words.now between))))) }
+    ensures { AppendsLocated path.now (located_instruction line.now.number number (instruction_with labels.now line.now)) out.old out.new result }
 {
     if has_no_word(line.words) {
         return Ok(());
@@ -89,7 +86,7 @@ fn push_program_lines(
     out: &mut Vec<u8>,
 ) -> Result<(), AllocError>
     requires { body.number + length body.text.now < 2 ^ 31 }
-    ensures { OnOk result (out.new.items ≡ out.old.items ++ ended (map (located_text path.now) (located_from 1 (program_lines (numbered body.entry))))) }
+    ensures { AppendsLocated path.now (located_from 1 (program_in body.entry)) out.old out.new result }
 {
     let (labels, _) = labels_of(alloc, body)?;
     let mut number: u32 = 1;
@@ -110,7 +107,7 @@ fn push_taken_line(
     text: &[u8],
     out: &mut Vec<u8>,
 ) -> Result<(), AllocError>
-    ensures { OnOk result (out.new.items ≡ out.old.items ++ ended (map (located_text path.now) (located_instruction line number (Some text.now)))) }
+    ensures { AppendsLocated path.now (located_instruction line number (Some text.now)) out.old out.new result }
 {
     push_place(path, line, number, out)?;
     out.extend_from_slice(text)?;
@@ -120,7 +117,7 @@ fn push_taken_line(
 // Appends the lines of a program whose lines are copied unchanged.
 fn push_taken_lines(path: &[u8], body: Lines, out: &mut Vec<u8>) -> Result<(), AllocError>
     requires { body.number + length body.text.now < 2 ^ 31 }
-    ensures { OnOk result (out.new.items ≡ out.old.items ++ ended (map (located_text path.now) (located_from 1 (taken_lines (numbered body.entry))))) }
+    ensures { AppendsLocated path.now (located_from 1 (taken_in body.entry)) out.old out.new result }
 {
     let mut number: u32 = 1;
     let mut rest = body;
@@ -139,7 +136,7 @@ fn push_taken_lines(path: &[u8], body: Lines, out: &mut Vec<u8>) -> Result<(), A
 #[tactic(auto, using(crate::proofs::LocatedLines::no_path))]
 fn push_block_lines(alloc: Global, block: &Block, out: &mut Vec<u8>) -> Result<(), AllocError>
     requires { block.now.number + 1 + length block.now.body.now < 2 ^ 31 }
-    ensures { OnOk result (out.new.items ≡ out.old.items ++ ended (located_in (block_of block.now))) }
+    ensures { AppendsLines (located_in (block_of block.now)) out.old out.new result }
 {
     let Some(path) = exec_path(block.words) else {
         return Ok(());

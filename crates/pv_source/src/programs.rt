@@ -1,12 +1,12 @@
 //! Programs in a source: labels and instructions.
-ghost use Rattle.std.specs.Prelude.{◌≡◌, ◌+◌, ◌<◌, ◌≤◌, ◌^◌, ◌++◌, [], length, map, IfOk, IfSome, OnOk, option_map};
+ghost use Rattle.std.specs.Prelude.{◌≡◌, ◌+◌, ◌<◌, ◌≤◌, ◌^◌, ◌++◌, [], length, IfOk, IfSome, OnOk, option_map};
 ghost use Rattle.std.specs.List.{list_all};
 ghost use Rattle.pv_model.specs.Answers.Lines.{spaced};
-ghost use Rattle.pv_model.specs.Grammar.Texts.{ended};
-ghost use Rattle.pv_model.specs.Source.Programs.{is_label_byte, is_label, label_of, labelled_words, labelled_lines, or_exit, count_words, onto_labels, labels_from, number_of_label, is_jump, begins_with_letter, target_word, without_labels, instructions_of, program_lines};
-ghost use Rattle.pv_model.specs.Source.Words.{between, words_from, last_word, with_last_word};
-ghost use Rattle.pv_source.specs.Reading.{numbered, spaced_more};
-ghost use Rattle.pv_source.specs.ReadPrograms.{name_value, labelled_value, label_value, then_labelled};
+ghost use Rattle.pv_model.specs.Source.Programs.{is_label_byte, is_label, label_of, labelled_words, or_exit, count_words, onto_labels, labels_from, number_of_label, is_jump, begins_with_letter, target_word, without_labels, instructions_of};
+ghost use Rattle.pv_model.specs.Source.Words.{last_word, with_last_word};
+ghost use Rattle.pv_source.specs.Reading.{spaced_more, IsWithin, words_in};
+ghost use Rattle.pv_source.specs.ReadPrograms.{name_value, labelled_value, then_labelled, program_in, labelled_in, label_values};
+ghost use Rattle.pv_source.specs.Appending.{Appends, AppendsLines};
 
 use crate::lines::{Line, Lines, next_line};
 use crate::words::{
@@ -71,7 +71,7 @@ pub fn label_of(word: &[u8]) -> Option<&[u8]>
 
 // Separates the label of a line from its instruction.
 fn with_label_apart<'a>(line: Line<'a>) -> Labelled<'a>
-    ensures { labelled_value result ≡ labelled_words line.entry.number (words_from line.entry.words.now between) }
+    ensures { labelled_value result ≡ labelled_words line.entry.number (words_in line.entry.words.now) }
 {
     let whole = Labelled {
         number: line.number,
@@ -106,8 +106,8 @@ fn with_exit<'a>(line: Labelled<'a>) -> Labelled<'a>
 /// instruction, it receives an `exit 0`.
 pub fn next_labelled<'a>(lines: Lines<'a>) -> Option<(Labelled<'a>, Lines<'a>)>
     requires { lines.number + length lines.text.now < 2 ^ 31 }
-    ensures line { labelled_lines (numbered lines.entry) ≡ then_labelled result }
-    ensures room { IfSome result (λ p. p.1.number + length p.1.text.now ≤ lines.entry.number + length lines.entry.text.now) }
+    ensures line { labelled_in lines.entry ≡ then_labelled result }
+    ensures room { IfSome result (λ p. IsWithin p.1 lines.entry) }
     ensures shorter { IfSome result (λ p. length p.1.text.now < length lines.entry.text.now) }
 {
     let Some((line, rest)) = next_line(lines) else {
@@ -125,7 +125,7 @@ pub fn next_labelled<'a>(lines: Lines<'a>) -> Option<(Labelled<'a>, Lines<'a>)>
 
 /// Returns the number of instructions of a line with these words: one or zero.
 pub fn instruction_count(words: &[u8]) -> u32
-    ensures value { result ≡ count_words (words_from words.now between) }
+    ensures value { result ≡ count_words (words_in words.now) }
     ensures few { result ≤ 1 }
 {
     if has_no_word(words) { 0 } else { 1 }
@@ -137,7 +137,7 @@ fn push_label<'a>(
     label: Option<&'a [u8]>,
     number: u32,
 ) -> Result<(), AllocError>
-    ensures { OnOk result (map label_value labels.new.items ≡ map label_value labels.old.items ++ onto_labels (name_value label.entry) number []) }
+    ensures { OnOk result (label_values labels.new.items ≡ label_values labels.old.items ++ onto_labels (name_value label.entry) number []) }
 {
     if let Some(name) = label {
         labels.push(Label { name, number })?;
@@ -152,8 +152,8 @@ fn push_label<'a>(
 /// Returns `AllocError` if memory cannot be allocated.
 pub fn labels_of<'a>(alloc: Global, body: Lines<'a>) -> Result<(Vec<Label<'a>>, u32), AllocError>
     requires { body.number + length body.text.now < 2 ^ 31 }
-    ensures labels { IfOk result (λ p. map label_value p.0.items ≡ labels_from 1 (labelled_lines (numbered body.entry))) }
-    ensures count { IfOk result (λ p. p.1 ≡ length (instructions_of (program_lines (numbered body.entry)))) }
+    ensures labels { IfOk result (λ p. label_values p.0.items ≡ labels_from 1 (labelled_in body.entry)) }
+    ensures count { IfOk result (λ p. p.1 ≡ length (instructions_of (program_in body.entry))) }
 {
     let mut labels = Vec::new(alloc);
     let mut count: u32 = 0;
@@ -168,7 +168,7 @@ pub fn labels_of<'a>(alloc: Global, body: Lines<'a>) -> Result<(Vec<Label<'a>>, 
 
 // Returns the number of the instruction that a label refers to, if the label is set.
 fn number_of(labels: &[Label], name: &[u8]) -> Option<u32>
-    ensures { result ≡ number_of_label name.now (map label_value labels.now) }
+    ensures { result ≡ number_of_label name.now (label_values labels.now) }
 {
     for label in labels {
         if label.name == name {
@@ -200,7 +200,7 @@ pub fn is_jump(word: &[u8]) -> bool
 
 // Appends the words of a jump after its name. If the last word, the target, is a label, its number is appended instead.
 fn push_jump(labels: &[Label], words: &[u8], out: &mut Vec<u8>) -> Result<(), AllocError>
-    ensures { OnOk result (let given = words_from words.now between in out.new.items ≡ out.old.items ++ spaced_more (with_last_word (target_word (map label_value labels.now) (last_word given)) given)) }
+    ensures { OnOk result (let given = words_in words.now in out.new.items ≡ out.old.items ++ spaced_more (with_last_word (target_word (label_values labels.now) (last_word given)) given)) }
 {
     let last = last_word(words);
     if !begins_with_letter(last) {
@@ -219,7 +219,7 @@ fn push_jump(labels: &[Label], words: &[u8], out: &mut Vec<u8>) -> Result<(), Al
 ///
 /// Returns `AllocError` if memory cannot be allocated.
 pub fn push_instruction(labels: &[Label], words: &[u8], out: &mut Vec<u8>) -> Result<(), AllocError>
-    ensures { OnOk result (out.new.items ≡ out.old.items ++ spaced (without_labels (map label_value labels.now) (words_from words.now between))) }
+    ensures { Appends (spaced (without_labels (label_values labels.now) (words_in words.now))) out.old out.new result }
 {
     let Some((first, rest)) = next_word(words) else {
         return Ok(());
@@ -238,8 +238,8 @@ pub fn push_instruction(labels: &[Label], words: &[u8], out: &mut Vec<u8>) -> Re
 /// Returns `AllocError` if memory cannot be allocated.
 pub fn push_program(labels: &[Label], body: Lines, out: &mut Vec<u8>) -> Result<(), AllocError>
     requires few { body.number + length body.text.now < 2 ^ 31 }
-    requires labels { map label_value labels.now ≡ labels_from 1 (labelled_lines (numbered body)) }
-    ensures { OnOk result (out.new.items ≡ out.old.items ++ ended (instructions_of (program_lines (numbered body.entry)))) }
+    requires labels { label_values labels.now ≡ labels_from 1 (labelled_in body) }
+    ensures { AppendsLines (instructions_of (program_in body.entry)) out.old out.new result }
 {
     let mut rest = body;
     while let Some((line, following)) = next_labelled(rest) {

@@ -5,9 +5,9 @@ ghost use Rattle.pv_image_manifest.specs.Reading.{held_sizes};
 ghost use Rattle.pv_model.specs.Answers.Lines.{spaced};
 ghost use Rattle.pv_model.specs.Grammar.Manifests.{path_of, add_entry, sizes_of};
 ghost use Rattle.pv_model.specs.Source.Judged.{image_so_far, judged_first, judged_block, is_init, made_or_reported, with_entry_made, with_entry_of};
-ghost use Rattle.pv_model.specs.Source.Words.{between, words_from};
 ghost use Rattle.pv_source.specs.ReadBlocks.{block_of};
 ghost use Rattle.pv_source.specs.LineCheck.{so_far_of, Finds};
+ghost use Rattle.pv_source.specs.Reading.{words_in};
 
 use crate::blocks::{Block, Kind};
 use crate::entries::entry_of_block;
@@ -62,7 +62,7 @@ fn made(
     lacked_room: bool,
     entry: Entry,
 ) -> Result<(TreeSoFar, LineCheck), ManifestFault>
-    ensures found { IfOk result (λ p. Finds p (made_or_reported (record { tree = Some tree; lacked_room = lacked_room }) (add_entry entry.line tree (entry_of_line entry).1))) }
+    ensures found { IfOk result (Finds (made_or_reported (record { tree = Some tree; lacked_room = lacked_room }) (add_entry entry.line tree (entry_of_line entry).1))) }
     ensures fault { IfErr result (λ fault. fault ≡ ManifestFault.Memory) }
 {
     let (tree, fault) = tree.with(alloc, entry)?;
@@ -85,7 +85,7 @@ fn with_entry(
     so_far: TreeSoFar,
     entry: Entry,
 ) -> Result<(TreeSoFar, LineCheck), ManifestFault>
-    ensures found { IfOk result (λ p. Finds p (with_entry_made (so_far_of so_far) entry.line (entry_of_line entry).1 so_far.tree)) }
+    ensures found { IfOk result (Finds (with_entry_made (so_far_of so_far) entry.line (entry_of_line entry).1 so_far.tree)) }
     ensures fault { IfErr result (λ fault. fault ≡ ManifestFault.Memory) }
 {
     let TreeSoFar { tree, lacked_room } = so_far;
@@ -109,7 +109,7 @@ fn judged_entry(
     is_exec: bool,
     entry: Entry,
 ) -> Result<(TreeSoFar, LineCheck), ManifestFault>
-    ensures found { IfOk result (λ p. Finds p (with_entry_of (so_far_of so_far) entry.line is_exec (Some (entry_of_line entry).1))) }
+    ensures found { IfOk result (Finds (with_entry_of (so_far_of so_far) entry.line is_exec (Some (entry_of_line entry).1))) }
     ensures fault { IfErr result (λ fault. fault ≡ ManifestFault.Memory) }
 {
     let is_other_init = !is_exec && makes_init(&entry);
@@ -123,7 +123,7 @@ fn judged_entry(
 
 // Returns whether there is exactly one word.
 fn has_one_word(words: &[u8]) -> bool
-    ensures { result ≡ (length (words_from words.now between) == 1) }
+    ensures { result ≡ (length (words_in words.now) == 1) }
 {
     match next_word(words) {
         Some((_, rest)) => has_no_word(rest),
@@ -142,7 +142,7 @@ pub fn judged_block(
     block: &Block,
 ) -> Result<(TreeSoFar, LineCheck), ManifestFault>
     requires { block.now.number + 1 + length block.now.body.now < 2 ^ 31 }
-    ensures found { IfOk result (λ p. Finds p (judged_block (so_far_of so_far) (block_of block.now))) }
+    ensures found { IfOk result (Finds (judged_block (so_far_of so_far) (block_of block.now))) }
     ensures fault { IfErr result (λ fault. fault ≡ ManifestFault.Memory) }
 {
     if block.kind == Kind::Schedule {
@@ -166,7 +166,7 @@ fn judged_sizes(
     blocks: u32,
     inodes: u32,
 ) -> Result<(TreeSoFar, LineCheck), ManifestFault>
-    ensures found { (sizes : ℕ × ℕ) → held_sizes sizes ≡ (blocks, inodes) → IfOk result (λ p. Finds p (image_so_far (Some sizes))) }
+    ensures found { (sizes : ℕ × ℕ) → held_sizes sizes ≡ (blocks, inodes) → IfOk result (Finds (image_so_far (Some sizes))) }
     ensures fault { IfErr result (λ fault. fault ≡ ManifestFault.Memory) }
 {
     if !are_image_sizes(blocks, inodes) {
@@ -182,7 +182,7 @@ fn judged_sizes(
 
 // Parses the sizes in words. A size greater than 4,294,967,295 is parsed as 4,294,967,295.
 fn sizes_of_words(alloc: Global, words: &[u8]) -> Result<Option<(u32, u32)>, AllocError>
-    ensures { IfOk result (λ o. o ≡ option_map held_sizes (sizes_of (spaced (words_from words.now between)))) }
+    ensures { IfOk result (λ o. o ≡ option_map held_sizes (sizes_of (spaced (words_in words.now)))) }
 {
     let mut line = Vec::new(alloc);
     push_words(words, &mut line)?;
@@ -191,7 +191,7 @@ fn sizes_of_words(alloc: Global, words: &[u8]) -> Result<Option<(u32, u32)>, All
 
 // Checks the words of the first line.
 fn judged_image(alloc: Global, words: &[u8]) -> Result<(TreeSoFar, LineCheck), ManifestFault>
-    ensures found { IfOk result (λ p. Finds p (image_so_far (sizes_of (spaced (words_from words.now between))))) }
+    ensures found { IfOk result (Finds (image_so_far (sizes_of (spaced (words_in words.now))))) }
     ensures fault { IfErr result (λ fault. fault ≡ ManifestFault.Memory) }
 {
     match sizes_of_words(alloc, words)? {
@@ -207,7 +207,7 @@ fn judged_image(alloc: Global, words: &[u8]) -> Result<(TreeSoFar, LineCheck), M
 ///
 /// Returns `Memory` if memory cannot be allocated, and no other error.
 pub fn judged_first(alloc: Global, block: &Block) -> Result<(TreeSoFar, LineCheck), ManifestFault>
-    ensures found { IfOk result (λ p. Finds p (judged_first (block_of block.now))) }
+    ensures found { IfOk result (Finds (judged_first (block_of block.now))) }
     ensures fault { IfErr result (λ fault. fault ≡ ManifestFault.Memory) }
 {
     match block.kind {

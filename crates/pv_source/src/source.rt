@@ -1,9 +1,10 @@
 //! Reading a source to its end and writing its translation, or the lines of its programs.
-ghost use Rattle.std.specs.Prelude.{◌≡◌, ◌++◌, ◌+◌, ◌<◌, ◌≤◌, ◌^◌, length, map, IfOk, OnOk};
+ghost use Rattle.std.specs.Prelude.{◌≡◌, ◌+◌, ◌<◌, ◌≤◌, ◌^◌, length, map, IfOk, OnOk};
 ghost use Rattle.pv_source.specs.Given.{WritesGiven, WritesOutput, WritesRight, output_of_source};
 ghost use Rattle.pv_source.specs.Outcome.{AreLines, fault_line, fault_lines, reported_of, stop_of};
 ghost use Rattle.pv_source.specs.Saying.{IsPrintable};
 ghost use Rattle.pv_source.specs.declared.source.SourceStop.TheVariants.{Memory as MemoryStop, Write as WriteStop};
+ghost use Rattle.pv_source.specs.Appending.{Appends};
 
 use crate::faults::Fault;
 use crate::located::located_lines;
@@ -75,7 +76,7 @@ impl From<Failed> for SourceStop {
 
 // Appends the line of an error.
 fn push_fault(name: &[u8], fault: &Fault, out: &mut Vec<u8>) -> Result<(), AllocError>
-    ensures text { OnOk result (out.new.items ≡ out.old.items ++ fault_line name.now (reported_of fault.now)) }
+    ensures text { Appends (fault_line name.now (reported_of fault.now)) out.old out.new result }
     ensures line { OnOk result (IsPrintable fault.now.what) }
 {
     let mut buffer = Buffer::new();

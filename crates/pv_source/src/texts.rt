@@ -1,14 +1,14 @@
 //! The text of a translated source.
-ghost use Rattle.std.specs.Prelude.{◌≡◌, ◌+◌, ◌<◌, ◌^◌, ◌∷◌, ◌++◌, [], length, map, IfOk, OnOk};
+ghost use Rattle.std.specs.Prelude.{◌≡◌, ◌+◌, ◌<◌, ◌^◌, ◌∷◌, [], length, map, IfOk};
 ghost use Rattle.pv_model.specs.Answers.Lines.{spaced};
 ghost use Rattle.pv_model.specs.Grammar.Lines.{lines_of};
-ghost use Rattle.pv_model.specs.Grammar.Texts.{ended};
 ghost use Rattle.pv_model.specs.Source.Blocks.{blocks_of};
-ghost use Rattle.pv_model.specs.Source.Programs.{program_lines, instructions_of};
-ghost use Rattle.pv_model.specs.Source.Words.{between, words_from, lines_that_count};
+ghost use Rattle.pv_model.specs.Source.Programs.{instructions_of};
 ghost use Rattle.pv_model.specs.Source.Written.{counted_program, written_lines, text_of_blocks};
-ghost use Rattle.pv_source.specs.Reading.{numbered};
+ghost use Rattle.pv_source.specs.Reading.{words_in, worded_in};
 ghost use Rattle.pv_source.specs.ReadBlocks.{block_of};
+ghost use Rattle.pv_source.specs.Appending.{AppendsLines};
+ghost use Rattle.pv_source.specs.ReadPrograms.{program_in};
 
 use crate::blocks::{Block, Kind, next_block};
 use crate::lines::{Lines, next_line};
@@ -20,7 +20,7 @@ use std::alloc::{AllocError, Global};
 
 // Appends words as a line.
 fn push_line(words: &[u8], out: &mut Vec<u8>) -> Result<(), AllocError>
-    ensures { OnOk result (out.new.items ≡ out.old.items ++ ended (spaced (words_from words.now between) ∷ [])) }
+    ensures { AppendsLines (spaced (words_in words.now) ∷ []) out.old out.new result }
 {
     push_words(words, out)?;
     out.push(b'\n')?;
@@ -33,7 +33,7 @@ fn push_line(words: &[u8], out: &mut Vec<u8>) -> Result<(), AllocError>
 ///
 /// Returns `AllocError` if memory cannot be allocated.
 pub fn push_lines(text: &[u8], out: &mut Vec<u8>) -> Result<(), AllocError>
-    ensures { OnOk result (out.new.items ≡ out.old.items ++ ended (lines_of text.now)) }
+    ensures { AppendsLines (lines_of text.now) out.old out.new result }
 {
     let mut rest = text;
     while let Some((line, following)) = split_line(rest) {
@@ -47,7 +47,7 @@ pub fn push_lines(text: &[u8], out: &mut Vec<u8>) -> Result<(), AllocError>
 // Appends the lines that have words.
 fn push_turns(lines: Lines, out: &mut Vec<u8>) -> Result<(), AllocError>
     requires { lines.number + length lines.text.now < 2 ^ 31 }
-    ensures { OnOk result (out.new.items ≡ out.old.items ++ ended (map (λ line. spaced line.1) (lines_that_count (numbered lines.entry)))) }
+    ensures { AppendsLines (map (λ line. spaced line.1) (worded_in lines.entry)) out.old out.new result }
 {
     let mut rest = lines;
     while let Some((line, following)) = next_line(rest) {
@@ -65,7 +65,7 @@ fn push_counted(
     out: &mut Vec<u8>,
 ) -> Result<(), AllocError>
     requires { body.number + length body.text.now < 2 ^ 31 }
-    ensures { OnOk result (out.new.items ≡ out.old.items ++ ended (counted_program (words_from words.now between) (instructions_of (program_lines (numbered body.entry))))) }
+    ensures { AppendsLines (counted_program (words_in words.now) (instructions_of (program_in body.entry))) out.old out.new result }
 {
     let (labels, count) = labels_of(alloc, body)?;
     let mut buffer = Buffer::new();
@@ -77,7 +77,7 @@ fn push_counted(
 // Appends the line of an executable file, and the lines that it takes.
 #[tactic(auto, using(crate::proofs::WrittenTexts::ended_both))]
 fn push_taken(words: &[u8], text: &[u8], out: &mut Vec<u8>) -> Result<(), AllocError>
-    ensures { OnOk result (out.new.items ≡ out.old.items ++ ended (spaced (words_from words.now between) ∷ lines_of text.now)) }
+    ensures { AppendsLines (spaced (words_in words.now) ∷ lines_of text.now) out.old out.new result }
 {
     push_line(words, out)?;
     push_lines(text, out)?;
@@ -88,7 +88,7 @@ fn push_taken(words: &[u8], text: &[u8], out: &mut Vec<u8>) -> Result<(), AllocE
 #[tactic(auto, using(crate::proofs::WrittenTexts::bytes_counted))]
 fn push_block(alloc: Global, block: &Block, out: &mut Vec<u8>) -> Result<(), AllocError>
     requires { block.now.number + 1 + length block.now.body.now < 2 ^ 31 }
-    ensures { OnOk result (out.new.items ≡ out.old.items ++ ended (written_lines (block_of block.now))) }
+    ensures { AppendsLines (written_lines (block_of block.now)) out.old out.new result }
 {
     match block.kind {
         Kind::Single => push_line(block.words, out),

@@ -1,12 +1,12 @@
 //! Warnings about a source without errors: a pledge(2) that names a promise which does not exist fails in every run.
-ghost use Rattle.std.specs.Prelude.{◌≡◌, ◌+◌, ◌<◌, ◌^◌, flat_map, length, IfOk, OnOk, Option};
+ghost use Rattle.std.specs.Prelude.{◌≡◌, ◌+◌, ◌<◌, ◌^◌, flat_map, length, IfOk, OnOk};
 ghost use Rattle.pv_model.specs.declared.limits.TheConstants.{LINES as MAXIMUM};
 ghost use Rattle.pv_model.specs.Grammar.Instructions.{instruction_of};
-ghost use Rattle.pv_model.specs.Source.Programs.{labelled_lines};
 ghost use Rattle.pv_source.specs.Reading.{numbered};
 ghost use Rattle.pv_source.specs.ReadBlocks.{block_of};
 ghost use Rattle.pv_source.specs.Reporting.{Reports};
 ghost use Rattle.pv_source.specs.Warnings.{is_warned, lacks_keyword, warned_in, warned_labelled, warned_line, warned_lines as warned_by_definition, warned_taken};
+ghost use Rattle.pv_source.specs.ReadPrograms.{labelled_in};
 
 use crate::blocks::{Block, Kind, next_block};
 use crate::explaining;
@@ -62,7 +62,7 @@ fn warn_line(
 // Warns of the lines of a program that ends with END.
 fn warn_program(alloc: Global, body: Lines, warnings: &mut Faults) -> Result<(), AllocError>
     requires { body.number + length body.text.now < 2 ^ 31 }
-    ensures { OnOk result (Reports warnings.old warnings.new (flat_map warned_labelled (labelled_lines (numbered body.entry)))) }
+    ensures { OnOk result (Reports warnings.old warnings.new (flat_map warned_labelled (labelled_in body.entry))) }
 {
     let mut text = Vec::new(alloc);
     let mut rest = body;

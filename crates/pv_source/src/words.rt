@@ -1,10 +1,11 @@
 //! The words of a line of a source.
-ghost use Rattle.std.specs.Prelude.{◌≡◌, ◌≢◌, ◌==◌, ◌<◌, ◌≤◌, ◌∷◌, ◌++◌, [], true, false, length, take, drop, MatchOption, MatchBool, IfSome, OnOk, option_map};
+ghost use Rattle.std.specs.Prelude.{◌≡◌, ◌≢◌, ◌==◌, ◌<◌, ◌≤◌, ◌∷◌, [], true, false, length, take, drop, MatchOption, MatchBool, IfSome, option_map};
 ghost use Rattle.std.specs.List.{list_all, list_any, position, position_or_len};
 ghost use Rattle.pv_model.specs.Answers.Lines.{spaced};
 ghost use Rattle.pv_model.specs.Source.Blocks.{mark_of};
 ghost use Rattle.pv_model.specs.Source.Words.{is_blank, is_letter, between, in_text, begun, words_from, words_of, before_last, last_word, with_last_word, is_alone};
-ghost use Rattle.pv_source.specs.Reading.{BeginsNoBlank, spaced_more};
+ghost use Rattle.pv_source.specs.Reading.{BeginsNoBlank, spaced_more, words_in};
+ghost use Rattle.pv_source.specs.Appending.{Appends};
 
 use pv_text::lines::first_of;
 use std::alloc::AllocError;
@@ -37,7 +38,7 @@ pub fn before_last(last: u8, bytes: &[u8]) -> Option<&[u8]>
 /// Returns a line without a carriage return at its end. Its words are those of the result.
 #[tactic(auto, unfolding(pv_model::specs::Source::Words::words_of))]
 pub fn content(line: &[u8]) -> &[u8]
-    ensures { words_from result.now between ≡ words_of line.now }
+    ensures { words_in result.now ≡ words_of line.now }
 {
     before_last(b'\r', line).unwrap_or(line)
 }
@@ -59,7 +60,7 @@ fn first_blank(bytes: &[u8]) -> usize
 
 // Returns the bytes from the first that is not a blank.
 fn after_blanks(bytes: &[u8]) -> &[u8]
-    ensures same { words_from result.now between ≡ words_from bytes.now between }
+    ensures same { words_in result.now ≡ words_in bytes.now }
     ensures begins { BeginsNoBlank result.now }
     ensures shorter { length result.now ≤ length bytes.now }
 {
@@ -105,7 +106,7 @@ fn rest_length(first: u8, bytes: &[u8]) -> usize
 
 /// Returns the first word, with the bytes after it, or `None` if there are only blanks and a comment.
 pub fn next_word(words: &[u8]) -> Option<(&[u8], &[u8])>
-    ensures word { MatchOption result (words_from words.now between ≡ []) (λ p. words_from words.now between ≡ p.0.now ∷ words_from p.1.now between) }
+    ensures word { MatchOption result (words_in words.now ≡ []) (λ p. words_in words.now ≡ p.0.now ∷ words_in p.1.now) }
     ensures shorter { IfSome result (λ p. length p.1.now < length words.now) }
 {
     let bytes = after_blanks(words);
@@ -120,14 +121,14 @@ pub fn next_word(words: &[u8]) -> Option<(&[u8], &[u8])>
 
 /// Returns whether there is no word.
 pub fn has_no_word(words: &[u8]) -> bool
-    ensures { MatchBool result (words_from words.now between ≡ []) (words_from words.now between ≢ []) }
+    ensures { MatchBool result (words_in words.now ≡ []) (words_in words.now ≢ []) }
 {
     next_word(words).is_none()
 }
 
 /// Returns the last word, or an empty slice if there is none.
 pub fn last_word(words: &[u8]) -> &[u8]
-    ensures { result.now ≡ last_word (words_from words.now between) }
+    ensures { result.now ≡ last_word (words_in words.now) }
 {
     let Some((first, following)) = next_word(words) else {
         return &words[..0];
@@ -143,7 +144,7 @@ pub fn last_word(words: &[u8]) -> &[u8]
 
 /// Returns whether `word` is the only word.
 pub fn is_alone(word: &[u8], words: &[u8]) -> bool
-    ensures { result ≡ is_alone word.now (words_from words.now between) }
+    ensures { result ≡ is_alone word.now (words_in words.now) }
 {
     let Some((first, rest)) = next_word(words) else {
         return false;
@@ -153,7 +154,7 @@ pub fn is_alone(word: &[u8], words: &[u8]) -> bool
 
 // Appends further words, with a space before each.
 fn push_more(words: &[u8], out: &mut Vec<u8>) -> Result<(), AllocError>
-    ensures { OnOk result (out.new.items ≡ out.old.items ++ spaced_more (words_from words.now between)) }
+    ensures { Appends (spaced_more (words_in words.now)) out.old out.new result }
 {
     let mut rest = words;
     while let Some((word, following)) = next_word(rest) {
@@ -170,7 +171,7 @@ fn push_more(words: &[u8], out: &mut Vec<u8>) -> Result<(), AllocError>
 ///
 /// Returns `AllocError` if memory cannot be allocated.
 pub fn push_words(words: &[u8], out: &mut Vec<u8>) -> Result<(), AllocError>
-    ensures { OnOk result (out.new.items ≡ out.old.items ++ spaced (words_from words.now between)) }
+    ensures { Appends (spaced (words_in words.now)) out.old out.new result }
 {
     let Some((first, rest)) = next_word(words) else {
         return Ok(());
@@ -185,7 +186,7 @@ pub fn push_words(words: &[u8], out: &mut Vec<u8>) -> Result<(), AllocError>
 ///
 /// Returns `AllocError` if memory cannot be allocated.
 pub fn push_more_with_last(words: &[u8], last: &[u8], out: &mut Vec<u8>) -> Result<(), AllocError>
-    ensures { OnOk result (out.new.items ≡ out.old.items ++ spaced_more (with_last_word last.now (words_from words.now between))) }
+    ensures { Appends (spaced_more (with_last_word last.now (words_in words.now))) out.old out.new result }
 {
     let mut rest = words;
     while let Some((word, following)) = next_word(rest) {
@@ -205,7 +206,7 @@ pub fn push_more_with_last(words: &[u8], last: &[u8], out: &mut Vec<u8>) -> Resu
 ///
 /// Returns `AllocError` if memory cannot be allocated.
 pub fn push_with_last(words: &[u8], last: &[u8], out: &mut Vec<u8>) -> Result<(), AllocError>
-    ensures { OnOk result (out.new.items ≡ out.old.items ++ spaced (with_last_word last.now (words_from words.now between))) }
+    ensures { Appends (spaced (with_last_word last.now (words_in words.now))) out.old out.new result }
 {
     let Some((first, rest)) = next_word(words) else {
         return Ok(());

@@ -35,15 +35,6 @@ pub struct Recalled {
     pub cells: Vec<Cell>,
 }
 
-// Returns a copy of bytes.
-fn copy_of(alloc: Global, bytes: &[u8]) -> Result<Vec<u8>, AllocError>
-    ensures { IfOk result (λ copy. copy.items ≡ bytes.now) }
-{
-    let mut copy = Vec::new(alloc);
-    copy.extend_from_slice(bytes)?;
-    Ok(copy)
-}
-
 impl CachedSteps {
     ghost use Rattle.pv_step_cache.specs.Edits.{step_key};
     ghost use Rattle.pv_step_cache.specs.Steps.{Adds, HasStep, IsFound, WasCached, texts_in};
@@ -76,7 +67,7 @@ impl CachedSteps {
         ensures added { OnOk result (self.new.steps.items ≡ self.old.steps.items ++ step ∷ []) }
         ensures unchanged { OnErr result (self.new.steps.items ≡ self.old.steps.items) }
     {
-        let key = copy_of(alloc, &step.key)?;
+        let key = Vec::from_slice(alloc, &step.key)?;
         let _ = self.keys.add(key)?;
         self.steps.push(step)?;
         Ok(())

@@ -118,15 +118,6 @@ impl Model for Keys {
     ghost view = { λ k. map (λ v. v.bytes.items) k.set.keys };
 }
 
-// Returns a copy of bytes, without spare capacity.
-fn copy_of(alloc: Global, bytes: &[u8]) -> Result<Vec<u8>, AllocError>
-    ensures { IfOk result (λ copy. copy.items ≡ bytes.now) }
-{
-    let mut copy = Vec::new(alloc);
-    copy.extend_from_slice(bytes)?;
-    Ok(copy)
-}
-
 impl Keys {
     /// Returns an empty set.
     pub fn new(alloc: Global) -> Keys
@@ -202,7 +193,7 @@ impl Keys {
         if let Some(number) = self.find(key) {
             return Ok(number);
         }
-        let copy = copy_of(alloc, key)?;
+        let copy = Vec::from_slice(alloc, key)?;
         self.add(copy)
     }
 
@@ -218,7 +209,7 @@ impl Keys {
         if self.contains(key) {
             return Ok(());
         }
-        let copy = copy_of(alloc, key)?;
+        let copy = Vec::from_slice(alloc, key)?;
         let _ = self.add(copy)?;
         Ok(())
     }

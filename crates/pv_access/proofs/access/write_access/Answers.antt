@@ -1,41 +1,25 @@
-use Rattle.std.proofs.Common.{◌∙◌, ap, subst}
-use Rattle.pv_explore.specs.Observing.{observed_bytes}
-use Rattle.pv_model.specs.Answers.Lines.{answer_bytes}
-use Rattle.pv_model.specs.Bytes.{Bytes}
-use Rattle.pv_streams.specs.Sinks.{and_all, WritesPrefix}
-use Rattle.pv_streams.proofs.Reporting.{begins_first, begins_then, on_err, written_both}
-use Rattle.pv_access.specs.Texts.{access_texts}
-use Rattle.pv_access.proofs.Written.{access-bytes, end_lines, last-bytes}
+use Rattle.pv_answers.proofs.Writing.{or_as, or_longer}
+use Rattle.pv_explain.proofs.Stops.{still_ok, stopped, then_stops}
+use Rattle.pv_access.proofs.Written.{access-bytes, last-bytes}
 use Rattle.pv_access.proofs.access.write_access.Goals as goal
 
-pub returns-in_err-searched-clause-prefix : goal.returns-in_err-searched-clause-prefix
-returns-in_err-searched-clause-prefix g c =
-    let limit = c.args.states in
-    let s = c.args.first_machine.now in
-    on_err c.from_residual.result
-    (subst (λ (bs : Bytes). WritesPrefix bs (g.W.Sink.written c.args.out.now) (g.W.Sink.written c.search_observed.new.out)) (access-bytes limit s)
-    (begins_first (observed_bytes access_texts limit s) (answer_bytes (end_lines limit s)) _ _ c.in_err-searched.ensures.written.prefix))
+pub returns-in_err-searched-clause-written : goal.returns-in_err-searched-clause-written
+returns-in_err-searched-clause-written g c = stopped c.from_residual.ensures.1 (or_as (access-bytes c.args.states c.args.first_machine.now) (or_longer _ c.in_err-searched.ensures.written))
 
-pub returns-in_err-write_last-clause-prefix : goal.returns-in_err-write_last-clause-prefix
-returns-in_err-write_last-clause-prefix g c =
-    let limit = c.args.states in
+pub returns-in_err-write_last-clause-written : goal.returns-in_err-write_last-clause-written
+returns-in_err-write_last-clause-written g c =
     let s = c.args.first_machine.now in
     let r = c.in_ok-searched.searched in
-    let last = last-bytes limit s c.tree.result.now.tree r.states r.complete r.endings r.texts c.tree.ensures c.in_ok-searched.ensures.found in
-    on_err c.from_residual-in_err-write_last.result
-    (subst (λ (bs : Bytes). WritesPrefix bs (g.W.Sink.written c.args.out.now) (g.W.Sink.written c.write_last.new.out)) (access-bytes limit s)
-    (begins_then (observed_bytes access_texts limit s) (answer_bytes (end_lines limit s)) _ _ _ c.in_ok-searched.ensures.written.whole
-    (subst (λ (bs : Bytes). WritesPrefix bs (g.W.Sink.written c.search_observed.new.out) (g.W.Sink.written c.write_last.new.out)) last c.in_err-write_last.ensures.prefix)))
+    let last = last-bytes c.args.states s c.tree.result.now.tree r.states r.complete r.endings r.texts c.tree.ensures c.in_ok-searched.ensures.found in
+    stopped c.from_residual-in_err-write_last.ensures.1
+    (or_as (access-bytes c.args.states s) (then_stops c.in_ok-searched.ensures.written (or_as last c.in_err-write_last.ensures)))
 
-pub returns-clause-whole : goal.returns-clause-whole
-returns-clause-whole g c =
-    let limit = c.args.states in
+pub returns-clause-written : goal.returns-clause-written
+returns-clause-written g c =
     let s = c.args.first_machine.now in
     let r = c.in_ok-searched.searched in
-    let last = last-bytes limit s c.tree.result.now.tree r.states r.complete r.endings r.texts c.tree.ensures c.in_ok-searched.ensures.found in
-    written_both (observed_bytes access_texts limit s) (answer_bytes (end_lines limit s)) _ _ _ c.in_ok-searched.ensures.written.whole
-    (c.in_ok-write_last.ensures.whole ∙ ap (and_all (g.W.Sink.written c.search_observed.new.out)) last)
-    ∙ ap (and_all (g.W.Sink.written c.args.out.now)) (access-bytes limit s)
+    let last = last-bytes c.args.states s c.tree.result.now.tree r.states r.complete r.endings r.texts c.tree.ensures c.in_ok-searched.ensures.found in
+    still_ok (or_as (access-bytes c.args.states s) (then_stops c.in_ok-searched.ensures.written (or_as last c.in_ok-write_last.ensures)))
 
 pub returns-clause-complete : goal.returns-clause-complete
 returns-clause-complete g c = c.in_ok-searched.ensures.found.complete_is

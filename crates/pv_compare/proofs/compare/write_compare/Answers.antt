@@ -3,7 +3,8 @@ use Rattle.std.proofs.lemmas.Result.{err_from_is_err_and}
 use Rattle.pv_answers.proofs.Writing.{or_as}
 use Rattle.pv_compare.specs.Answering.{compared_by, result_text}
 use Rattle.pv_compare.specs.declared.compare.Compared.{Compared}
-use Rattle.pv_compare.proofs.Answered.{compared-is, result-is, search-is, unwritten}
+use Rattle.pv_compare.proofs.Answered.{compared-is, result-is, search-is}
+use Rattle.pv_explore.proofs.Stopped.{unwritten}
 use Rattle.pv_compare.proofs.compare.write_compare.Goals as goal
 
 pub search_all-requires : goal.search_all-requires

@@ -1,16 +1,18 @@
-use Rattle.std.proofs.Common.{◌∙◌, ap, subst, refl}
+use Rattle.std.proofs.Common.{◌∙◌, ap, refl}
 use Rattle.std.proofs.lemmas.Result.{err_from_is_err_and}
 use Rattle.pv_model.specs.Answers.Settings.{settings_of}
-use Rattle.pv_model.specs.Bytes.{Bytes}
 use Rattle.pv_model.specs.State.{process_at}
-use Rattle.pv_streams.specs.Sinks.{and_all, WritesPrefix}
-use Rattle.pv_streams.proofs.Reporting.{begins_first, begins_then, on_err, written_both}
+use Rattle.pv_answers.proofs.Writing.{or_ok, writes_as, writes_both, writes_longer}
 use Rattle.pv_explain.specs.declared.making.MadeStep.TheVariants.{Call as CallMade}
 use Rattle.pv_explain.specs.Keeping.{settings_in}
 use Rattle.pv_explain.specs.Made.{settings_made}
 use Rattle.pv_explain.proofs.Made.{left-by, settings-made, step-text}
 use Rattle.pv_explain.proofs.Steps.{stops-here}
+use Rattle.pv_explain.proofs.Stops.{no_memory, unwritten}
 use Rattle.pv_explain.proofs.explain.explain_call.Goals as goal
+
+pub returns-in_err-made-clause-written : goal.returns-in_err-made-clause-written
+returns-in_err-made-clause-written g c = no_memory c.from_residual.ensures.1
 
 pub returns-in_err-made-clause-stopped : goal.returns-in_err-made-clause-stopped
 returns-in_err-made-clause-stopped g c =
@@ -18,28 +20,29 @@ returns-in_err-made-clause-stopped g c =
     rw p.1 (stops-here c.args.errors c.args.step.number c.args.origins.now c.args.session.now c.make_call.new.session c.args.step.pid (g.W.Sink.written c.args.out.now)
     c.in_err-made.ensures.unchanged c.in_err-made.ensures.memory p.0 p.2)
 
-pub returns-in_err-write_step_line-clause-prefix : goal.returns-in_err-write_step_line-clause-prefix
-returns-in_err-write_step_line-clause-prefix g c =
-    on_err c.from_residual-in_err-write_step_line.result
-    (subst (λ (bs : Bytes). WritesPrefix bs (g.W.Sink.written c.args.out.now) (g.W.Sink.written c.write_step_line.new.out))
-    (step-text c.args.session.now c.args.step.pid (CallMade c.in_ok-made.made) c.make_call.new.session c.in_ok-made.ensures.made c.args.errors c.args.step.number c.args.origins.now _ refl)
-    (begins_first _ _ _ _ c.in_err-write_step_line.ensures.prefix))
+pub returns-in_err-write_step_line-clause-written : goal.returns-in_err-write_step_line-clause-written
+returns-in_err-write_step_line-clause-written g c =
+    let made = c.in_ok-made.ensures.made in
+    unwritten c.from_residual-in_err-write_step_line.ensures.1
+    (writes_as (step-text c.args.session.now c.args.step.pid (CallMade c.in_ok-made.made) c.make_call.new.session made c.args.errors c.args.step.number c.args.origins.now _ refl)
+    (writes_longer _ c.in_err-write_step_line.ensures))
 
-pub returns-in_err-write_call_and_error-clause-prefix : goal.returns-in_err-write_call_and_error-clause-prefix
-returns-in_err-write_call_and_error-clause-prefix g c =
-    on_err c.from_residual-in_err-write_call_and_error.result
-    (subst (λ (bs : Bytes). WritesPrefix bs (g.W.Sink.written c.args.out.now) (g.W.Sink.written c.write_call_and_error.new.out))
-    (step-text c.args.session.now c.args.step.pid (CallMade c.in_ok-made.made) c.make_call.new.session c.in_ok-made.ensures.made c.args.errors c.args.step.number c.args.origins.now (settings_in c.of.result.now) c.of.ensures.value)
-    (begins_then _ _ _ _ _ c.in_ok-write_step_line.ensures.whole c.in_err-write_call_and_error.ensures.prefix))
+pub returns-in_err-write_call_and_error-clause-written : goal.returns-in_err-write_call_and_error-clause-written
+returns-in_err-write_call_and_error-clause-written g c =
+    let made = c.in_ok-made.ensures.made in
+    unwritten c.from_residual-in_err-write_call_and_error.ensures.1
+    (writes_as (step-text c.args.session.now c.args.step.pid (CallMade c.in_ok-made.made) c.make_call.new.session made c.args.errors c.args.step.number c.args.origins.now (settings_in c.of.result.now) c.of.ensures.value)
+    (writes_both c.in_ok-write_step_line.ensures c.in_err-write_call_and_error.ensures))
 
 pub returns-clause-after : goal.returns-clause-after
 returns-clause-after g c = left-by c.args.session.now c.args.step.pid (CallMade c.in_ok-made.made) c.make_call.new.session c.in_ok-made.ensures.made
 
-pub returns-clause-whole : goal.returns-clause-whole
-returns-clause-whole g c =
-    written_both _ _ _ _ _ c.in_ok-write_step_line.ensures.whole c.in_ok-write_call_and_error.ensures.whole
-    ∙ ap (and_all (g.W.Sink.written c.args.out.now))
-    (step-text c.args.session.now c.args.step.pid (CallMade c.in_ok-made.made) c.make_call.new.session c.in_ok-made.ensures.made c.args.errors c.args.step.number c.args.origins.now (settings_in c.of.result.now) c.of.ensures.value)
+pub returns-clause-written : goal.returns-clause-written
+returns-clause-written g c =
+    let made = c.in_ok-made.ensures.made in
+    or_ok
+    (writes_as (step-text c.args.session.now c.args.step.pid (CallMade c.in_ok-made.made) c.make_call.new.session made c.args.errors c.args.step.number c.args.origins.now (settings_in c.of.result.now) c.of.ensures.value)
+    (writes_both c.in_ok-write_step_line.ensures c.in_ok-write_call_and_error.ensures))
 
 pub returns-clause-keeps : goal.returns-clause-keeps
 returns-clause-keeps g c q lives =

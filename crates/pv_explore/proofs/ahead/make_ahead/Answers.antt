@@ -8,7 +8,7 @@ ahead-init g c = record {
   parts_grew = grew-none c.args.parts.now;
   groups_grew = grew-none c.args.groups.now;
   steps = c.requires.steps;
-  cells = subst (AreCellsOf c.args.parts.now c.args.groups.now c.args.position) (sym c.in_ok-cells.ensures) c.requires.cells;
+  cells = subst (AreCellsOf c.args.parts.now c.args.groups.now c.args.position) (sym c.in_ok-cells.ensures.items) c.requires.cells;
 }
 
 pub ahead-preserved : goal.ahead-preserved

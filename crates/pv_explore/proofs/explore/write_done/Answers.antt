@@ -1,19 +1,9 @@
-use Rattle.std.proofs.Common.{[], ◌++◌}
-use Rattle.std.proofs.lemmas.Result.{on_err_weaker}
-use Rattle.pv_model.specs.Answers.Explore.{endings_line, states_line}
-use Rattle.pv_model.specs.Answers.Lines.{answer_line_bytes}
-use Rattle.pv_streams.proofs.Reporting.{begins_first, begins_then, on_err}
+use Rattle.std.proofs.Common.{append-nil, sym}
+use Rattle.pv_answers.proofs.Writing.{writes_as, writes_both, writes_failed, writes_longer}
 use Rattle.pv_explore.proofs.explore.write_done.Goals as goal
 
-pub returns-in_err-write_states-clause-prefix : goal.returns-in_err-write_states-clause-prefix
-returns-in_err-write_states-clause-prefix g c =
-    let r = c.args.searched.now in
-    on_err c.from_residual.result (begins_first (answer_line_bytes (states_line r.states r.complete)) (answer_line_bytes (endings_line r.endings) ++ []) _ _ c.in_err-write_states.ensures.prefix)
+pub returns-in_err-write_states : goal.returns-in_err-write_states
+returns-in_err-write_states g c = writes_failed c.from_residual.ensures.0 (writes_longer _ c.in_err-write_states.ensures)
 
-pub returns-clause-prefix : goal.returns-clause-prefix
-returns-clause-prefix g c =
-    let r = c.args.searched.now in
-    on_err_weaker c.write_endings.result
-    (λ begun. begins_then (answer_line_bytes (states_line r.states r.complete)) (answer_line_bytes (endings_line r.endings) ++ []) _ _ _ c.in_ok-write_states.ensures.whole
-    (begins_first (answer_line_bytes (endings_line r.endings)) [] _ _ begun))
-    c.write_endings.ensures.prefix
+pub returns : goal.returns
+returns g c = writes_both c.in_ok-write_states.ensures (writes_as (sym (append-nil _)) c.write_endings.ensures)

@@ -1,12 +1,11 @@
 use Rattle.std.proofs.Common.{◌≡◌, drop}
+use Rattle.pv_answers.proofs.Writing.{WritesBut}
 use Rattle.pv_explore.specs.Vertices.{steps_at}
-use Rattle.pv_listing.proofs.Rests.{LeavesRest}
 use Rattle.pv_model.specs.Answers.Lines.{answer_bytes}
 use Rattle.pv_explore.proofs.graph.write_steps.Given as goal
 
 abbrev pub invariant-loop-pid : goal.invariant-loop-pid
 invariant-loop-pid g l = record {
-  left : LeavesRest (answer_bytes (steps_at l.states l.fn.checkpoints l.witness (drop l.pid-index l.live))) (answer_bytes (steps_at l.states l.fn.checkpoints l.witness l.live)) (g.W.Sink.written l.fn.out) (g.W.Sink.written l.out);
+  left : WritesBut g.W.Sink (answer_bytes (steps_at l.states l.fn.checkpoints l.witness (drop l.pid-index l.live))) (answer_bytes (steps_at l.states l.fn.checkpoints l.witness l.live)) l.fn.out l.out;
   same : l.checkpoints ≡ l.fn.checkpoints;
-  quiet : g.W.Sink.failures l.out ≡ g.W.Sink.failures l.fn.out;
 }

@@ -1,8 +1,8 @@
 use Rattle.std.proofs.Common.{◌≡◌, drop}
+use Rattle.pv_answers.proofs.Writing.{WritesBut}
 use Rattle.pv_explore.specs.Plan.{reported_after}
 use Rattle.pv_explore.specs.Witnesses.{longer}
 use Rattle.pv_explore.proofs.Finding.{texts_left}
-use Rattle.pv_listing.proofs.Rests.{LeavesRest}
 use Rattle.pv_step_cache.specs.Steps.{texts_in}
 use Rattle.pv_explore.proofs.search.report.Given as goal
 
@@ -10,7 +10,6 @@ abbrev pub invariant-loop-text : goal.invariant-loop-text
 invariant-loop-text g l =
     let long = longer l.witnesses l.number l.pid in
     record {
-      left : LeavesRest (texts_left l.pid long (drop l.text-index l.texts) l.reported) (texts_left l.pid long l.texts l.fn.reported) (g.W.Sink.written l.fn.out) (g.W.Sink.written l.out);
+      left : WritesBut g.W.Sink (texts_left l.pid long (drop l.text-index l.texts) l.reported) (texts_left l.pid long l.texts l.fn.reported) l.fn.out l.out;
       reported : reported_after l.reported (texts_in (drop l.text-index l.texts)) ≡ reported_after l.fn.reported (texts_in l.texts);
-      quiet : g.W.Sink.failures l.out ≡ g.W.Sink.failures l.fn.out;
     }

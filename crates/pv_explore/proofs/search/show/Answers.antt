@@ -1,32 +1,27 @@
-use Rattle.std.proofs.Common.{◌≡◌, ◌∙◌, ap, List, ℕ, rules, subst, sym, true}
+use Rattle.std.proofs.Common.{◌≡◌, ◌∙◌, ap, List, ℕ, rules, true}
+use Rattle.pv_answers.proofs.Writing.{or_ok, writes_as}
+use Rattle.pv_explain.proofs.Stops.{no_memory, unwritten}
 use Rattle.pv_explore.specs.Observing.{is_shown}
-use Rattle.pv_explore.specs.Plan.{move_bytes, shown_bytes}
+use Rattle.pv_explore.specs.Plan.{move_bytes}
 use Rattle.pv_explore.specs.Witnesses.{longer}
 use Rattle.pv_explore.proofs.Finding.{shown-some}
-use Rattle.pv_model.specs.Bytes.{Bytes}
-use Rattle.pv_streams.specs.Sinks.{and_all, WritesPrefix}
-use Rattle.pv_streams.proofs.Sinks.{written_nothing}
-use Rattle.pv_streams.proofs.Reporting.{on_err}
 use Rattle.pv_explore.proofs.search.show.Goals as goal
 
-pub returns-in_err-witness-clause-prefix : goal.returns-in_err-witness-clause-prefix
-returns-in_err-witness-clause-prefix g c =
-    on_err c.from_residual.result (0, sym (written_nothing (shown_bytes c.args.pid (longer c.args.witnesses.now c.args.number c.args.pid) c.args.text.now) (g.W.Sink.written c.args.out.now)))
+pub returns-in_err-witness : goal.returns-in_err-witness
+returns-in_err-witness g c = no_memory c.from_residual.ensures.1
 
-pub returns-in_err-write_move-clause-prefix : goal.returns-in_err-write_move-clause-prefix
-returns-in_err-write_move-clause-prefix g c =
-    let long = longer c.args.witnesses.now c.args.number c.args.pid in
+pub returns-in_err-write_move : goal.returns-in_err-write_move
+returns-in_err-write_move g c =
     let shown : is_shown c.args.text.now ≡ true = search rules in
     let is =
     ap (λ (w : List ℕ). move_bytes c.args.pid w c.args.text.now) (c.deref.ensures.value ∙ c.in_ok-witness.ensures)
-    ∙ shown-some c.args.pid long c.args.text.now shown in
-    on_err c.from_residual-in_err-write_move.result (subst (λ (bs : Bytes). WritesPrefix bs (g.W.Sink.written c.args.out.now) (g.W.Sink.written c.write_move.new.out)) is c.in_err-write_move.ensures.prefix)
+    ∙ shown-some c.args.pid (longer c.args.witnesses.now c.args.number c.args.pid) c.args.text.now shown in
+    unwritten c.from_residual-in_err-write_move.ensures.1 (writes_as is c.in_err-write_move.ensures)
 
-pub returns-clause-whole : goal.returns-clause-whole
-returns-clause-whole g c =
-    let long = longer c.args.witnesses.now c.args.number c.args.pid in
+pub returns : goal.returns
+returns g c =
     let shown : is_shown c.args.text.now ≡ true = search rules in
     let is =
     ap (λ (w : List ℕ). move_bytes c.args.pid w c.args.text.now) (c.deref.ensures.value ∙ c.in_ok-witness.ensures)
-    ∙ shown-some c.args.pid long c.args.text.now shown in
-    c.in_ok-write_move.ensures.whole ∙ ap (and_all (g.W.Sink.written c.args.out.now)) is
+    ∙ shown-some c.args.pid (longer c.args.witnesses.now c.args.number c.args.pid) c.args.text.now shown in
+    or_ok (writes_as is c.in_ok-write_move.ensures)

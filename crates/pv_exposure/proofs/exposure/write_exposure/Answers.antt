@@ -1,26 +1,22 @@
-use Rattle.std.proofs.Common.{◌∙◌, ap, subst, rules}
-use Rattle.pv_model.specs.Bytes.{Bytes}
-use Rattle.pv_streams.proofs.Reporting.{on_err}
-use Rattle.pv_streams.specs.Sinks.{WritesPrefix, and_all}
+use Rattle.std.proofs.Common.{◌∙◌}
+use Rattle.std.proofs.lemmas.Result.{err_from_is_err_and}
+use Rattle.pv_answers.proofs.Writing.{or_as, or_ok}
+use Rattle.pv_explore.proofs.Stopped.{unfinished, unwritten}
+use Rattle.pv_exposure.proofs.Written.{search-text}
 use Rattle.pv_exposure.proofs.exposure.write_exposure.Goals as goal
 
+pub returns-in_err-lines-clause-written : goal.returns-in_err-lines-clause-written
+returns-in_err-lines-clause-written g c =
+    let failed = err_from_is_err_and c.from_residual-in_err-lines.result c.from_residual-in_err-lines.ensures.1 in
+    unwritten g.W.Sink _ c.args.out.now c.from_residual-in_err-lines.result failed.0 failed.1 failed.2
+
 pub returns-in_err-write_whole-clause-written : goal.returns-in_err-write_whole-clause-written
-returns-in_err-write_whole-clause-written g c = record {
-  whole = search rules;
-  prefix =
-      (let same = c.deref.ensures.value ∙ c.in_ok-text.ensures.lines in
-      on_err c.from_residual-in_err-write_whole.result
-      (subst (λ (bs : Bytes). WritesPrefix bs (g.W.Sink.written c.args.out.now) (g.W.Sink.written c.write_whole.new.sink)) same c.in_err-write_whole.ensures.prefix));
-  failed = search rules;
-  quiet = search rules;
-}
+returns-in_err-write_whole-clause-written g c =
+    let failed = err_from_is_err_and c.from_residual-in_err-write_whole.result c.from_residual-in_err-write_whole.ensures.1 in
+    or_as (c.deref.ensures.value ∙ c.in_ok-lines.ensures.text ∙ search-text c.args.states c.args.first_machine.now c.tree.result.now.tree c.in_ok-visits.visits c.tree.ensures c.in_ok-visits.ensures)
+    (unfinished g.W.Sink _ c.args.out.now c.write_whole.new.sink c.from_residual-in_err-write_whole.result failed.0 _ failed.1 failed.2 c.in_err-write_whole.ensures)
 
 pub returns-clause-written : goal.returns-clause-written
-returns-clause-written g c = record {
-  whole =
-      (let same = c.deref.ensures.value ∙ c.in_ok-text.ensures.lines in
-      c.in_ok-write_whole.ensures.whole ∙ ap (and_all (g.W.Sink.written c.args.out.now)) same);
-  prefix = search rules;
-  failed = search rules;
-  quiet = search rules;
-}
+returns-clause-written g c =
+    or_as (c.deref.ensures.value ∙ c.in_ok-lines.ensures.text ∙ search-text c.args.states c.args.first_machine.now c.tree.result.now.tree c.in_ok-visits.visits c.tree.ensures c.in_ok-visits.ensures)
+    (or_ok c.in_ok-write_whole.ensures)

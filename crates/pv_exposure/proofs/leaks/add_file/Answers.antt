@@ -16,7 +16,7 @@ returns-then-contains-clause-leaks c = λ p at.
     let v = c.args.visit.now in
     let ks : List RecordedLeak = all_recorded c.args.leaks.now.items in
     let key = record_key p.line (node_brief v.parts.now.tree c.args.node) in
-    let key_is = c.in_ok-key.ensures ∙ ap₂ record_key (c.line_of-line.ensures p at) (c.deref.ensures.value ∙ c.in_ok-file.ensures ∙ ap (λ (t : Tree). node_brief t c.args.node) c.tree.ensures) in
+    let key_is = c.in_ok-key.ensures ∙ ap₂ record_key (c.line_of-line.ensures p at) (c.deref.ensures.value ∙ c.in_ok-file.ensures ∙ ap (λ (t : Tree). node_brief t c.args.node) c.tree-tree.ensures) in
     let known : has_key ks key ≡ true =
     has-key key ks ∙ sym (ap₂ (λ (bs : Bytes) (keys : List Bytes). list_any (bytes_eq bs) keys) (c.deref-2.ensures.value ∙ key_is) c.requires.keys) ∙ sym c.contains.ensures ∙ c.if-contains.true in
     sym (file-known ks (located_in v p) c.args.node known)
@@ -30,7 +30,7 @@ returns-clause-leaks c =
     let brief = node_brief v.parts.now.tree c.args.node in
     let key = record_key p.line brief in
     let line = c.line_of-line.ensures p at in
-    let file : c.in_ok-file.file.items ≡ brief = c.in_ok-file.ensures ∙ ap (λ (t : Tree). node_brief t c.args.node) c.tree.ensures in
+    let file : c.in_ok-file.file.items ≡ brief = c.in_ok-file.ensures ∙ ap (λ (t : Tree). node_brief t c.args.node) c.tree-tree.ensures in
     let key_is = c.in_ok-key.ensures ∙ ap₂ record_key line (c.deref.ensures.value ∙ file) in
     let new : has_key ks key ≡ false =
     has-key key ks ∙ sym (ap₂ (λ (bs : Bytes) (keys : List Bytes). list_any (bytes_eq bs) keys) (c.deref-2.ensures.value ∙ key_is) c.requires.keys) ∙ sym c.contains.ensures ∙ c.if-contains.false in

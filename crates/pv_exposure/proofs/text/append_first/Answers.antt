@@ -9,15 +9,15 @@ use Rattle.pv_exposure.specs.declared.leaks.StoredLeak.{StoredLeak}
 use Rattle.pv_exposure.proofs.Texts.{first-here}
 use Rattle.pv_exposure.proofs.text.append_first.Goals as goal
 
-pub returns-then-leak-line : goal.returns-then-leak-line
-returns-then-leak-line c =
+pub returns-then-from-line : goal.returns-then-from-line
+returns-then-from-line c =
     let ls = c.args.leaks.now in
     let i = c.loop-leak.leak-index in
     let x = c.leak-item.result in
     let file = c.args.file.now in
     let next = drop_more ls i x c.loop-leak-test.true ∙ ap (λ (y : StoredLeak). y ∷ drop (i + 1) ls) (sym c.leak-item.is) in
     let same : bytes_eq x.file.items file ≡ true = search rules in
-    let here = sym (first-here file c.args.line x (drop (i + 1) ls) same c.if-leak-line.true) ∙ ap (λ (zs : List StoredLeak). first_at c.args.line (recorded_of_file file (all_recorded zs))) (sym next) ∙ c.loop-leak.invariant.first in
+    let here = sym (first-here file c.args.line x (drop (i + 1) ls) same (sym c.from.ensures ∙ c.if-from-line.true)) ∙ ap (λ (zs : List StoredLeak). first_at c.args.line (recorded_of_file file (all_recorded zs))) (sym next) ∙ c.loop-leak.invariant.first in
     on_ok_weaker c.append_leak.result
     (λ added. added ∙ ap₂ (λ (bs : Bytes) (o : Option RecordedLeak). bs ++ answer_bytes (recorded_lines_by c.args.ranges.now o)) c.loop-leak.invariant.same here)
     c.append_leak.ensures

@@ -13,10 +13,10 @@ returns c =
     let e = c.args.program.now in
     let line = answer_line_bytes (program_line program_of t c.args.number e.program) in
     let safe_lines : List ℕ → List AnswerLine = λ fs. if c.args.complete then map (safe_line t) fs else [] in
-    let name : c.append_name.new.out.bytes.items ≡ c.args.out.now.bytes.items ++ line = search rules in
-    let leaks : c.append_leaks.new.out.bytes.items ≡ c.append_name.new.out.bytes.items ++ answer_bytes (all_recorded_lines e.recorded) = search rules in
+    let name : c.append_program_line.new.out.bytes.items ≡ c.args.out.now.bytes.items ++ line = search rules in
+    let leaks : c.append_leaks.new.out.bytes.items ≡ c.append_program_line.new.out.bytes.items ++ answer_bytes (all_recorded_lines e.recorded) = search rules in
     on_ok_weaker c.append_safe_if.result
     (λ last.
-    three c.args.out.now.bytes.items c.append_name.new.out.bytes.items c.append_leaks.new.out.bytes.items c.append_safe_if.new.out.bytes.items line (all_recorded_lines e.recorded) (safe_lines e.safe) name leaks
+    three c.args.out.now.bytes.items c.append_program_line.new.out.bytes.items c.append_leaks.new.out.bytes.items c.append_safe_if.new.out.bytes.items line (all_recorded_lines e.recorded) (safe_lines e.safe) name leaks
     (last ∙ ap (λ (fs : List ℕ). c.append_leaks.new.out.bytes.items ++ answer_bytes (safe_lines fs)) c.safe.ensures))
     c.append_safe_if.ensures

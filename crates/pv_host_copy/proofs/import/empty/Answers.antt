@@ -4,4 +4,4 @@ use Rattle.pv_host_copy.proofs.import.empty.Goals as goal
 
 pub returns-clause-holds : goal.returns-clause-holds
 returns-clause-holds c =
-    start-holds c.args.version c.greatest_blocks-blocks.result _ (c.into_tree.ensures.tree ∙ c.in_ok-store.ensures) c.greatest_blocks-blocks.ensures c.new.ensures.items c.new-2.ensures.items
+    start-holds c.args.version c.layout-blocks.result.greatest_blocks _ (c.into_tree.ensures.tree ∙ c.in_ok-store.ensures) c.layout-blocks.ensures.greatest_blocks c.new.ensures.items c.new-2.ensures.items

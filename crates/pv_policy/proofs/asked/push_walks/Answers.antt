@@ -2,7 +2,8 @@ use Rattle.std.proofs.Common.{[], nat_le, subst, sym}
 use Rattle.std.proofs.lemmas.Result.{on_ok_weaker}
 use Rattle.pv_model.specs.declared.walk.Walks.{Walks}
 use Rattle.pv_model.specs.CallRef.{walk_of, walks_in}
-use Rattle.pv_policy.specs.Asked.{Has, begun_walks, if_begun}
+use Rattle.pv_needs.specs.Asking.{begun_walks, if_begun}
+use Rattle.pv_policy.specs.Asked.{Has}
 use Rattle.pv_policy.proofs.asked.push_walks.Goals as goal
 
 pub returns-in-One : goal.returns-in-One

@@ -14,7 +14,7 @@ returns-in-Some-clause-walks c =
     (λ walks e f me call there lives comes.
     let same = same-found c.in_ok-visited.field-0 c.in-Some.visited slot f c.in_ok-visited.ensures.at c.in-Some.is there in
     e me call (ap (λ (x : Found). process_at x.state c.args.pid) same ∙ lives) comes ∙ ap (λ (x : Found). (answer program_of x.state c.args.pid call).walks) same)
-    c.walks_from.ensures
+    c.walks_from.ensures.walks
 
 pub returns-in-None-clause-walks : goal.returns-in-None-clause-walks
 returns-in-None-clause-walks c f me call there lives comes =

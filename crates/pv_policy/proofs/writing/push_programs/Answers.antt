@@ -7,7 +7,7 @@ use Rattle.pv_policy.proofs.writing.push_programs.Goals as goal
 pub loop-k-preserved : goal.loop-k-preserved
 loop-k-preserved c =
     let f = usage_bytes c.args.tree.now.tree c.args.complete in
-    let first = c.args.lines.now.items in
+    let first = c.args.out.now.bytes.items in
     let programs = c.args.programs.now in
     let k = c.loop-k.k in
     let x = c.index-programs-k.result in

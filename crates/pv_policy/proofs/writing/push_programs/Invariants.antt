@@ -4,4 +4,4 @@ use Rattle.pv_policy.specs.Usage.{usage_bytes}
 use Rattle.pv_policy.proofs.writing.push_programs.Given as goal
 
 abbrev pub invariant-loop-k : goal.invariant-loop-k
-invariant-loop-k l = l.lines.items ≡ l.initial.lines.items ++ flat_map (usage_bytes l.tree.tree l.complete) (counted_from 1 (take l.k l.programs))
+invariant-loop-k l = l.out.bytes.items ≡ l.initial.out.bytes.items ++ flat_map (usage_bytes l.tree.tree l.complete) (counted_from 1 (take l.k l.programs))

@@ -11,4 +11,4 @@ use Rattle.pv_source.proofs.so_far.judged_image.Goals as goal
 pub returns-in-Some-clause-found : goal.returns-in-Some-clause-found
 returns-in-Some-clause-found c =
     let found = held_found (sizes_of (spaced (words_from c.args.words.now between))) c.in-Some.blocks c.in-Some.inodes (sym c.in-Some.is ∙ c.in_ok-blocks.ensures) in
-    subst (λ o. IfOk c.judged_sizes.result (λ p. Finds p (image_so_far o))) (sym found.1) (c.judged_sizes.ensures.found found.0 found.2)
+    subst (λ o. IfOk c.judged_sizes.result (Finds (image_so_far o))) (sym found.1) (c.judged_sizes.ensures.found found.0 found.2)

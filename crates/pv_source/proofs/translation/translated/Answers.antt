@@ -1,7 +1,7 @@
-use Rattle.std.proofs.Common.{◌∙◌, inl, inr, rules}
+use Rattle.std.proofs.Common.{◌∙◌, inr, rules}
 use Rattle.std.proofs.lemmas.Result.{IfOk-weaker}
-use Rattle.pv_source.proofs.ReportedLines.{no_fault, read_invalid, read_right, reported_faults, some_fault}
-use Rattle.pv_source.proofs.WrittenReports.{begins_faults, reports_faults}
+use Rattle.pv_source.proofs.ReportedLines.{no_fault, read_right}
+use Rattle.pv_source.proofs.WrittenReports.{begins_faults, invalid_source, reports_faults}
 use Rattle.pv_source.proofs.translation.translated.Goals as goal
 
 pub returns-then-is_empty : goal.returns-then-is_empty
@@ -21,18 +21,14 @@ returns-then-is_empty g c =
 
 pub returns-in_err-write_through : goal.returns-in_err-write_through
 returns-in_err-write_through g c =
-    let lines = c.reported.ensures ∙ c.in_ok-faults.ensures.reported in
-    let some = some_fault _ c.reported.result.now _ c.is_empty.ensures.value c.if-is_empty.false c.reported.ensures in
-    let invalid = read_invalid c.args.source.now _ (reported_faults c.reported.result.now ∙ lines) some in
+    let invalid = invalid_source c.args.source.now c.reported.result.now _ _ c.is_empty.ensures.value c.if-is_empty.false c.reported.ensures c.in_ok-faults.ensures.reported in
     let begun = begins_faults c.args.name.now c.args.source.now c.reported.result.now _ (c.deref.ensures.value ∙ c.in_ok-text.ensures.text) c.in_ok-text.ensures.lines
     _ _ invalid c.in_err-write_through.ensures.written.prefix in
     search (rules, begun)
 
 pub returns : goal.returns
 returns g c =
-    let lines = c.reported.ensures ∙ c.in_ok-faults.ensures.reported in
-    let some = some_fault _ c.reported.result.now _ c.is_empty.ensures.value c.if-is_empty.false c.reported.ensures in
-    let invalid = read_invalid c.args.source.now _ (reported_faults c.reported.result.now ∙ lines) some in
+    let invalid = invalid_source c.args.source.now c.reported.result.now _ _ c.is_empty.ensures.value c.if-is_empty.false c.reported.ensures c.in_ok-faults.ensures.reported in
     let refused = reports_faults c.args.name.now c.args.source.now c.reported.result.now _ (c.deref.ensures.value ∙ c.in_ok-text.ensures.text) c.in_ok-text.ensures.lines
     _ _ invalid c.in_ok-write_through.ensures.written.whole in
     search (rules, refused)

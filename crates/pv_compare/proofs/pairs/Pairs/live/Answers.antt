@@ -1,4 +1,6 @@
-use Rattle.std.proofs.Common.{◌∙◌}
+use Rattle.std.proofs.Common.{◌∙◌, ℕ, List, ap, filter, fold, max}
+use Rattle.std.specs.List.{range_with_len}
+use Rattle.pv_model.specs.Held.{among}
 use Rattle.pv_compare.specs.Pairs.{pair_in, pairs_of}
 use Rattle.pv_compare.proofs.LiveOnes.{either-live}
 use Rattle.pv_compare.proofs.Stepped.{first-there, second-there}
@@ -13,7 +15,8 @@ live-requires-2 c = record { there = second-there c.args.self.now c.requires.who
 
 pub returns-clause-live : goal.returns-clause-live
 returns-clause-live c =
-    c.in_ok-in_either.ensures
-    ∙ either-live (pair_in (pairs_of c.args.self.now) c.args.witness.now).states c.deref.result.now c.deref-2.result.now
+    c.in_ok-ascending.ensures
+    ∙ ap (λ (ns : List ℕ). filter (among ns) (range_with_len 1 (fold max 0 ns))) (c.deref-2.ensures.value ∙ c.in_ok-extend_from_slice.ensures.items)
+    ∙ either-live (pair_in (pairs_of c.args.self.now) c.args.witness.now).states c.in_ok-pids.pids.items c.deref.result.now
     (whole-at c.args.self.now.first.first c.args.witness.now c.invariant.ensures) (whole-at c.args.self.now.second.first c.args.witness.now c.invariant-2.ensures)
-    (c.deref.ensures.value ∙ c.in_ok-first.ensures.live) (c.deref-2.ensures.value ∙ c.in_ok-second.ensures.live)
+    c.in_ok-pids.ensures.live (c.deref.ensures.value ∙ c.in_ok-second.ensures.live)

@@ -1,11 +1,8 @@
 use Rattle.std.proofs.Common.{◌∙◌, ap, refl, sym}
 use Rattle.std.specs.Prelude.{Ok}
-use Rattle.pv_explore.proofs.Booting.{boots-again, first-number, mounts-again}
+use Rattle.pv_explore.proofs.Booting.{boots-again, mounts-again}
 use Rattle.pv_explore.specs.FirstMachines.{first_of}
 use Rattle.pv_explore.proofs.first_machine.FirstMachine.new.Goals as goal
-
-pub first-machine-requires : goal.first-machine-requires
-first-machine-requires c = first-number c.args.store c.in_ok-new.field-0 c.in_ok-new.ensures.booted
 
 pub invariant_of-result : goal.invariant_of-result
 invariant_of-result c =
@@ -16,8 +13,8 @@ invariant_of-result c =
         mounts = mounts;
         boots = c.in_ok-new.ensures.booted;
       },
-      c.first-machine.ensures ∙ boots-again c.in-Ok.image.items c.args.store c.in_ok-new.field-0 (first_of c.in-Ok.image.items) mounts c.in_ok-new.ensures.booted refl,
+      c.of_session-machine.ensures ∙ boots-again c.in-Ok.image.items c.args.store c.in_ok-new.field-0 (first_of c.in-Ok.image.items) mounts c.in_ok-new.ensures.booted refl,
     )
 
 pub returns-clause-booted : goal.returns-clause-booted
-returns-clause-booted c = c.in_ok-new.ensures.booted ∙ ap Ok (sym c.first-machine.ensures)
+returns-clause-booted c = c.in_ok-new.ensures.booted ∙ ap Ok (sym c.of_session-machine.ensures)

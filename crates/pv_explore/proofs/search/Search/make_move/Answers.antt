@@ -1,17 +1,15 @@
 use Rattle.std.proofs.Common.{◌∙◌, ap, List, Option, subst, ℕ}
 use Rattle.std.specs.Global.{Vec}
+use Rattle.pv_answers.proofs.Writing.{or_as}
+use Rattle.pv_explain.proofs.Stops.{no_memory, no_memory_after, still_ok, stopped}
 use Rattle.pv_explore.specs.declared.states.Followed.{Followed}
 use Rattle.pv_explore.specs.VisitedStates.{MayFollow}
 use Rattle.pv_explore.specs.Plan.{reported_after, reported_bytes, state_at}
 use Rattle.pv_explore.specs.Searches.{visited_of, witness_at}
 use Rattle.pv_explore.specs.Witnesses.{longer}
 use Rattle.pv_explore.proofs.Followed.{visited-followed, whole-at}
-use Rattle.pv_model.specs.Bytes.{Bytes}
 use Rattle.pv_model.specs.Grammar.Programs.{program_of}
 use Rattle.pv_step_cache.specs.Steps.{texts_in}
-use Rattle.pv_streams.specs.Sinks.{and_all, WritesPrefix}
-use Rattle.pv_streams.proofs.Sinks.{begins_whole}
-use Rattle.pv_streams.proofs.Reporting.{on_err}
 use Rattle.pv_explore.proofs.search.Search.make_move.Goals as goal
 
 pub follow-requires : goal.follow-requires
@@ -20,32 +18,30 @@ follow-requires g c =
     let witness = witness_at (visited_of c.args.self.now) c.args.number in
     (state_at program_of s witness, whole-at s witness c.requires.whole, c.requires.there)
 
-pub returns-in_err-report-clause-prefix : goal.returns-in_err-report-clause-prefix
-returns-in_err-report-clause-prefix g c =
-    let s = c.args.checkpoints.now in
-    let old = visited_of c.args.self.now in
-    let witness = witness_at old c.args.number in
-    let t = state_at program_of s witness in
-    let long = longer old.witnesses c.args.number c.args.pid in
-    let may = subst (λ (o : Option Followed). MayFollow g.O.Observer.observe c.args.limit c.args.self.now.states c.follow.new.self c.args.number c.args.pid o) c.in-Some.is c.in_ok-followed.ensures in
-    let it = may t (whole-at s witness c.requires.whole) c.requires.there in
-    let texts_are = ap (λ (ts : List (Vec ℕ)). texts_in ts) c.deref-2.ensures.value ∙ ap (λ (ts : Vec (Vec ℕ)). texts_in ts.items) c.deref.ensures in
-    let is = ap (reported_bytes old.reported c.args.pid long) (texts_are ∙ it.texts_are) in
-    on_err c.from_residual-in_err-report.result
-    (subst (λ (bs : Bytes). WritesPrefix bs (g.W.Sink.written c.args.out.now) (g.W.Sink.written c.report.new.out)) is c.in_err-report.ensures.prefix)
+pub returns-in_err-followed-clause-written : goal.returns-in_err-followed-clause-written
+returns-in_err-followed-clause-written g c = no_memory c.from_residual.ensures.1
 
-pub returns-in_err-keep_witness-clause-prefix : goal.returns-in_err-keep_witness-clause-prefix
-returns-in_err-keep_witness-clause-prefix g c =
+pub returns-in_err-report-clause-written : goal.returns-in_err-report-clause-written
+returns-in_err-report-clause-written g c =
     let s = c.args.checkpoints.now in
     let old = visited_of c.args.self.now in
     let witness = witness_at old c.args.number in
-    let t = state_at program_of s witness in
-    let long = longer old.witnesses c.args.number c.args.pid in
     let may = subst (λ (o : Option Followed). MayFollow g.O.Observer.observe c.args.limit c.args.self.now.states c.follow.new.self c.args.number c.args.pid o) c.in-Some.is c.in_ok-followed.ensures in
-    let it = may t (whole-at s witness c.requires.whole) c.requires.there in
+    let it = may (state_at program_of s witness) (whole-at s witness c.requires.whole) c.requires.there in
     let texts_are = ap (λ (ts : List (Vec ℕ)). texts_in ts) c.deref-2.ensures.value ∙ ap (λ (ts : Vec (Vec ℕ)). texts_in ts.items) c.deref.ensures in
-    let is = ap (reported_bytes old.reported c.args.pid long) (texts_are ∙ it.texts_are) in
-    on_err c.from_residual-in_err-keep_witness.result (begins_whole _ _ _ (c.in_ok-report.ensures.whole ∙ ap (and_all (g.W.Sink.written c.args.out.now)) is))
+    let is = ap (reported_bytes old.reported c.args.pid (longer old.witnesses c.args.number c.args.pid)) (texts_are ∙ it.texts_are) in
+    stopped c.from_residual-in_err-report.ensures.1 (or_as is c.in_err-report.ensures.written)
+
+pub returns-in_err-keep_witness-clause-written : goal.returns-in_err-keep_witness-clause-written
+returns-in_err-keep_witness-clause-written g c =
+    let s = c.args.checkpoints.now in
+    let old = visited_of c.args.self.now in
+    let witness = witness_at old c.args.number in
+    let may = subst (λ (o : Option Followed). MayFollow g.O.Observer.observe c.args.limit c.args.self.now.states c.follow.new.self c.args.number c.args.pid o) c.in-Some.is c.in_ok-followed.ensures in
+    let it = may (state_at program_of s witness) (whole-at s witness c.requires.whole) c.requires.there in
+    let texts_are = ap (λ (ts : List (Vec ℕ)). texts_in ts) c.deref-2.ensures.value ∙ ap (λ (ts : Vec (Vec ℕ)). texts_in ts.items) c.deref.ensures in
+    let is = ap (reported_bytes old.reported c.args.pid (longer old.witnesses c.args.number c.args.pid)) (texts_are ∙ it.texts_are) in
+    no_memory_after c.from_residual-in_err-keep_witness.ensures.1 (or_as is c.in_ok-report.ensures.written)
 
 pub returns-clause-visited : goal.returns-clause-visited
 returns-clause-visited g c =
@@ -60,15 +56,13 @@ returns-clause-visited g c =
     visited-followed g.O.Observer.observe c.args.limit old (visited_of c.keep_witness.new.self) long c.args.pid t (texts_in c.in-Some.followed.texts.value.items) c.follow.new.self c.report.new.reported c.in-Some.followed.found it
     (c.in_ok-report.ensures.reported ∙ ap (reported_after old.reported) texts_are) c.in_ok-keep_witness.ensures
 
-pub returns-clause-whole : goal.returns-clause-whole
-returns-clause-whole g c =
+pub returns-clause-written : goal.returns-clause-written
+returns-clause-written g c =
     let s = c.args.checkpoints.now in
     let old = visited_of c.args.self.now in
     let witness = witness_at old c.args.number in
-    let t = state_at program_of s witness in
-    let long = longer old.witnesses c.args.number c.args.pid in
     let may = subst (λ (o : Option Followed). MayFollow g.O.Observer.observe c.args.limit c.args.self.now.states c.follow.new.self c.args.number c.args.pid o) c.in-Some.is c.in_ok-followed.ensures in
-    let it = may t (whole-at s witness c.requires.whole) c.requires.there in
+    let it = may (state_at program_of s witness) (whole-at s witness c.requires.whole) c.requires.there in
     let texts_are = ap (λ (ts : List (Vec ℕ)). texts_in ts) c.deref-2.ensures.value ∙ ap (λ (ts : Vec (Vec ℕ)). texts_in ts.items) c.deref.ensures in
-    let is = ap (reported_bytes old.reported c.args.pid long) (texts_are ∙ it.texts_are) in
-    c.in_ok-report.ensures.whole ∙ ap (and_all (g.W.Sink.written c.args.out.now)) is
+    let is = ap (reported_bytes old.reported c.args.pid (longer old.witnesses c.args.number c.args.pid)) (texts_are ∙ it.texts_are) in
+    still_ok (or_as is c.in_ok-report.ensures.written)

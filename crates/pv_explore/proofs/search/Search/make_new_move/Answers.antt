@@ -1,5 +1,7 @@
 use Rattle.std.proofs.Common.{◌≡◌, ◌∙◌, ap, List, subst, sym, ℕ}
 use Rattle.std.specs.Global.{Vec}
+use Rattle.pv_answers.proofs.Writing.{or_as}
+use Rattle.pv_explain.proofs.Stops.{no_memory, no_memory_after, still_ok, stopped}
 use Rattle.pv_explore.specs.Plan.{Visited, reported_after, reported_bytes}
 use Rattle.pv_explore.specs.Searches.{visited_of}
 use Rattle.pv_explore.specs.VisitedStates.{HasNumber}
@@ -10,9 +12,6 @@ use Rattle.pv_model.specs.Bytes.{Bytes}
 use Rattle.pv_session.specs.Running.{stepped}
 use Rattle.pv_state_encoding.specs.Encoded.{encoded}
 use Rattle.pv_step_cache.specs.Steps.{texts_in}
-use Rattle.pv_streams.specs.Sinks.{and_all, WritesPrefix}
-use Rattle.pv_streams.proofs.Sinks.{begins_whole, written_nothing}
-use Rattle.pv_streams.proofs.Reporting.{on_err}
 use Rattle.pv_explore.proofs.search.Search.make_new_move.Goals as goal
 
 pub visit-requires-clause-made : goal.visit-requires-clause-made
@@ -30,35 +29,32 @@ go_ahead-requires g c = λ new.
     subst (λ (n : ℕ). HasNumber c.visit.new.self.states n c.in_ok-position.position) (sym c.len-next.ensures)
     (number-new c.args.limit c.observe.new.self c.visit.new.self.states position c.in_ok-found.found c.in_ok-found.ensures.found new)
 
-pub returns-in_err-position-clause-prefix : goal.returns-in_err-position-clause-prefix
-returns-in_err-position-clause-prefix g c =
-    on_err c.from_residual.result
-    (0, sym (written_nothing (reported_bytes c.args.self.now.reported c.args.pid (longer (visited_of c.args.self.now).witnesses c.args.number c.args.pid) (g.O.Observer.observe c.args.from c.args.pid (stepped c.args.from c.args.pid))) (g.W.Sink.written c.args.out.now)))
+pub returns-in_err-position-clause-written : goal.returns-in_err-position-clause-written
+returns-in_err-position-clause-written g c = no_memory c.from_residual.ensures.1
 
-pub returns-in_err-report-clause-prefix : goal.returns-in_err-report-clause-prefix
-returns-in_err-report-clause-prefix g c =
+pub returns-in_err-report-clause-written : goal.returns-in_err-report-clause-written
+returns-in_err-report-clause-written g c =
     let texts_are = ap (λ (ts : List (Vec ℕ)). texts_in ts) c.deref.ensures.value ∙ c.in_ok-position.ensures.texts in
     let is = ap (reported_bytes c.args.self.now.reported c.args.pid (longer (visited_of c.args.self.now).witnesses c.args.number c.args.pid)) texts_are in
-    on_err c.from_residual-in_err-report.result
-    (subst (λ (bs : Bytes). WritesPrefix bs (g.W.Sink.written c.args.out.now) (g.W.Sink.written c.report.new.out)) is c.in_err-report.ensures.prefix)
+    stopped c.from_residual-in_err-report.ensures.1 (or_as is c.in_err-report.ensures.written)
 
-pub returns-in_err-found-clause-prefix : goal.returns-in_err-found-clause-prefix
-returns-in_err-found-clause-prefix g c =
+pub returns-in_err-found-clause-written : goal.returns-in_err-found-clause-written
+returns-in_err-found-clause-written g c =
     let texts_are = ap (λ (ts : List (Vec ℕ)). texts_in ts) c.deref.ensures.value ∙ c.in_ok-position.ensures.texts in
     let is = ap (reported_bytes c.args.self.now.reported c.args.pid (longer (visited_of c.args.self.now).witnesses c.args.number c.args.pid)) texts_are in
-    on_err c.from_residual-in_err-found.result (begins_whole _ _ _ (c.in_ok-report.ensures.whole ∙ ap (and_all (g.W.Sink.written c.args.out.now)) is))
+    no_memory_after c.from_residual-in_err-found.ensures.1 (or_as is c.in_ok-report.ensures.written)
 
-pub returns-in_err-go_ahead-clause-prefix : goal.returns-in_err-go_ahead-clause-prefix
-returns-in_err-go_ahead-clause-prefix g c =
+pub returns-in_err-go_ahead-clause-written : goal.returns-in_err-go_ahead-clause-written
+returns-in_err-go_ahead-clause-written g c =
     let texts_are = ap (λ (ts : List (Vec ℕ)). texts_in ts) c.deref.ensures.value ∙ c.in_ok-position.ensures.texts in
     let is = ap (reported_bytes c.args.self.now.reported c.args.pid (longer (visited_of c.args.self.now).witnesses c.args.number c.args.pid)) texts_are in
-    on_err c.from_residual-in_err-go_ahead.result (begins_whole _ _ _ (c.in_ok-report.ensures.whole ∙ ap (and_all (g.W.Sink.written c.args.out.now)) is))
+    no_memory_after c.from_residual-in_err-go_ahead.ensures.1 (or_as is c.in_ok-report.ensures.written)
 
-pub returns-clause-whole : goal.returns-clause-whole
-returns-clause-whole g c =
+pub returns-clause-written : goal.returns-clause-written
+returns-clause-written g c =
     let texts_are = ap (λ (ts : List (Vec ℕ)). texts_in ts) c.deref.ensures.value ∙ c.in_ok-position.ensures.texts in
     let is = ap (reported_bytes c.args.self.now.reported c.args.pid (longer (visited_of c.args.self.now).witnesses c.args.number c.args.pid)) texts_are in
-    c.in_ok-report.ensures.whole ∙ ap (and_all (g.W.Sink.written c.args.out.now)) is
+    still_ok (or_as is c.in_ok-report.ensures.written)
 
 pub returns-clause-visited : goal.returns-clause-visited
 returns-clause-visited g c =

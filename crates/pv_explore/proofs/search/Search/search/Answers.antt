@@ -1,29 +1,30 @@
 use Rattle.std.proofs.Common.{◌≡◌, ◌-◌, arith, List, ◌∙◌, ap, refl, subst, sym}
+use Rattle.pv_answers.proofs.Writing.{but_from, or_as}
+use Rattle.pv_explain.proofs.Stops.{but_ends, but_stopped, but_then}
 use Rattle.pv_explore.specs.Plan.{Visited, visited_after_steps, visited_from, live_at, state_at}
 use Rattle.pv_explore.specs.VisitedStates.{HasNumber}
 use Rattle.pv_explore.specs.Searches.{visited_of, witness_at}
-use Rattle.pv_explore.proofs.Finding.{left-next, left-none, reported-next, reported-none, reported-start, reported_left}
+use Rattle.pv_explore.proofs.Finding.{left-next, left-none, reported-next, reported-none, reported-past, reported-start}
 use Rattle.pv_explore.proofs.Followed.{at-after, found-none, found-witness, number-at}
-use Rattle.pv_listing.proofs.Rests.{LeavesRest, rest_after, rest_begins, written_text}
-use Rattle.pv_model.specs.Bytes.{Bytes}
 use Rattle.pv_laws_states.specs.States.{IsValid}
+use Rattle.pv_model.specs.Bytes.{Bytes}
 use Rattle.pv_model.specs.Grammar.Programs.{program_of}
 use Rattle.pv_model.specs.State.{State}
-use Rattle.pv_streams.specs.Sinks.{and_all, WritesPrefix}
-use Rattle.pv_streams.proofs.Reporting.{on_err}
 use Rattle.pv_explore.proofs.search.Search.search.Goals as goal
 
-pub returns-in_err-make_moves-clause-prefix : goal.returns-in_err-make_moves-clause-prefix
-returns-in_err-make_moves-clause-prefix g c =
+pub loop-number-init : goal.loop-number-init
+loop-number-init g c = record { left = but_from refl; visited = refl; at = c.requires; same = c.new-checkpoints.ensures }
+
+pub returns-in_err-make_moves-clause-written : goal.returns-in_err-make_moves-clause-written
+returns-in_err-make_moves-clause-written g c =
     let limit = c.args.limit in
     let s = c.args.first_machine.now in
     let visited = visited_of c.loop-number.self in
     let witness = witness_at visited c.loop-number.number in
     let at = found-witness c.args.first_machine.now visited c.loop-number.number c.loop-number.invariant.at (rw c.len-found.ensures at c.if-number-found.false) in
     let is = reported-next g.O.Observer.observe limit s c.loop-number.number visited (visited_after_steps g.O.Observer.observe limit program_of s witness (live_at program_of s witness) visited) witness c.loop-number-test.true at refl in
-    on_err c.from_residual.result
-    (subst (λ (bs : Bytes). WritesPrefix bs (g.W.Sink.written c.args.out.now) (g.W.Sink.written c.make_moves.new.out)) (reported-start g.O.Observer.observe limit s (visited_of c.args.self.now))
-    (rest_begins _ _ _ _ _ _ _ c.loop-number.invariant.left is (rw c.loop-number.invariant.same at c.in_err-make_moves.ensures.prefix)))
+    or_as (reported-start g.O.Observer.observe limit s (visited_of c.args.self.now))
+    (but_stopped c.loop-number.invariant.left _ c.from_residual.ensures.1 is (rw c.loop-number.invariant.same at c.in_err-make_moves.ensures.written))
 
 pub make_moves-requires-clause-there : goal.make_moves-requires-clause-there
 make_moves-requires-clause-there g c =
@@ -46,11 +47,10 @@ loop-number-preserved g c =
     let witness = witness_at visited c.loop-number.number in
     let at = found-witness c.args.first_machine.now visited c.loop-number.number c.loop-number.invariant.at (rw c.len-found.ensures at c.if-number-found.false) in
     record {
-      left = rest_after _ _ _ _ _ _ _ c.loop-number.invariant.left (reported-next g.O.Observer.observe limit s c.loop-number.number visited after witness c.loop-number-test.true at is) (rw c.loop-number.invariant.same at c.in_ok-make_moves.ensures.whole);
+      left = but_then c.loop-number.invariant.left (reported-next g.O.Observer.observe limit s c.loop-number.number visited after witness c.loop-number-test.true at is) (rw c.loop-number.invariant.same at c.in_ok-make_moves.ensures.written);
       visited = left-next g.O.Observer.observe limit s c.loop-number.number visited after witness c.loop-number-test.true at is ∙ c.loop-number.invariant.visited;
       at = at-after s g.O.Observer.observe limit witness (live_at program_of s witness) visited after c.loop-number.invariant.at is;
       same = c.make_moves.ensures.unchanged ∙ c.loop-number.invariant.same;
-      quiet = c.in_ok-make_moves.ensures.quiet ∙ c.loop-number.invariant.quiet;
     }
 
 pub returns-then-number-found-clause-visited : goal.returns-then-number-found-clause-visited
@@ -62,12 +62,16 @@ returns-then-number-found-clause-visited g c =
     let all : limit - 0 ≡ limit = omega arith in
     left-none g.O.Observer.observe limit s c.loop-number.number visited c.loop-number-test.true none ∙ c.loop-number.invariant.visited ∙ ap (λ k. visited_from g.O.Observer.observe c.args.limit program_of c.args.first_machine.now k 0 (visited_of c.args.self.now)) all
 
-pub returns-then-number-found-clause-whole : goal.returns-then-number-found-clause-whole
-returns-then-number-found-clause-whole g c =
+pub returns-then-number-found-clause-written : goal.returns-then-number-found-clause-written
+returns-then-number-found-clause-written g c =
     let limit = c.args.limit in
     let s = c.args.first_machine.now in
     let visited = visited_of c.loop-number.self in
     let none = found-none s visited c.loop-number.number c.loop-number.invariant.at (rw c.len-found.ensures at c.if-number-found.true) in
     let is = reported-none g.O.Observer.observe limit s c.loop-number.number visited c.loop-number-test.true none in
-    written_text _ _ _ (subst (λ (rest : Bytes). LeavesRest rest (reported_left g.O.Observer.observe c.args.limit c.args.first_machine.now 0 (visited_of c.args.self.now)) (g.W.Sink.written c.args.out.now) (g.W.Sink.written c.loop-number.out)) is c.loop-number.invariant.left)
-    ∙ ap (and_all (g.W.Sink.written c.args.out.now)) (reported-start g.O.Observer.observe limit s (visited_of c.args.self.now))
+    or_as (reported-start g.O.Observer.observe limit s (visited_of c.args.self.now)) (but_ends is c.loop-number.invariant.left)
+
+pub returns-clause-written : goal.returns-clause-written
+returns-clause-written g c =
+    let none = reported-past g.O.Observer.observe c.args.limit c.args.first_machine.now c.loop-number.number (visited_of c.loop-number.self) c.loop-number-test.false in
+    or_as (reported-start g.O.Observer.observe c.args.limit c.args.first_machine.now (visited_of c.args.self.now)) (but_ends none c.loop-number.invariant.left)

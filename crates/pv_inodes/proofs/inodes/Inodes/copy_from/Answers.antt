@@ -1,8 +1,9 @@
-use Rattle.std.proofs.Common.{◌≡◌, ℕ, suc, ◌+◌, ◌-◌, length, sym, ap, ◌∙◌, arith}
+use Rattle.std.proofs.Common.{◌≡◌, ℕ, suc, ◌+◌, ◌-◌, length, subst, sym, ap, ◌∙◌, arith}
 use Rattle.pv_model.specs.declared.version.Version.{Version}
 use Rattle.pv_blocks.specs.BlockStore.{BlockStore}
-use Rattle.pv_inodes.specs.Files.{Files}
+use Rattle.pv_inodes.specs.Files.{Files, IsUsed}
 use Rattle.pv_inodes.specs.Sound.{IsSound, first_data, files_of}
+use Rattle.pv_inodes.proofs.Copying.{copied_files, copied_sound}
 use Rattle.pv_inodes.proofs.Becoming.{blocks-files_of, version-files_of}
 use Rattle.pv_inodes.proofs.Reading.{length-files_of}
 use Rattle.pv_inodes.proofs.inodes.Inodes.copy_from.Goals as goal
@@ -17,9 +18,31 @@ length-blocks version st inodes f sound view =
     let count : length f.nodes - 1 ≡ inodes = omega (arith, numbers) in
     rw (same_version, count) (omega (arith, blocks, sound.shape.first, sound.shape.first_within))
 
-pub copy_from-requires : goal.copy_from-requires
-copy_from-requires c =
-    let f = c.args.self.now in
-    let g = c.args.other.now in
-    length-blocks c.self.inside.version _ _ f c.self.invariant.0 c.self.view_is
-    ∙ rw (c.requires.version, c.requires.inodes, c.requires.blocks) (sym (length-blocks c.other.inside.version _ _ g c.other.invariant.0 c.other.view_is))
+-- both stores have the same number of blocks
+same_lengths : (version other_version : Version) (a b : BlockStore) (inodes other_inodes : ℕ) (f g : Files) → IsSound version a inodes → files_of version a inodes ≡ f → IsSound other_version b other_inodes → files_of other_version b other_inodes ≡ g
+    → f.version ≡ g.version → length f.nodes - 1 ≡ length g.nodes - 1 → f.blocks ≡ g.blocks → length a.blocks ≡ length b.blocks
+same_lengths version other_version a b inodes other_inodes f g sound view other_sound other_view versions numbers blocks =
+    length-blocks version a inodes f sound view
+    ∙ rw (versions, numbers, blocks) (sym (length-blocks other_version b other_inodes g other_sound other_view))
+
+pub copy_used_from-requires : goal.copy_used_from-requires
+copy_used_from-requires c =
+    same_lengths _ _ _ _ _ _ c.args.self.now c.args.other.now c.self.invariant.0 c.self.view_is c.other.invariant.0 c.other.view_is c.requires.version c.requires.inodes c.requires.blocks
+
+pub invariant_of-self : goal.invariant_of-self
+invariant_of-self c =
+    let version = c.other.inside.version in
+    let inodes = c.other.inside.inodes in
+    let from = c.other.inside.blocks in
+    let old = c.self.inside.blocks in
+    let new = c.copy_used_from.new.self in
+    let same = copied_files version inodes from old new c.copy_used_from.ensures c.other.invariant.0 in
+    let long = same_lengths _ _ _ _ _ _ c.args.self.now c.args.other.now c.self.invariant.0 c.self.view_is c.other.invariant.0 c.other.view_is c.requires.version c.requires.inodes c.requires.blocks in (
+      copied_sound version inodes from old new c.copy_used_from.ensures c.other.invariant.0 c.self.invariant.0.shape.whole long,
+      λ s below. subst (λ (f : Files). IsUsed f (suc s)) (sym same) (c.other.invariant.1 s below),
+    )
+
+pub returns : goal.returns
+returns c =
+    copied_files c.other.inside.version c.other.inside.inodes c.other.inside.blocks c.self.inside.blocks c.copy_used_from.new.self c.copy_used_from.ensures c.other.invariant.0
+    ∙ c.other.view_is

@@ -1,0 +1,19 @@
+-- A tree with an added entry.
+use Rattle.std.specs.Prelude.{◌≡◌, ℕ, Result, Ok, Err}
+use Rattle.pv_model.specs.declared.fault.ManifestFault.{ManifestFault}
+use Rattle.pv_model.specs.declared.fault.ManifestFault.TheVariants.{Parent as NoParent, Exists as IsThere, Source as NoSource, Room as NoRoom}
+use Rattle.pv_model.specs.Tree.{Tree}
+use Rattle.pv_image_manifest.specs.declared.fault.EntryFault.{EntryFault}
+use Rattle.pv_image_manifest.specs.declared.fault.EntryFault.TheVariants.{Parent, Exists, Source, Room}
+
+-- the error of a line of a manifest
+abbrev pub fault_at : ℕ → EntryFault → ManifestFault
+fault_at line Parent = NoParent line
+fault_at line Exists = IsThere line
+fault_at line Source = NoSource line
+fault_at line Room = NoRoom line
+
+-- the tree after a step is that of the specification for every line number; or both have the same error
+abbrev pub Gives : {X : Type 0} → Result X EntryFault → (ℕ → Result Tree ManifestFault) → Tree → Type 0
+Gives (Ok done) made after = (line : ℕ) → made line ≡ Ok after
+Gives (Err fault) made after = (line : ℕ) → made line ≡ Err (fault_at line fault)
