@@ -357,15 +357,28 @@ module _ {observe : Observer Bytes} (parts groups rows : List Bytes) (cells : Li
   fine-learnt (t, is) rows_now cells_now placed =
       fine-placed parts_now groups_now rows cells steps (fine-grew parts groups parts_now groups_now parts_grew groups_grew rows cells steps fine) t cs (cells-of_groups parts_now groups_now t after cs.items learnt is) rows_now cells_now placed
 
-  -- the transition that leads to it is cached
-  module _ (number pid : ℕ) (texts : List Bytes) (made : IsMade observe keys number pid texts after) (steps_now : List CachedStep) (may : MayKeep cells number pid cs.items texts steps steps_now) where
+-- the parts of the groups of a state were stored, and the transition that leads to it is cached
+module _ {observe : Observer Bytes} (parts groups rows : List Bytes) (cells : List (Vec Cell)) (steps : List CachedStep) (fine : IsFine observe parts groups rows cells steps) (keys : List Bytes) (keys_are : map (state_bytes parts groups) rows ≡ keys)
+    (parts_now groups_now : List Bytes) (parts_grew : Grew parts parts_now) (groups_grew : Grew groups groups_now) (after : State) (cs : Vec Cell) (learnt : AreCellsOf parts_now groups_now after cs.items) where
+  fine-now : IsFine observe parts_now groups_now rows cells steps
+  fine-now = fine-grew parts groups parts_now groups_now parts_grew groups_grew rows cells steps fine
+
+  keys-after : map (state_bytes parts_now groups_now) rows ≡ keys
+  keys-after = states-grew parts groups parts_now groups_now parts_grew groups_grew rows fine.rows_are ∙ keys_are
+
+  pub found-arrived : (limit : ℕ) (rows_now : List Bytes) (found : Visit) → IsFoundIn limit rows rows_now (cells_row cs.items) found → IsFoundIn limit keys (map (state_bytes parts_now groups_now) rows_now) (state_key after) found
+  found-arrived limit rows_now found it =
+      subst (λ (all : List Bytes). IsFoundIn limit all (map (state_bytes parts_now groups_now) rows_now) (state_key after) found) keys-after
+      (found-bytes parts_now groups_now rows cells steps fine-now after cs learnt limit rows_now found it)
+
+  module _ (number pid : ℕ) (texts : List Bytes) (inside : Bool) (made : IsMade observe keys number pid texts inside after) (steps_now : List CachedStep) (may : MayKeep cells number pid cs.items texts steps steps_now) where
     left-are : AreCellsOf parts_now groups_now (stepped made.state pid).after cs.items
-    left-are = cells-of_groups parts_now groups_now (stepped made.state pid).after after cs.items learnt made.after_is
+    left-are = subst (λ (s : State). AreCellsOf parts_now groups_now s cs.items) made.after_is learnt
 
     pub fine-made : IsFine observe parts_now groups_now rows cells steps_now
     fine-made =
-        fine-visited parts_now groups_now rows cells steps (fine-grew parts groups parts_now groups_now parts_grew groups_grew rows cells steps fine) number pid made.state cs.items texts steps_now made.whole
-        (subst (λ (all : List Bytes). HasNumber all number made.state) (sym keys-now) made.number_is) left-are made.texts_are may
+        fine-visited parts_now groups_now rows cells steps fine-now number pid made.state cs.items texts steps_now made.whole
+        (subst (λ (all : List Bytes). HasNumber all number made.state) (sym keys-after) made.number_is) left-are made.texts_are may
 
     pub fine-arrived : (rows_now : List Bytes) (cells_now : List (Vec Cell)) → ArePlaced (cells_row cs.items) cs rows rows_now cells cells_now → IsFine observe parts_now groups_now rows_now cells_now steps_now
     fine-arrived rows_now cells_now placed = fine-placed parts_now groups_now rows cells steps_now fine-made (stepped made.state pid).after cs left-are rows_now cells_now placed

@@ -1,3 +1,4 @@
+pub mod Afters
 pub mod Checkpoints
 pub mod FirstMachines
 pub mod Observing

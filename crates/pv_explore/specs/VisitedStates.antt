@@ -1,9 +1,10 @@
 -- The data stored with visited states, so that no step is made twice.
-use Rattle.std.specs.Prelude.{◌≡◌, ◌≢◌, ℕ, ◌<◌, ◌≤◌, ◌⊎◌, false, List, [], ◌∷◌, ◌++◌, length, map, position, bytes_eq, slice_get, Option, None, Some}
+use Rattle.std.specs.Prelude.{◌≡◌, ◌≢◌, ℕ, Bool, ◌<◌, ◌≤◌, ◌⊎◌, false, List, [], ◌∷◌, ◌++◌, length, map, position, bytes_eq, slice_get, Option, None, Some}
 use Rattle.std.specs.Global.{Vec}
 use Rattle.std.specs.List.{AllByRecursion, list_any}
 use Rattle.pv_explore.specs.declared.states.Visit.{Visit}
 use Rattle.pv_explore.specs.declared.states.Visit.TheVariants.{Known, Full, New}
+use Rattle.pv_explore.specs.Observing.{stays_inside}
 use Rattle.pv_explore.specs.Plan.{state_key}
 use Rattle.pv_explore.specs.Rows.{number_in, group_row, state_row, IsGroupVisited, IsRow}
 use Rattle.pv_step_cache.specs.declared.cells.Cell.{Cell}
@@ -17,7 +18,7 @@ use Rattle.pv_model.specs.Answers.Explore.{has_ended}
 use Rattle.pv_model.specs.Answers.Observed.{Observer}
 use Rattle.pv_model.specs.Bytes.{Bytes}
 use Rattle.pv_model.specs.Held.{live_processes}
-use Rattle.pv_model.specs.State.{State}
+use Rattle.pv_model.specs.State.{State, process_at}
 use Rattle.pv_session.specs.Running.{stepped}
 use Rattle.pv_state_encoding.specs.Groups.{state_groups}
 use Rattle.pv_state_encoding.specs.Encoded.{Encoded, encoded}
@@ -60,6 +61,10 @@ module _ (observe : Observer Bytes) (parts groups : List Bytes) where
     pub few : length cells ≤ length rows
     pub cells_are : (k : ℕ) (cs : Vec Cell) (row : Bytes) → slice_get cells k ≡ Some cs → slice_get rows k ≡ Some row → (cs.items ≡ []) ⊎ AreCellsAt parts groups row cs.items
     pub steps_are : AreCachedSteps steps
+
+-- the cells of state `number`, or none if they are not stored
+abbrev pub AreStoredAt : List (Vec Cell) → ℕ → List Cell → Type 0
+AreStoredAt cells number at = at ≢ [] → (v : Vec Cell) × (slice_get cells number ≡ Some v) × (at ≡ v.items)
 
 -- the result of a step is that of a cached transition, and some process is live after it
 pub record IsRecalled (cells : List (Vec Cell)) (steps : List CachedStep) (number pid : ℕ) (texts : List Bytes) (after : List Cell) : Type 0 where
@@ -127,13 +132,15 @@ pub record IsFollowed (observe : Observer Bytes) (limit : ℕ) (old new : List B
   pub live : has_ended (stepped t pid).after ≡ false
   pub found_is : IsFoundIn limit old new (state_key (stepped t pid).after) found
 
--- a process made a step in state `number`, with these texts and these groups after it
-pub record IsMade (observe : Observer Bytes) (keys : List Bytes) (number pid : ℕ) (texts : List Bytes) (after : List Encoded) : Type 0 where
+-- a process made a step in state `number`, with these texts and this state after it; `inside` is whether the step
+-- changes at most the inside of its process, unless it kills the process
+pub record IsMade (observe : Observer Bytes) (keys : List Bytes) (number pid : ℕ) (texts : List Bytes) (inside : Bool) (after : State) : Type 0 where
   pub state : State
   pub whole : IsValid state
   pub number_is : HasNumber keys number state
   pub texts_are : texts ≡ observe state pid (stepped state pid)
-  pub after_is : after ≡ encoded (stepped state pid).after
+  pub inside_is : inside ≡ stays_inside (process_at state pid)
+  pub after_is : after ≡ (stepped state pid).after
 
 -- state `number` satisfies the invariant
 abbrev pub IsValidAt : List Bytes → ℕ → Type 0

@@ -4,8 +4,8 @@ ghost use Rattle.pv_explore.specs.VisitedStates.{AreCellsOf, AreCachedSteps};
 ghost use Rattle.pv_explore.specs.Rows.{Grew};
 
 use crate::observer::Observer;
-use crate::position::Position;
-use crate::states::learn_cells;
+use crate::after::cells_after;
+use crate::position::{ObservedStep, Position};
 use pv_model::StepFault;
 use pv_step_cache::tables::Keys;
 use pv_step_cache::{CachedSteps, Cell};
@@ -48,9 +48,12 @@ fn make_one<O: Observer>(
     ensures cells { IfOk result (λ made. AreCellsOf parts.new groups.new made.0 made.1.items) }
 {
     let _ = position.parts();
-    let (next, texts) = position.observe(alloc, observer, pid)?;
-    let encoded = next.encoded(alloc)?;
-    let after = learn_cells(alloc, parts, groups, &encoded)?;
+    let ObservedStep {
+        position: next,
+        texts,
+        inside,
+    } = position.observe(alloc, observer, pid)?;
+    let after = cells_after(alloc, parts, groups, cells, pid, inside, &next)?;
     steps.keep(alloc, cells, &after, pid, texts)?;
     Ok((next, after))
 }

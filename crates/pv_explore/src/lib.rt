@@ -13,6 +13,7 @@
 //! the texts of the definitions.
 #![tactic(auto)]
 
+mod after;
 mod ahead;
 mod checkpoints;
 mod explore;

@@ -1,5 +1,5 @@
 //! Machines at the end of a schedule.
-ghost use Rattle.std.specs.Prelude.{◌≡◌, ◌+◌, ◌++◌, ◌∷◌, [], true, codes, map, is_some, IfOk, OnOk};
+ghost use Rattle.std.specs.Prelude.{◌≡◌, ◌+◌, ◌++◌, ◌∷◌, [], true, codes, map, is_some, IsSome, IfOk, OnOk};
 ghost use Rattle.pv_explore.specs.FirstMachines.{GaveNumber, one_if};
 ghost use Rattle.pv_procs.specs.ProcessTable.{process_in};
 ghost use Rattle.pv_explore.specs.Plan.{state_at, tree_key};
@@ -12,7 +12,11 @@ ghost use Rattle.pv_model.specs.Grammar.Programs.{program_of};
 ghost use Rattle.pv_model.specs.Held.{live_processes, named_tree};
 ghost use Rattle.pv_session.specs.Running.{FailsBy, stepped};
 ghost use Rattle.pv_state_encoding.specs.Groups.{groups_of, state_groups};
-ghost use Rattle.pv_state_encoding.specs.Encoded.{encoded, encoded_all};
+ghost use Rattle.pv_state_encoding.specs.Encoded.{encoded, encoded_all, encoded_of, live_encoded};
+ghost use Rattle.pv_explore.specs.Observing.{stays_inside};
+ghost use Rattle.pv_laws_steps.specs.Commuting.{only_asks};
+ghost use Rattle.pv_model.specs.CallRef.{call_of};
+ghost use Rattle.pv_model.specs.State.{process_at};
 ghost use Rattle.pv_step_cache.specs.Steps.{texts_in};
 ghost use Rattle.pv_streams.specs.Sinks.{Writes, WritesOr};
 ghost use Rattle.pv_tree.specs.Sizes.{HaveSameSizes};
@@ -23,12 +27,12 @@ use crate::witness::Count;
 use pv_answers::{Fragment, Line, Plain};
 use pv_calls_state::Parts;
 use pv_explain::{make_step, write_made};
-use pv_model::StepFault;
+use pv_model::{CallRef, StepFault};
 use pv_model::limits::LAST_PROCESS;
-use pv_procs::Processes;
+use pv_procs::{Fetched, Processes};
 use pv_script::CallTexts;
 use pv_session::{Session, Stop};
-use pv_state_encoding::{EncodedGroup, encoded_state, push_tree, state_groups};
+use pv_state_encoding::{EncodedGroup, encoded_live, encoded_state, push_tree, state_groups};
 use pv_streams::{Failed, Sink};
 use pv_trace::LineBuffer;
 use std::alloc::Global;
@@ -50,6 +54,45 @@ impl Model for Position {
     ghost view = { λ p. p.session };
 
     ghost invariant = { λ p. p.last ≡ p.session.last_process };
+}
+
+/// A step that a machine made.
+#[derive(Drop)]
+pub(crate) struct ObservedStep {
+    /// The machine after the step.
+    pub(crate) position: Position,
+    /// The texts observed of the step.
+    pub(crate) texts: Vec<Vec<u8>>,
+    /// Whether the step changes at most the inside of its process, unless it kills the process.
+    pub(crate) inside: bool,
+}
+
+// Returns whether a call changes at most the registers, the buffer and the promises of its process.
+fn only_asks(call: CallRef<'_>) -> bool
+    ensures { result ≡ only_asks (call_of call.entry) }
+{
+    match call {
+        CallRef::GetPid
+        | CallRef::GetPpid
+        | CallRef::Pledge(_, _)
+        | CallRef::Stat(_)
+        | CallRef::Lstat(_)
+        | CallRef::Readlink(_)
+        | CallRef::Fstat(_) => true,
+        _ => false,
+    }
+}
+
+// Returns whether the next step of a process changes at most the inside of that process, unless it kills the process.
+fn stays_inside(session: &Session, pid: u32) -> bool
+    ensures { result ≡ stays_inside (process_at session.now pid) }
+{
+    let mut texts = CallTexts::new();
+    match session.fetch(pid, &mut texts) {
+        Fetched::Register => true,
+        Fetched::Call(call) => only_asks(call),
+        Fetched::Gone => false,
+    }
 }
 
 // Returns the last process number that a state has given. `known` is that number before the last step.
@@ -201,7 +244,7 @@ impl Position {
         Ok(())
     }
 
-    /// Makes a step of a process. Returns the machine after it, and the texts observed of the step.
+    /// Makes a step of a process, and observes it.
     ///
     /// # Errors
     ///
@@ -211,15 +254,21 @@ impl Position {
         alloc: Global,
         observer: &mut O,
         pid: u32,
-    ) -> Result<(Position, Vec<Vec<u8>>), StepFault>
-        ensures after { IfOk result (λ made. made.0 ≡ (stepped self pid).after) }
-        ensures texts { IfOk result (λ made. texts_in made.1.items ≡ O.observe self pid (stepped self pid)) }
+    ) -> Result<ObservedStep, StepFault>
+        ensures after { IfOk result (λ made. made.position ≡ (stepped self pid).after) }
+        ensures texts { IfOk result (λ made. texts_in made.texts.items ≡ O.observe self pid (stepped self pid)) }
+        ensures inside { IfOk result (λ made. made.inside ≡ stays_inside (process_at self pid)) }
     {
         let Position { mut session, last } = self;
         let _ = session.parts();
+        let inside = stays_inside(&session, pid);
         let texts = observer.step(alloc, &mut session, pid)?;
         let last = last_number(session.parts(), last);
-        Ok((Position { session, last }, texts))
+        Ok(ObservedStep {
+            position: Position { session, last },
+            texts,
+            inside,
+        })
     }
 
     /// Returns the session of the machine.
@@ -247,6 +296,29 @@ impl Position {
         ensures { IfOk result (λ groups. encoded_all groups.items ≡ encoded self.now) }
     {
         Ok(encoded_state(alloc, self.session.parts(), self.last)?)
+    }
+
+    /// Returns the group of a live process, with its outside view.
+    ///
+    /// # Errors
+    ///
+    /// `NoMemory`, if there is no memory.
+    pub(crate) fn encoded_process(
+        &self,
+        alloc: Global,
+        pid: u32,
+    ) -> Result<EncodedGroup, StepFault>
+        requires { IsSome (process_at self.now pid) }
+        ensures { IfOk result (λ group. encoded_of group ≡ live_encoded pid (process_at self.now pid)) }
+    {
+        Ok(encoded_live(alloc, self.session.parts().processes(), pid)?)
+    }
+
+    /// Returns whether a process is live.
+    pub(crate) fn is_live(&self, pid: u32) -> bool
+        ensures { result ≡ is_some (process_at self.now pid) }
+    {
+        self.session.parts().processes().live(pid)
     }
 
     /// Returns the encoding of the tree. No process may be live.

@@ -11,13 +11,12 @@ ghost use Rattle.pv_laws_states.specs.States.{IsValid};
 ghost use Rattle.pv_model.specs.Grammar.Programs.{program_of};
 ghost use Rattle.pv_session.specs.Running.{FailsBy};
 ghost use Rattle.pv_step_cache.specs.Steps.{texts_in};
-ghost use Rattle.pv_state_encoding.specs.Encoded.{encoded};
 ghost use Rattle.pv_streams.specs.Sinks.{Writes, WritesOr};
 
 use crate::checkpoints::Checkpoints;
 use crate::first_machine::FirstMachine;
 use crate::observer::Observer;
-use crate::position::Position;
+use crate::position::{ObservedStep, Position};
 use crate::progress::Progress;
 use crate::searched::Searched;
 use crate::states::{Followed, States, Visit};
@@ -313,21 +312,22 @@ impl<O: Observer + Drop> Search<O> {
         number: u32,
         pid: u32,
         texts: Vec<Vec<u8>>,
+        inside: bool,
         position: &Position,
     ) -> Result<Visit, StepFault>
-        requires made { IsMade O.observe self.old.states number pid (texts_in texts.items) (encoded position.now) }
+        requires made { IsMade O.observe self.old.states number pid (texts_in texts.items) inside position.now }
         requires found { number < length (visited_of self.old).witnesses }
         ensures visited { OnOk result (visited_of self.new ≡ with_found_at limit (visited_of self.old) (longer (visited_of self.old).witnesses number pid) position.now) }
         ensures found { IfOk result (IsFoundIn limit self.old.states self.new.states (state_key position.now)) }
     {
-        let groups = position.encoded(alloc)?;
         let found = self.states.arrive(
             alloc,
             limit as usize,
             number as usize,
             pid,
             texts,
-            &groups,
+            inside,
+            position,
         )?;
         add_found_ending(alloc, &mut self.endings, position, found)?;
         self.keep_witness(number, pid, found)?;
@@ -352,7 +352,11 @@ impl<O: Observer + Drop> Search<O> {
         ensures written { WritesOr W.Sink FailsBy (text_from O.observe from number pid self.old) out.old out.new result }
     {
         let _ = from.parts();
-        let (position, texts) = self.states.observe(alloc, from, pid)?;
+        let ObservedStep {
+            position,
+            texts,
+            inside,
+        } = self.states.observe(alloc, from, pid)?;
         report(
             alloc,
             &mut self.reported,
@@ -363,7 +367,7 @@ impl<O: Observer + Drop> Search<O> {
             out,
         )?;
         let next = self.states.len();
-        let found = self.visit(alloc, limit, number, pid, texts, &position)?;
+        let found = self.visit(alloc, limit, number, pid, texts, inside, &position)?;
         Ok(go_ahead(alloc, &mut self.states, next, position, found)?)
     }
 

@@ -12,7 +12,7 @@ ghost use Rattle.pv_step_cache.specs.Steps.{texts_in};
 use crate::checkpoints::Checkpoints;
 use crate::first_machine::FirstMachine;
 use crate::observer::Observer;
-use crate::position::Position;
+use crate::position::{ObservedStep, Position};
 use crate::search::{first_states, go_ahead};
 use crate::states::{Followed, States, Visit};
 use pv_model::StepFault;
@@ -157,13 +157,16 @@ impl<'a, O: Observer + Drop> Side<'a, O> {
         ensures number { IfOk result (λ made. IsNumbered limit self.old.keys self.new.keys (state_key (stepped from pid).after) made.1.number) }
     {
         let _ = from.parts();
-        let (position, texts) = self.states.observe(alloc, from, pid)?;
+        let ObservedStep {
+            position,
+            texts,
+            inside,
+        } = self.states.observe(alloc, from, pid)?;
         let copy = shared_copy_of(alloc, &texts)?;
-        let groups = position.encoded(alloc)?;
         let before = self.states.len();
         let found = self
             .states
-            .arrive(alloc, limit, number, pid, texts, &groups)?;
+            .arrive(alloc, limit, number, pid, texts, inside, &position)?;
         let machine = go_ahead(alloc, &mut self.states, before, position, found)?;
         let number = number_of(found, before);
         Ok((

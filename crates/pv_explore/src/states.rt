@@ -2,15 +2,19 @@
 ghost use Rattle.std.specs.Prelude.{◌≡◌, ◌++◌, ◌∷◌, [], length, position, bytes_eq, IfOk, IfSome, OnErr, OnOk};
 ghost use Rattle.std.specs.List.{AllByRecursion};
 ghost use Rattle.pv_explore.specs.Rows.{AreOfState, Grew, IsAmong, IsGroupVisited, group_row, number_in, parts_in, state_row};
-ghost use Rattle.pv_explore.specs.VisitedStates.{AreCellsIn, AreReleased, AreLiveAt, ArePlaced, ArePushed, AreEncoded, HasNumber, IsFoundBy, IsFoundIn, IsMade, IsRecalled, IsValidAt, MayFollow, MayKeep, cells_row, number_of};
+ghost use Rattle.pv_explore.specs.VisitedStates.{AreCellsIn, AreReleased, AreLiveAt, ArePlaced, ArePushed, AreStoredAt, AreEncoded, HasNumber, IsFoundBy, IsFoundIn, IsMade, IsRecalled, IsValidAt, MayFollow, MayKeep, cells_row, number_of};
+ghost use Rattle.pv_explore.specs.Observing.{stays_inside};
+ghost use Rattle.pv_explore.specs.Plan.{state_key};
+ghost use Rattle.pv_model.specs.State.{process_at};
 ghost use Rattle.pv_session.specs.Running.{stepped};
 ghost use Rattle.pv_step_cache.specs.Steps.{texts_in};
 ghost use Rattle.pv_state_encoding.specs.Groups.{groups_of, joined};
 ghost use Rattle.pv_state_encoding.specs.Encoded.{encoded_all, encoded_of};
 
+use crate::after::cells_after;
 use crate::ahead::make_ahead;
 use crate::observer::Observer;
-use crate::position::Position;
+use crate::position::{ObservedStep, Position};
 use pv_model::StepFault;
 use pv_state_encoding::{EncodedGroup, push_number};
 use pv_step_cache::tables::Keys;
@@ -146,7 +150,7 @@ fn learn_group(
 }
 
 // Stores a group and its outside view, and returns its cell.
-fn learn_cell(
+pub(crate) fn learn_cell(
     alloc: Global,
     parts: &mut Keys,
     groups: &mut Keys,
@@ -194,6 +198,16 @@ pub(crate) fn learn_cells(
         cells.push(cell)?;
     }
     Ok(cells)
+}
+
+// Returns the cells of state `number`, or none if they are not stored.
+fn cells_at(cells: &[Vec<Cell>], number: usize) -> &[Cell]
+    ensures { AreStoredAt cells.now number result.now }
+{
+    match cells.get(number) {
+        Some(cells) => cells.as_slice(),
+        None => &[],
+    }
 }
 
 // ---- steps
@@ -379,7 +393,7 @@ impl<O: Observer + Drop> States<O> {
         Ok(found)
     }
 
-    /// Makes a step of a process with a machine. Returns the machine after it, and the texts observed of the step.
+    /// Makes a step of a process with a machine, and observes it.
     ///
     /// # Errors
     ///
@@ -389,17 +403,18 @@ impl<O: Observer + Drop> States<O> {
         alloc: Global,
         position: Position,
         pid: u32,
-    ) -> Result<(Position, Vec<Vec<u8>>), StepFault>
+    ) -> Result<ObservedStep, StepFault>
         ensures unchanged { self.new ≡ self.old }
-        ensures after { IfOk result (λ made. made.0 ≡ (stepped position pid).after) }
-        ensures texts { IfOk result (λ made. texts_in made.1.items ≡ O.observe position pid (stepped position pid)) }
+        ensures after { IfOk result (λ made. made.position ≡ (stepped position pid).after) }
+        ensures texts { IfOk result (λ made. texts_in made.texts.items ≡ O.observe position pid (stepped position pid)) }
+        ensures inside { IfOk result (λ made. made.inside ≡ stays_inside (process_at position pid)) }
     {
         position.observe(alloc, &mut self.observer, pid)
     }
 
-    /// Visits the state after a process's step in state `number`, and caches the transition. `texts` are the texts
-    /// observed of the step, and `after` are the groups of the state after it. That state is appended if it is new and
-    /// there are fewer than `limit` states.
+    /// Visits the state of a machine after a process's step in state `number`, and caches the transition. `texts` are
+    /// the texts observed of the step, and `inside` is whether it changes at most the inside of its process, unless it
+    /// kills the process. The state is appended if it is new and there are fewer than `limit` states.
     ///
     /// # Errors
     ///
@@ -411,12 +426,15 @@ impl<O: Observer + Drop> States<O> {
         number: usize,
         pid: u32,
         texts: Vec<Vec<u8>>,
-        after: &[EncodedGroup],
+        inside: bool,
+        position: &Position,
     ) -> Result<Visit, StepFault>
-        requires { IsMade O.observe self.old number pid (texts_in texts.items) (encoded_all after.now) }
-        ensures { IfOk result (IsFoundBy limit self.old self.new (encoded_all after.now)) }
+        requires { IsMade O.observe self.old number pid (texts_in texts.items) inside position.now }
+        ensures { IfOk result (IsFoundIn limit self.old self.new (state_key position.now)) }
     {
-        let cells = learn_cells(alloc, &mut self.parts, &mut self.groups, after)?;
+        let before = cells_at(&self.cells, number);
+        let (parts, groups) = (&mut self.parts, &mut self.groups);
+        let cells = cells_after(alloc, parts, groups, before, pid, inside, position)?;
         keep_made(
             alloc,
             &self.cells,

@@ -21,8 +21,16 @@ pub enum EncodedGroup {
     Live(u32, Vec<Vec<u8>>, Vec<Vec<u8>>),
 }
 
-// Returns the group of a live process.
-fn encoded_live(alloc: Global, processes: &Processes, pid: u32) -> Result<EncodedGroup, AllocError>
+/// Returns the group of a live process.
+///
+/// # Errors
+///
+/// `AllocError`, if there is no memory.
+pub fn encoded_live(
+    alloc: Global,
+    processes: &Processes,
+    pid: u32,
+) -> Result<EncodedGroup, AllocError>
     requires { IsSome (process_in processes.now pid) }
     ensures { IfOk result (λ group. encoded_of group ≡ live_encoded pid (process_in processes.now pid)) }
 {

@@ -16,7 +16,7 @@ mod processes;
 mod states;
 mod trees;
 
-pub use encoded::EncodedGroup;
+pub use encoded::{EncodedGroup, encoded_live};
 pub use numbers::push_number;
 pub use states::{encoded_state, state_groups};
 pub use trees::push_tree;

@@ -10,7 +10,6 @@ use Rattle.pv_explore.proofs.Finding.{visited-is}
 use Rattle.pv_explore.proofs.VisitedStates.{number-new}
 use Rattle.pv_model.specs.Bytes.{Bytes}
 use Rattle.pv_session.specs.Running.{stepped}
-use Rattle.pv_state_encoding.specs.Encoded.{encoded}
 use Rattle.pv_step_cache.specs.Steps.{texts_in}
 use Rattle.pv_explore.proofs.search.Search.make_new_move.Goals as goal
 
@@ -20,7 +19,8 @@ visit-requires-clause-made g c = record {
   whole = c.parts.ensures.whole;
   number_is = subst (λ (keys : List Bytes). HasNumber keys c.args.number c.args.from) (sym c.observe.ensures.unchanged) c.requires.there;
   texts_are = c.in_ok-position.ensures.texts;
-  after_is = ap encoded c.in_ok-position.ensures.after;
+  inside_is = c.in_ok-position.ensures.inside;
+  after_is = c.in_ok-position.ensures.after;
 }
 
 pub go_ahead-requires : goal.go_ahead-requires

@@ -1,24 +1,17 @@
 use Rattle.std.proofs.Common.{◌∙◌, ap, List, subst, sym}
 use Rattle.pv_explore.specs.Plan.{Visited, state_key}
 use Rattle.pv_explore.specs.Searches.{visited_of}
-use Rattle.pv_explore.specs.VisitedStates.{IsFoundIn, IsMade}
+use Rattle.pv_explore.specs.VisitedStates.{IsFoundIn}
 use Rattle.pv_explore.specs.Witnesses.{longer}
 use Rattle.pv_explore.proofs.Followed.{visited-found, witness-keys}
 use Rattle.pv_model.specs.Bytes.{Bytes}
-use Rattle.pv_step_cache.specs.Steps.{texts_in}
-use Rattle.pv_state_encoding.specs.Encoded.{Encoded, encoded_all}
 use Rattle.pv_explore.proofs.search.Search.visit.Goals as goal
-
-pub arrive-requires : goal.arrive-requires
-arrive-requires g c =
-    let groups_are = ap encoded_all c.deref.ensures.value ∙ c.in_ok-groups.ensures in
-    subst (λ (after : List Encoded). IsMade g.O.Observer.observe c.args.self.now.states c.args.number c.args.pid (texts_in c.args.texts.items) after) (sym groups_are) c.requires.made
 
 pub returns-clause-visited : goal.returns-clause-visited
 returns-clause-visited g c =
     let t = c.args.position.now in
     let old = visited_of c.args.self.now in
-    let it = c.in_ok-found.ensures t (ap encoded_all c.deref.ensures.value ∙ c.in_ok-groups.ensures) in
+    let it = c.in_ok-found.ensures in
     c.in_ok-keep_witness.ensures
     ∙ visited-found c.args.limit old (longer old.witnesses c.args.number c.args.pid) t c.arrive.new.self c.add_found_ending.new.endings c.in_ok-found.found it c.in_ok-add_found_ending.ensures
 
@@ -26,7 +19,7 @@ pub returns-clause-found : goal.returns-clause-found
 returns-clause-found g c =
     let t = c.args.position.now in
     let old = visited_of c.args.self.now in
-    let it = c.in_ok-found.ensures t (ap encoded_all c.deref.ensures.value ∙ c.in_ok-groups.ensures) in
+    let it = c.in_ok-found.ensures in
     let now : Visited = record old { keys = c.arrive.new.self; endings = c.add_found_ending.new.endings } in
     let keys_are = ap (λ (v : Visited). v.keys) c.in_ok-keep_witness.ensures ∙ witness-keys c.in_ok-found.found (longer old.witnesses c.args.number c.args.pid) now in
     subst (λ (keys : List Bytes). IsFoundIn c.args.limit c.args.self.now.states keys (state_key c.args.position.now) c.in_ok-found.found) (sym keys_are) it

@@ -1,0 +1,13 @@
+use Rattle.std.proofs.Common.{◌∙◌, ap, sym, subst}
+use Rattle.pv_answers.proofs.NextOnes.{register-next}
+use Rattle.pv_explore.specs.Observing.{stays_inside}
+use Rattle.pv_laws_steps.specs.Commuting.{is_inward}
+use Rattle.pv_model.specs.State.{process_at}
+use Rattle.pv_procs.specs.Turns.{IsFetched}
+use Rattle.pv_procs.specs.declared.processes.Fetched.{Fetched}
+use Rattle.pv_explore.proofs.position.stays_inside.Goals as goal
+
+pub returns-in-Register : goal.returns-in-Register
+returns-in-Register c =
+    let it = register-next (process_at c.args.session.now c.args.pid) (subst (λ (f : Fetched). IsFetched f (process_at c.args.session.now c.args.pid)) c.in-Register.is c.fetch.ensures.next) in
+    sym (ap stays_inside it.1 ∙ ap is_inward it.3)
