@@ -1,33 +1,38 @@
--- The cells of the state after a step that changes only the inside of its process.
-use Rattle.std.proofs.Common.{◌≡◌, ◌≢◌, ◌∙◌, sym, ap, ap₂, subst, ℕ, zero, suc, Bool, true, false, if◌then◌else◌, ◌==◌, List, [], ◌∷◌, ◌++◌, map, length, Option, None, Some, is_some, refl}
+-- The cells of the state after a step, from those of the state before it.
+use Rattle.std.proofs.Common.{◌≡◌, ◌≢◌, ◌∙◌, sym, ap, ap₂, subst, ℕ, zero, suc, Bool, true, false, if◌then◌else◌, ◌==◌, List, [], ◌∷◌, ◌++◌, map, length, slice_get, option_map, cond, Option, None, Some, refl}
+use Rattle.std.specs.FinMap.Entries.{find, is_sorted, below_all}
 use Rattle.std.specs.Global.{Vec}
 use Rattle.std.specs.List.{AllByRecursion}
+use Rattle.std.specs.Ordering.{nat_cmp, is_eq}
 use Rattle.std.specs.Prelude.{IsSome}
 use Rattle.std.proofs.lemmas.List.{length-map, map-append}
-use Rattle.std.proofs.lemmas.Bool.{eqb-true, ne_eqb}
-use Rattle.pv_model.specs.declared.outcome.Outcome.TheVariants.{Killed}
-use Rattle.pv_model.specs.declared.promise.Promise.{Promise}
+use Rattle.std.proofs.lemmas.Bool.{and_parts, eqb-true, ne_eqb}
+use Rattle.std.proofs.lemmas.Option.{slice_get-map}
 use Rattle.pv_model.specs.Answers.Observed.{Observer}
 use Rattle.pv_model.specs.Bytes.{Bytes}
 use Rattle.pv_model.specs.Grammar.Programs.{program_of}
 use Rattle.pv_model.specs.Program.{next}
 use Rattle.pv_model.specs.State.{Process, ProcessRecord, live, ended_record, State, live_process, process_at, with_process}
-use Rattle.pv_explore.specs.Afters.{LeadTo, own_or}
+use Rattle.pv_answers.proofs.Following.{Recorded, IsNextRecord, all-after}
+use Rattle.pv_explore.specs.Afters.{IsCellOf, LeadTo, own_or}
 use Rattle.pv_explore.specs.Observing.{stays_inside}
 use Rattle.pv_explore.specs.Rows.{Grew, IsGroupVisited, state_bytes}
 use Rattle.pv_explore.specs.VisitedStates.{number_of, AreCachedBoth, AreCellsIn, AreCellsOf, AreStoredAt, HasNumber, IsFine, IsMade}
-use Rattle.pv_explore.proofs.VisitedStates.{cells-at, cells-grew}
-use Rattle.pv_laws_access.proofs.Ended.{kills-leave}
-use Rattle.pv_laws_access.specs.Ends.{new_parent, preserved_for}
+use Rattle.pv_explore.proofs.Surviving.{goes-on, not-killed}
+use Rattle.pv_explore.proofs.VisitedStates.{cells-at, cells-grew, cells-in_grew}
+use Rattle.pv_laws_access.proofs.Ends.{whole-in_order}
+use Rattle.pv_laws_access.proofs.Framed.{others-keep_all}
 use Rattle.pv_laws_states.specs.States.{is_number, IsValid}
-use Rattle.pv_laws_states.proofs.Members.{find_number-list_all, live-found}
-use Rattle.pv_laws_states.proofs.Processes.{process_at-same}
+use Rattle.pv_laws_states.proofs.Members.{find_number-list_all, find_number_after, found-live, live-found}
+use Rattle.pv_laws_states.proofs.Processes.{find-put_same, number-itself}
 use Rattle.pv_laws_steps.specs.Beside.{change_at, change_live}
 use Rattle.pv_laws_steps.specs.Commuting.{StaysInside, is_inward}
 use Rattle.pv_laws_steps.proofs.Commuted.{put-changes}
 use Rattle.pv_laws_steps.proofs.Inward.{where-inside}
+use Rattle.pv_procs.specs.ProcessTable.{number_after}
 use Rattle.pv_session.specs.Running.{stepped}
-use Rattle.pv_state_encoding.specs.Encoded.{Encoded, plain, encoded_record, live_encoded, counts_group, tree_groups, encoded}
+use Rattle.pv_state_encoding.proofs.Records.{LeavesRecords, records-end, records-next}
+use Rattle.pv_state_encoding.specs.Encoded.{Encoded, plain, encoded_record, numbered_encoded, counts_group, tree_groups, encoded}
 use Rattle.pv_state_encoding.specs.Groups.{counts_part}
 use Rattle.pv_step_cache.specs.declared.cells.Cell.{Cell}
 use Rattle.pv_step_cache.specs.declared.steps.CachedStep.{CachedStep}
@@ -117,34 +122,23 @@ number-some s pid p whole at none =
     let found = live-found s 0 p (ap (process_at s) (sym none) ∙ at) in
     let bad : is_number s.last_process 0 ≡ true = find_number-list_all (is_number s.last_process) 0 (live p) s.processes whole.processes.numbers found in cc bad
 
--- a process that is live after its step was not killed
-not-killed : (s : State) (pid : ℕ) (p : Process) → IsValid s → process_at s pid ≡ Some p → IsSome (process_at (stepped s pid).after pid) → (a : Promise) → (stepped s pid).outcome ≢ Killed a
-not-killed s pid p whole at alive a dies =
-    let ended = kills-leave program_of s pid p whole at a dies in
-    let none : process_at (stepped s pid).after pid ≡ None = ap live_process ended.itself ∙ of (new_parent s pid p.parent) in
-    let bad : false ≡ true = sym (ap is_some none) ∙ alive in cc bad
-  where
-    of : (n : ℕ) → live_process (preserved_for n 6) ≡ None
-    of zero = refl
-    of (suc n) = refl
-
 inside-step : (s : State) (pid : ℕ) → IsValid s → stays_inside (process_at s pid) ≡ true → IsSome (process_at (stepped s pid).after pid) → StaysInside program_of s pid
 inside-step s pid whole inside alive = by (process_at s pid) refl inside
   where
     by : (o : Option Process) → process_at s pid ≡ o → stays_inside o ≡ true → StaysInside program_of s pid
     by None at inward = cc inward
-    by (Some p) at inward = (where-inside program_of s pid p whole at).asks inward (not-killed s pid p whole at alive)
+    by (Some p) at inward = (where-inside program_of s pid p whole at).asks inward (not-killed s pid (whole-in_order s whole) alive)
 
 module _ (parts groups parts_now groups_now : List Bytes) (parts_grew : Grew parts parts_now) (groups_grew : Grew groups groups_now) where
   pub cells-inside : (cells : List Cell) (pid : ℕ) (after : State) (own : Cell) → LeadTo parts groups cells pid true after → IsSome (process_at after pid)
-      → AreCellsIn parts_now groups_now (live_encoded pid (process_at after pid) ∷ []) (own ∷ []) → AreCellsOf parts_now groups_now after (map (own_or pid own) cells)
+      → AreCellsIn parts_now groups_now (numbered_encoded pid (find nat_cmp pid after.processes) ∷ []) (own ∷ []) → AreCellsOf parts_now groups_now after (map (own_or pid own) cells)
   cells-inside cells pid after own it alive one =
       let s = it.state in
       let alive_there : IsSome (process_at (stepped it.state pid).after pid) = subst (λ (t : State). IsSome (process_at t pid)) it.after_is alive in
       let step = inside-step s pid it.whole (sym it.inside_is) alive_there in
       let after_is : after ≡ with_process it.state pid step.following = it.after_is ∙ step.after in
-      let now : live_encoded pid (process_at after pid) ≡ encoded_record (pid, live step.following) =
-          ap (live_encoded pid) (ap (λ (t : State). process_at t pid) after_is ∙ process_at-same it.state pid step.following) in
+      let now : numbered_encoded pid (find nat_cmp pid after.processes) ≡ encoded_record (pid, live step.following) =
+          ap (numbered_encoded pid) (ap (λ (t : State). find nat_cmp pid t.processes) after_is ∙ find-put_same pid (live step.following) it.state.processes) in
       let there : AreCellsIn parts_now groups_now (encoded_record (pid, live step.following) ∷ []) (own ∷ []) =
           subst (λ (c : Encoded). AreCellsIn parts_now groups_now (c ∷ []) (own ∷ [])) now one in
       let before = cells-grew parts groups parts_now groups_now parts_grew groups_grew s cells it.cells_are in
@@ -180,3 +174,139 @@ led-to parts groups rows stored steps fine keys keys_are number pid texts inside
       after_is = made.after_is;
       inside_is = made.inside_is;
     }
+
+-- ---- another process
+
+some-of : {X Y : Type 0} (f : X → Y) (o : Option X) (y : Y) → option_map f o ≡ Some y → (x : X) × (o ≡ Some x) × (f x ≡ y)
+some-of f None y is = cc
+some-of f (Some x) y is = let same : f x ≡ y = cc is in (x, refl, same)
+
+all-at : {X : Type 0} (P : X → Type 0) (xs : List X) (k : ℕ) (x : X) → AllByRecursion P xs → slice_get xs k ≡ Some x → P x
+all-at P [] k x all at = cc
+all-at P (y ∷ ys) zero x all at = let same : y ≡ x = cc at in subst P same all.0
+all-at P (y ∷ ys) (suc k) x all at = all-at P ys k x all.1 at
+
+-- a record at an index is found by its number
+found-at : (rs : List (ℕ × ProcessRecord)) (i n : ℕ) (r : ProcessRecord) → is_sorted nat_cmp rs ≡ true → slice_get rs i ≡ Some (n, r) → find nat_cmp n rs ≡ Some r
+found-at [] i n r sorted at = cc at
+found-at (e ∷ rs) zero n r sorted at =
+    let same : e ≡ (n, r) = cc at in
+    subst (λ (x : ℕ × ProcessRecord). find nat_cmp n (x ∷ rs) ≡ Some r) (sym same) (ap (λ o. cond (is_eq o) (Some r) (find nat_cmp n rs)) (number-itself n))
+found-at (e ∷ rs) (suc i) n r sorted at = find_number_after n r e rs sorted (found-at rs i n r (and_parts (below_all nat_cmp e.0 rs) (is_sorted nat_cmp rs) sorted).1 at)
+
+plain-owner : (gs : List (List Bytes)) (i : ℕ) (c : Encoded) → slice_get (map plain gs) i ≡ Some c → c.owner ≡ 0
+plain-owner [] i c at = cc at
+plain-owner (g ∷ gs) zero c at = let same : plain g ≡ c = cc at in sym (ap (λ (x : Encoded). x.owner) same)
+plain-owner (g ∷ gs) (suc i) c at = plain-owner gs i c at
+
+-- the group of a live process is that of its record
+pub record IsOfRecord (rs : List (ℕ × ProcessRecord)) (owner : ℕ) (c : Encoded) : Type 0 where
+  pub place : ℕ
+  pub process : Process
+  pub at : slice_get rs place ≡ Some (owner, live process)
+  pub is : encoded_record (owner, live process) ≡ c
+
+of-record : (owner : ℕ) → owner ≢ 0 → (rs : List (ℕ × ProcessRecord)) (gs : List (List Bytes)) (i : ℕ) (c : Encoded) → slice_get (map encoded_record rs ++ map plain gs) i ≡ Some c → c.owner ≡ owner → IsOfRecord rs owner c
+of-record owner some [] gs i c at owned = absurd (some (sym owned ∙ plain-owner gs i c at))
+of-record owner some ((n, live p) ∷ rs) gs zero c at owned =
+    let is : encoded_record (n, live p) ≡ c = cc at in
+    let number : n ≡ owner = ap (λ (x : Encoded). x.owner) is ∙ owned in
+    record { place = 0; process = p; at = ap (λ k. Some (k, live p)) number; is = ap (λ k. encoded_record (k, live p)) (sym number) ∙ is }
+of-record owner some ((n, ended_record parent status) ∷ rs) gs zero c at owned =
+    let is : encoded_record (n, ended_record parent status) ≡ c = cc at in absurd (some (sym owned ∙ sym (ap (λ (x : Encoded). x.owner) is)))
+of-record owner some (r ∷ rs) gs (suc i) c at owned = let rest = of-record owner some rs gs i c at owned in record { place = suc rest.place; process = rest.process; at = rest.at; is = rest.is }
+
+of-encoded : (s : State) (owner : ℕ) → owner ≢ 0 → (i : ℕ) (c : Encoded) → slice_get (encoded s) i ≡ Some c → c.owner ≡ owner → IsOfRecord s.processes owner c
+unfolding encoded
+of-encoded s owner some zero c at owned = let is : plain (counts_group s) ≡ c = cc at in absurd (some (sym owned ∙ sym (ap (λ (x : Encoded). x.owner) is)))
+of-encoded s owner some (suc i) c at owned = of-record owner some s.processes (tree_groups s) i c at owned
+
+module _ (parts groups : List Bytes) where
+  abbrev number : List Bytes → ℕ
+  number = number_of parts groups
+
+  -- the cell that another live process had before the step is its cell after it
+  pub cell-beside : (cells : List Cell) (pid : ℕ) (inside : Bool) (after : State) (other : ℕ) (cell : Cell) → LeadTo parts groups cells pid inside after → IsValid after → IsSome (process_at after pid)
+      → other ≢ pid → IsSome (process_at after other) → IsCellOf cells other cell → AreCellsIn parts groups (numbered_encoded other (find nat_cmp other after.processes) ∷ []) (cell ∷ [])
+  cell-beside cells pid inside after other cell it valid alive apart there is_of =
+      let s = it.state in
+      let some : other ≢ 0 = by-some (process_at after other) refl there in
+      let at_cells : option_map (cell_of (number_of parts groups)) (slice_get (encoded it.state) is_of.place) ≡ Some cell =
+          sym (slice_get-map (cell_of (number_of parts groups)) (encoded it.state) is_of.place) ∙ sym (ap (λ (cs : List Cell). slice_get cs is_of.place) it.cells_are.are) ∙ is_of.at in
+      let e = some-of (cell_of (number_of parts groups)) (slice_get (encoded it.state) is_of.place) cell at_cells in
+      let owned : e.0.owner ≡ other = ap (λ (c : Cell). c.owner) e.2 ∙ is_of.owner in
+      let of = of-encoded s other some is_of.place e.0 e.1 owned in
+      let at_s = found-live s other of.process (found-at s.processes of.place other (live of.process) it.whole.processes.ascending of.at) in
+      let alive_there : IsSome (process_at (stepped it.state pid).after pid) = subst (λ (t : State). IsSome (process_at t pid)) it.after_is alive in
+      let order = whole-in_order s it.whole in
+      let kept = others-keep_all program_of s pid other of.process order apart at_s (goes-on s pid order alive_there) in
+      let found : find nat_cmp other after.processes ≡ Some (live of.process) = live-found after other of.process (ap (λ (t : State). process_at t other) it.after_is ∙ kept) in
+      let group : numbered_encoded other (find nat_cmp other after.processes) ≡ e.0 = ap (numbered_encoded other) found ∙ of.is in
+      record {
+        are = ap (λ (c : Cell). c ∷ []) (sym e.2) ∙ ap (λ (c : Encoded). cell_of (number_of parts groups) c ∷ []) (sym group);
+        cached =
+            (subst (IsCachedBoth (number_of parts groups) (IsGroupVisited parts groups)) (sym group)
+            (all-at (IsCachedBoth (number_of parts groups) (IsGroupVisited parts groups)) (encoded it.state) is_of.place e.0 it.cells_are.cached e.1), tt);
+      }
+    where
+      by-some : (o : Option Process) → process_at after other ≡ o → IsSome o → other ≢ 0
+      by-some None at some = cc some
+      by-some (Some p) at some = number-some after other p valid at
+
+  -- two lists of cells
+  pub cells-both : (cs ds : List Encoded) (cells more : List Cell) → AreCellsIn parts groups cs cells → AreCellsIn parts groups ds more → AreCellsIn parts groups (cs ++ ds) (cells ++ more)
+  cells-both cs ds cells more first second = record {
+    are = ap₂ (λ (a b : List Cell). a ++ b) first.are second.are ∙ sym (map-append (cell_of (number_of parts groups)) cs ds);
+    cached = all-both cs first.cached;
+  }
+    where
+      all-both : (es : List Encoded) → AreCachedBoth parts groups es → AreCachedBoth parts groups (es ++ ds)
+      all-both [] all = second.cached
+      all-both (e ∷ es) all = (all.0, all-both es all.1)
+
+-- ---- all processes, one at a time
+
+-- the cells of all processes but those after a number are there
+pub record LeavesCells (parts groups : List Bytes) (rs : List Recorded) (last : ℕ) (cells : List Cell) : Type 0 where
+  pub done : List Encoded
+  pub are : AreCellsIn parts groups done cells
+  pub left : LeavesRecords encoded_record rs last [] done
+
+pub cells-start : (parts groups : List Bytes) (s : State) → IsValid s → LeavesCells parts groups s.processes 0 []
+cells-start parts groups s whole = record {
+  done = [];
+  are = record { are = refl; cached = tt };
+  left = record { is = ap (map encoded_record) (all-after s.last_process s.processes whole.processes.numbers) };
+}
+
+module _ (parts groups parts_now groups_now : List Bytes) (parts_grew : Grew parts parts_now) (groups_grew : Grew groups groups_now) where
+  pub lead-grew : (cells : List Cell) (pid : ℕ) (inside : Bool) (after : State) → LeadTo parts groups cells pid inside after → LeadTo parts_now groups_now cells pid inside after
+  lead-grew cells pid inside after it = record {
+    state = it.state;
+    whole = it.whole;
+    cells_are = cells-grew parts groups parts_now groups_now parts_grew groups_grew it.state cells it.cells_are;
+    after_is = it.after_is;
+    inside_is = it.inside_is;
+  }
+
+  pub cells-more-record : (rs : List Recorded) (last pid : ℕ) (cells new : List Cell) (cell : Cell) → IsNextRecord last pid rs → LeavesCells parts groups rs last cells
+      → AreCellsIn parts_now groups_now (numbered_encoded pid (find nat_cmp pid rs) ∷ []) (cell ∷ []) → new ≡ cells ++ cell ∷ [] → LeavesCells parts_now groups_now rs pid new
+  cells-more-record rs last pid cells new cell next so_far one is = record {
+    done = so_far.done ++ numbered_encoded pid (find nat_cmp pid rs) ∷ [];
+    are =
+        subst (λ (cs : List Cell). AreCellsIn parts_now groups_now (so_far.done ++ numbered_encoded pid (find nat_cmp pid rs) ∷ []) cs) (sym is)
+        (cells-both parts_now groups_now so_far.done (numbered_encoded pid (find nat_cmp pid rs) ∷ []) cells (cell ∷ []) (cells-in_grew parts groups parts_now groups_now parts_grew groups_grew so_far.done cells so_far.are) one);
+    left = records-next encoded_record numbered_encoded (λ k r. refl) rs last pid [] so_far.done _ (numbered_encoded pid (find nat_cmp pid rs)) next so_far.left refl refl;
+  }
+
+pub cells-end : (parts groups : List Bytes) (rs : List Recorded) (last : ℕ) (cells : List Cell) → number_after last rs ≡ None → LeavesCells parts groups rs last cells → AreCellsIn parts groups (map encoded_record rs) cells
+cells-end parts groups rs last cells none so_far = subst (λ (es : List Encoded). AreCellsIn parts groups es cells) (records-end encoded_record rs last [] so_far.done none so_far.left) so_far.are
+
+-- the cells of the counts, of the processes, and of the open files and the tree
+pub cells-together : (parts groups : List Bytes) (s : State) (counts : Cell) (processes trees : List Cell) → AreCellsIn parts groups (plain (counts_group s) ∷ []) (counts ∷ []) → AreCellsIn parts groups (map encoded_record s.processes) processes
+    → AreCellsIn parts groups (map plain (tree_groups s)) trees → AreCellsOf parts groups s (counts ∷ (processes ++ trees))
+unfolding encoded
+cells-together parts groups s counts processes trees first second third =
+    let rest = cells-both parts groups (map encoded_record s.processes) (map plain (tree_groups s)) processes trees second third in
+    let all = cells-both parts groups (plain (counts_group s) ∷ []) (map encoded_record s.processes ++ map plain (tree_groups s)) (counts ∷ []) (processes ++ trees) first rest in
+    record { are = all.are; cached = all.cached }

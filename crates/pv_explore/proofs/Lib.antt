@@ -3,8 +3,8 @@
 -- (the numbers of live processes, and the tree without live processes), Along (states along a schedule, and
 -- checkpoints), Booting (the rebuilt machine), Finding (the search, step by step), Graphed (the state graph),
 -- Explained (the lines of its steps), Reported (the bytes of texts, and of `explore`), Rows (states as rows of small
--- numbers), VisitedStates (the data stored with visited states), Afters (the cells
--- after a step), Visiting (the visited states, one at a time),
+-- numbers), VisitedStates (the data stored with visited states), Surviving (a process
+-- that is live after its step was not ended by it), Afters (the cells after a step), Visiting (the visited states, one at a time),
 -- Followed (steps from the cache, and the states at the ends of witnesses), LastSteps (witnesses stored as their last
 -- steps), Sizes (of images, which runs leave unchanged), Sides (the states of one side of a search of pairs),
 -- SeenProcess (the process that makes a step), Ranges (the numbers from 1 on, and the greatest of numbers), Stopped (answers that stop).
@@ -21,6 +21,7 @@ pub mod Explained
 pub mod Reported
 pub mod Rows
 pub mod VisitedStates
+pub mod Surviving
 pub mod Afters
 pub mod Visiting
 pub mod LastSteps

@@ -1,5 +1,5 @@
 -- The cells of the state after a step, from those of the state before it.
-use Rattle.std.specs.Prelude.{◌≡◌, ℕ, Bool, if◌then◌else◌, ◌==◌, List}
+use Rattle.std.specs.Prelude.{◌≡◌, ℕ, Bool, if◌then◌else◌, ◌==◌, List, slice_get, Some}
 use Rattle.pv_model.specs.Bytes.{Bytes}
 use Rattle.pv_model.specs.State.{State, process_at}
 use Rattle.pv_explore.specs.Observing.{stays_inside}
@@ -19,3 +19,9 @@ pub record LeadTo (parts groups : List Bytes) (cells : List Cell) (pid : ℕ) (i
   pub cells_are : AreCellsOf parts groups state cells
   pub after_is : after ≡ (stepped state pid).after
   pub inside_is : inside ≡ stays_inside (process_at state pid)
+
+-- the cell of a live process
+pub record IsCellOf (cells : List Cell) (pid : ℕ) (cell : Cell) : Type 0 where
+  pub place : ℕ
+  pub at : slice_get cells place ≡ Some cell
+  pub owner : cell.owner ≡ pid

@@ -1,9 +1,12 @@
 //! The cells of the state after a step, from those of the state before it.
-ghost use Rattle.std.specs.Prelude.{◌≡◌, ◌≢◌, [], true, map, IsSome, IfOk};
-ghost use Rattle.pv_explore.specs.Afters.{LeadTo, own_or};
+ghost use Rattle.std.specs.Prelude.{◌≡◌, ◌≢◌, ◌∷◌, ◌++◌, [], true, map, IsSome, IfSome, IfOk, OnOk};
+ghost use Rattle.std.specs.FinMap.Entries.{find};
+ghost use Rattle.std.specs.Ordering.{nat_cmp};
+ghost use Rattle.pv_explore.specs.Afters.{IsCellOf, LeadTo, own_or};
 ghost use Rattle.pv_explore.specs.Rows.{Grew};
-ghost use Rattle.pv_explore.specs.VisitedStates.{AreCellsOf};
+ghost use Rattle.pv_explore.specs.VisitedStates.{AreCellsIn, AreCellsOf};
 ghost use Rattle.pv_model.specs.State.{process_at};
+ghost use Rattle.pv_state_encoding.specs.Encoded.{encoded_record, numbered_encoded};
 
 use crate::position::Position;
 use crate::states::{learn_cell, learn_cells};
@@ -50,9 +53,126 @@ fn cells_inside(
     Ok(with_own(alloc, cells, pid, own)?)
 }
 
+// Returns the cell of a live process.
+fn cell_of(cells: &[Cell], pid: u32) -> Option<Cell>
+    ensures { IfSome result (IsCellOf cells.now pid) }
+{
+    for cell in cells {
+        if cell.owner == pid {
+            return Some(*cell);
+        }
+    }
+    None
+}
+
+// Stores the group of a process after a step of process `pid`, which is still live, and returns its cell. If it is
+// another live process, its cell is the one before the step.
+fn cell_beside(
+    alloc: Global,
+    parts: &mut Keys,
+    groups: &mut Keys,
+    cells: &[Cell],
+    pid: u32,
+    inside: bool,
+    position: &Position,
+    other: u32,
+) -> Result<Cell, StepFault>
+    requires live { IsSome (process_at position.now pid) }
+    requires before { LeadTo parts.old groups.old cells.now pid inside position.now }
+    ensures parts_grew { Grew parts.old parts.new }
+    ensures groups_grew { Grew groups.old groups.new }
+    ensures cell { IfOk result (λ cell. AreCellsIn parts.new groups.new (numbered_encoded other (find nat_cmp other position.now.processes) ∷ []) (cell ∷ [])) }
+{
+    let _ = position.parts();
+    if other != pid && position.is_live(other) {
+        if let Some(cell) = cell_of(cells, other) {
+            return Ok(cell);
+        }
+    }
+    let group = position.encoded_process(alloc, other)?;
+    Ok(learn_cell(alloc, parts, groups, &group)?)
+}
+
+// Appends a cell.
+fn push_cell(cells: &mut Vec<Cell>, cell: Cell) -> Result<(), AllocError>
+    ensures { OnOk result (cells.new.items ≡ cells.old.items ++ cell ∷ []) }
+{
+    cells.push(cell)?;
+    Ok(())
+}
+
+// Stores the groups of all processes after a step of process `pid`, which is still live, and returns their cells.
+fn process_cells(
+    alloc: Global,
+    parts: &mut Keys,
+    groups: &mut Keys,
+    cells: &[Cell],
+    pid: u32,
+    inside: bool,
+    position: &Position,
+) -> Result<Vec<Cell>, StepFault>
+    requires live { IsSome (process_at position.now pid) }
+    requires before { LeadTo parts.old groups.old cells.now pid inside position.now }
+    ensures parts_grew { Grew parts.old parts.new }
+    ensures groups_grew { Grew groups.old groups.new }
+    ensures cells { IfOk result (λ after. AreCellsIn parts.new groups.new (map encoded_record position.now.processes) after.items) }
+{
+    let _ = position.parts();
+    let mut after = Vec::new(alloc);
+    let mut last = 0;
+    while let Some(other) = position.next_process(last) {
+        let cell = cell_beside(alloc, parts, groups, cells, pid, inside, position, other)?;
+        push_cell(&mut after, cell)?;
+        last = other;
+    }
+    Ok(after)
+}
+
+// Returns the cells of a state, given those of its counts, of its processes, and of its open files and tree.
+fn joined(
+    alloc: Global,
+    counts: Cell,
+    processes: &[Cell],
+    trees: &[Cell],
+) -> Result<Vec<Cell>, AllocError>
+    ensures { IfOk result (λ cells. cells.items ≡ counts ∷ (processes.now ++ trees.now)) }
+{
+    let mut cells = Vec::with_capacity(alloc, processes.len().saturating_add(trees.len()).saturating_add(1))?;
+    cells.push(counts)?;
+    cells.extend_from_slice(processes)?;
+    cells.extend_from_slice(trees)?;
+    Ok(cells)
+}
+
+// Stores the groups of the state after a step of process `pid`, which is still live, and returns the cells of that
+// state. The other live processes are not encoded again.
+fn cells_beside(
+    alloc: Global,
+    parts: &mut Keys,
+    groups: &mut Keys,
+    cells: &[Cell],
+    pid: u32,
+    inside: bool,
+    position: &Position,
+) -> Result<Vec<Cell>, StepFault>
+    requires live { IsSome (process_at position.now pid) }
+    requires before { LeadTo parts.old groups.old cells.now pid inside position.now }
+    ensures parts_grew { Grew parts.old parts.new }
+    ensures groups_grew { Grew groups.old groups.new }
+    ensures cells { IfOk result (λ after. AreCellsOf parts.new groups.new position.now after.items) }
+{
+    let processes = process_cells(alloc, parts, groups, cells, pid, inside, position)?;
+    let counts = position.encoded_counts(alloc)?;
+    let counts = learn_cell(alloc, parts, groups, &counts)?;
+    let trees = position.encoded_trees(alloc)?;
+    let trees = learn_cells(alloc, parts, groups, &trees)?;
+    Ok(joined(alloc, counts, &processes, &trees)?)
+}
+
 /// Stores the groups of the state after a step of a process, and returns the cells of that state. `cells` are those of
 /// the state before the step, or empty if they are not known. `inside` is whether the step changes at most the inside
-/// of its process, unless it kills the process: if so, no other group is encoded again.
+/// of its process, unless it kills the process: if so, no other group is encoded again. If the process is still live
+/// after another step, the other live processes are not encoded again.
 ///
 /// # Errors
 ///
@@ -71,9 +191,12 @@ pub(crate) fn cells_after(
     ensures groups_grew { Grew groups.old groups.new }
     ensures cells { IfOk result (λ after. AreCellsOf parts.new groups.new position.now after.items) }
 {
-    if inside && !cells.is_empty() && position.is_live(pid) {
+    if cells.is_empty() || !position.is_live(pid) {
+        let encoded = position.encoded(alloc)?;
+        return Ok(learn_cells(alloc, parts, groups, &encoded)?);
+    }
+    if inside {
         return cells_inside(alloc, parts, groups, cells, pid, position);
     }
-    let encoded = position.encoded(alloc)?;
-    Ok(learn_cells(alloc, parts, groups, &encoded)?)
+    cells_beside(alloc, parts, groups, cells, pid, inside, position)
 }

@@ -1,7 +1,9 @@
 //! Machines at the end of a schedule.
-ghost use Rattle.std.specs.Prelude.{◌≡◌, ◌+◌, ◌++◌, ◌∷◌, [], true, codes, map, is_some, IsSome, IfOk, OnOk};
+ghost use Rattle.std.specs.Prelude.{◌≡◌, ◌+◌, ◌++◌, ◌∷◌, [], true, codes, map, is_some, IfOk, OnOk};
 ghost use Rattle.pv_explore.specs.FirstMachines.{GaveNumber, one_if};
-ghost use Rattle.pv_procs.specs.ProcessTable.{process_in};
+ghost use Rattle.pv_procs.specs.ProcessTable.{number_after, process_in};
+ghost use Rattle.std.specs.FinMap.Entries.{find};
+ghost use Rattle.std.specs.Ordering.{nat_cmp};
 ghost use Rattle.pv_explore.specs.Plan.{state_at, tree_key};
 ghost use Rattle.pv_explore.specs.Vertices.{step_of};
 ghost use Rattle.pv_model.specs.Answers.Graph.{leads_to_text};
@@ -12,7 +14,7 @@ ghost use Rattle.pv_model.specs.Grammar.Programs.{program_of};
 ghost use Rattle.pv_model.specs.Held.{live_processes, named_tree};
 ghost use Rattle.pv_session.specs.Running.{FailsBy, stepped};
 ghost use Rattle.pv_state_encoding.specs.Groups.{groups_of, state_groups};
-ghost use Rattle.pv_state_encoding.specs.Encoded.{encoded, encoded_all, encoded_of, live_encoded};
+ghost use Rattle.pv_state_encoding.specs.Encoded.{counts_group, encoded, encoded_all, encoded_of, numbered_encoded, plain, tree_groups};
 ghost use Rattle.pv_explore.specs.Observing.{stays_inside};
 ghost use Rattle.pv_laws_steps.specs.Commuting.{only_asks};
 ghost use Rattle.pv_model.specs.CallRef.{call_of};
@@ -32,7 +34,10 @@ use pv_model::limits::LAST_PROCESS;
 use pv_procs::{Fetched, Processes};
 use pv_script::CallTexts;
 use pv_session::{Session, Stop};
-use pv_state_encoding::{EncodedGroup, encoded_live, encoded_state, push_tree, state_groups};
+use pv_state_encoding::{
+    EncodedGroup, encoded_counts, encoded_process, encoded_state, encoded_trees, push_tree,
+    state_groups,
+};
 use pv_streams::{Failed, Sink};
 use pv_trace::LineBuffer;
 use std::alloc::Global;
@@ -298,7 +303,7 @@ impl Position {
         Ok(encoded_state(alloc, self.session.parts(), self.last)?)
     }
 
-    /// Returns the group of a live process, with its outside view.
+    /// Returns the group of a process, with its outside view if it is live.
     ///
     /// # Errors
     ///
@@ -308,10 +313,38 @@ impl Position {
         alloc: Global,
         pid: u32,
     ) -> Result<EncodedGroup, StepFault>
-        requires { IsSome (process_at self.now pid) }
-        ensures { IfOk result (λ group. encoded_of group ≡ live_encoded pid (process_at self.now pid)) }
+        ensures { IfOk result (λ group. encoded_of group ≡ numbered_encoded pid (find nat_cmp pid self.now.processes)) }
     {
-        Ok(encoded_live(alloc, self.session.parts().processes(), pid)?)
+        Ok(encoded_process(alloc, self.session.parts().processes(), pid)?)
+    }
+
+    /// Returns the group of the state's counts.
+    ///
+    /// # Errors
+    ///
+    /// `NoMemory`, if there is no memory.
+    pub(crate) fn encoded_counts(&self, alloc: Global) -> Result<EncodedGroup, StepFault>
+        ensures { IfOk result (λ group. encoded_of group ≡ plain (counts_group self.now)) }
+    {
+        Ok(encoded_counts(alloc, self.session.parts(), self.last)?)
+    }
+
+    /// Returns the groups of the state's open files and tree.
+    ///
+    /// # Errors
+    ///
+    /// `NoMemory`, if there is no memory.
+    pub(crate) fn encoded_trees(&self, alloc: Global) -> Result<Vec<EncodedGroup>, StepFault>
+        ensures { IfOk result (λ groups. encoded_all groups.items ≡ map plain (tree_groups self.now)) }
+    {
+        Ok(encoded_trees(alloc, self.session.parts())?)
+    }
+
+    /// Returns the number of the first process after `last`, live or ended, if there is one.
+    pub(crate) fn next_process(&self, last: u32) -> Option<u32>
+        ensures { result ≡ number_after last self.now.processes }
+    {
+        self.session.parts().processes().next_number(last)
     }
 
     /// Returns whether a process is live.

@@ -21,16 +21,8 @@ pub enum EncodedGroup {
     Live(u32, Vec<Vec<u8>>, Vec<Vec<u8>>),
 }
 
-/// Returns the group of a live process.
-///
-/// # Errors
-///
-/// `AllocError`, if there is no memory.
-pub fn encoded_live(
-    alloc: Global,
-    processes: &Processes,
-    pid: u32,
-) -> Result<EncodedGroup, AllocError>
+// Returns the group of a live process.
+fn encoded_live(alloc: Global, processes: &Processes, pid: u32) -> Result<EncodedGroup, AllocError>
     requires { IsSome (process_in processes.now pid) }
     ensures { IfOk result (λ group. encoded_of group ≡ live_encoded pid (process_in processes.now pid)) }
 {
@@ -39,8 +31,12 @@ pub fn encoded_live(
     Ok(EncodedGroup::Live(pid, group, outside))
 }
 
-// Returns the group of a process. It is empty if there is no such process.
-fn encoded_process(
+/// Returns the group of a process, with its outside view if it is live. It is empty if there is no such process.
+///
+/// # Errors
+///
+/// `AllocError`, if there is no memory.
+pub fn encoded_process(
     alloc: Global,
     processes: &Processes,
     pid: u32,

@@ -16,7 +16,7 @@ mod processes;
 mod states;
 mod trees;
 
-pub use encoded::{EncodedGroup, encoded_live};
+pub use encoded::{EncodedGroup, encoded_process};
 pub use numbers::push_number;
-pub use states::{encoded_state, state_groups};
+pub use states::{encoded_counts, encoded_state, encoded_trees, state_groups};
 pub use trees::push_tree;

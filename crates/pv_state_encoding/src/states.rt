@@ -1,7 +1,7 @@
 //! States.
-ghost use Rattle.std.specs.Prelude.{◌≡◌, ◌++◌, ◌∷◌, [], length, IfOk};
+ghost use Rattle.std.specs.Prelude.{◌≡◌, ◌++◌, ◌∷◌, [], length, map, IfOk};
 ghost use Rattle.pv_state_encoding.specs.Groups.{counts_part, files_part, groups_of, parts_of, state_groups, tree_part};
-ghost use Rattle.pv_state_encoding.specs.Encoded.{encoded, encoded_all};
+ghost use Rattle.pv_state_encoding.specs.Encoded.{counts_group, encoded, encoded_all, encoded_of, plain, tree_groups};
 
 use crate::encoded::{EncodedGroup, push_encoded_processes, push_plain, push_plains};
 use crate::files::part_of_files;
@@ -87,6 +87,38 @@ pub fn encoded_state(
         group_of_counts(alloc, parts.processes(), last)?,
     )?;
     push_encoded_processes(alloc, &mut encoded, parts.processes())?;
+    push_plain(&mut encoded, group_of_files(alloc, parts)?)?;
+    let mut nodes = Vec::new(alloc);
+    push_node_groups(alloc, &mut nodes, parts.tree())?;
+    push_plains(&mut encoded, nodes)?;
+    Ok(encoded)
+}
+
+/// Returns the group of a state's counts: the last process number given, which is `last`, and the number of processes.
+///
+/// # Errors
+///
+/// `AllocError`, if there is no memory.
+pub fn encoded_counts(alloc: Global, parts: &Parts, last: u32) -> Result<EncodedGroup, AllocError>
+    requires { last ≡ parts.now.last_process }
+    ensures { IfOk result (λ group. encoded_of group ≡ plain (counts_group parts.now)) }
+{
+    Ok(EncodedGroup::Plain(group_of_counts(
+        alloc,
+        parts.processes(),
+        last,
+    )?))
+}
+
+/// Returns the groups of a state's open files and tree.
+///
+/// # Errors
+///
+/// `AllocError`, if there is no memory.
+pub fn encoded_trees(alloc: Global, parts: &Parts) -> Result<Vec<EncodedGroup>, AllocError>
+    ensures { IfOk result (λ groups. encoded_all groups.items ≡ map plain (tree_groups parts.now)) }
+{
+    let mut encoded = Vec::new(alloc);
     push_plain(&mut encoded, group_of_files(alloc, parts)?)?;
     let mut nodes = Vec::new(alloc);
     push_node_groups(alloc, &mut nodes, parts.tree())?;

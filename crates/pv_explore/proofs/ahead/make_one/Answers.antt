@@ -21,12 +21,11 @@ pub returns-clause-steps : goal.returns-clause-steps
 returns-clause-steps g c =
     let parts = c.cells_after.new.parts in
     let groups = c.cells_after.new.groups in
-    let next = c.in_ok-next.next in
     let there = c.in_ok-after.ensures.cells in
     let left =
-    subst (λ (cs : List Cell). AreCellsOf c.cells_after.new.parts c.cells_after.new.groups (stepped c.args.position c.args.pid).after cs) (sym c.deref-2.ensures.value)
+    subst (λ (cs : List Cell). AreCellsOf c.cells_after.new.parts c.cells_after.new.groups (stepped c.args.position c.args.pid).after cs) (sym c.deref.ensures.value)
     (subst (λ (s : State). AreCellsOf c.cells_after.new.parts c.cells_after.new.groups s c.in_ok-after.after.items) c.in_ok-next.ensures.after there) in
-    step-visited c.args.parts.now c.args.groups.now parts groups c.cells_after.ensures.parts_grew c.cells_after.ensures.groups_grew g.O.Observer.observe c.args.position c.args.pid c.args.cells.now c.deref-2.result.now (texts_in c.in_ok-next.texts.items)
+    step-visited c.args.parts.now c.args.groups.now parts groups c.cells_after.ensures.parts_grew c.cells_after.ensures.groups_grew g.O.Observer.observe c.args.position c.args.pid c.args.cells.now c.deref.result.now (texts_in c.in_ok-next.field-0.texts.items)
     c.args.steps.now.steps.items c.keep.new.self.steps.items c.parts.ensures.whole c.requires.cells left c.in_ok-next.ensures.texts c.requires.steps c.in_ok-keep.ensures.cached
 
 pub cells_after-requires : goal.cells_after-requires

@@ -25,8 +25,8 @@ visit-requires-clause-made g c = record {
 
 pub go_ahead-requires : goal.go_ahead-requires
 go_ahead-requires g c = λ new.
-    let position = c.in_ok-position.position in
-    subst (λ (n : ℕ). HasNumber c.visit.new.self.states n c.in_ok-position.position) (sym c.len-next.ensures)
+    let position = c.in_ok-position.field-0.position in
+    subst (λ (n : ℕ). HasNumber c.visit.new.self.states n c.in_ok-position.field-0.position) (sym c.len-next.ensures)
     (number-new c.args.limit c.observe.new.self c.visit.new.self.states position c.in_ok-found.found c.in_ok-found.ensures.found new)
 
 pub returns-in_err-position-clause-written : goal.returns-in_err-position-clause-written
@@ -64,5 +64,5 @@ returns-clause-visited g c =
     let now : Visited = record old { keys = c.observe.new.self; reported = c.report.new.reported } in
     let is : now ≡ record old { reported = c.report.new.reported } = ap (λ (keys : List Bytes). record old { keys = keys; reported = c.report.new.reported }) c.observe.ensures.unchanged in
     ap (λ (keys : List Bytes). record (visited_of c.visit.new.self) { keys = keys }) c.in_ok-go_ahead.ensures
-    ∙ visited-is c.args.limit old now (visited_of c.visit.new.self) (longer (visited_of c.args.self.now).witnesses c.args.number c.args.pid) c.args.pid c.args.from texts c.report.new.reported c.in_ok-position.position
+    ∙ visited-is c.args.limit old now (visited_of c.visit.new.self) (longer (visited_of c.args.self.now).witnesses c.args.number c.args.pid) c.args.pid c.args.from texts c.report.new.reported c.in_ok-position.field-0.position
     c.in_ok-position.ensures.after (c.in_ok-report.ensures.reported ∙ ap (reported_after c.args.self.now.reported) texts_are) is c.in_ok-found.ensures.visited

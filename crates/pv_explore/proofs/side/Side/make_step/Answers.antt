@@ -2,15 +2,16 @@ use Rattle.std.proofs.Common.{◌∙◌, ap, refl, List, subst, sym}
 use Rattle.pv_explore.specs.Plan.{state_key}
 use Rattle.pv_explore.specs.Sides.{IsNumbered, SideStates}
 use Rattle.pv_explore.proofs.Sides.{numbered-by}
+use Rattle.pv_explore.specs.VisitedStates.{IsFoundIn}
 use Rattle.pv_model.specs.Bytes.{Bytes}
+use Rattle.pv_model.specs.State.{State}
 use Rattle.pv_session.specs.Running.{stepped}
-use Rattle.pv_state_encoding.specs.Encoded.{encoded, encoded_all}
 use Rattle.pv_explore.proofs.side.Side.make_step.Goals as goal
 
 pub returns-clause-number : goal.returns-clause-number
 returns-clause-number g c =
     let u = (stepped c.args.from c.args.pid).after in
-    let groups = ap encoded_all c.deref-2.ensures.value ∙ c.in_ok-groups.ensures ∙ ap encoded c.in_ok-position.ensures.after in
+    let found = subst (λ (s : State). IsFoundIn c.args.limit c.observe.new.self c.arrive.new.self (state_key s) c.in_ok-found.found) c.in_ok-position.ensures.after c.in_ok-found.ensures in
     subst (λ (keys : List Bytes). IsNumbered c.args.limit c.args.self.now.keys keys (state_key (stepped c.args.from c.args.pid).after) c.number_of-number.result) (sym c.in_ok-machine.ensures)
     (numbered-by c.args.limit c.observe.new.self c.args.self.now.keys c.arrive.new.self u u c.in_ok-found.found c.len-before.result c.number_of-number.result
-    (c.in_ok-found.ensures u groups) (c.observe.ensures.unchanged ∙ ap (λ (x : SideStates). x.keys) c.self.view_is) refl c.len-before.ensures c.number_of-number.ensures)
+    found (c.observe.ensures.unchanged ∙ ap (λ (x : SideStates). x.keys) c.self.view_is) refl c.len-before.ensures c.number_of-number.ensures)
