@@ -1,16 +1,22 @@
 -- The entries to which an index leads.
 use Rattle.std.proofs.Common.{◌≡◌, ◌≢◌, ℕ, ◌<◌, ◌≤◌, ◌++◌, Bool, false, length, take, get_or, set, refl, sym, ap, ◌∙◌, inl, inr, arith, List}
-use Rattle.std.proofs.lemmas.Bool.{cases_eq}
+use Rattle.std.proofs.lemmas.Bool.{cases_eq, cases_lt, lt-ltb, le-ltb}
 use Rattle.std.proofs.Math.ListN.{get_or-append}
 use Rattle.std.proofs.Math.Nat.{mod-le}
 use Rattle.std.proofs.lemmas.Nat.{and_le_r}
 use Rattle.std.specs.Prelude.{bit_and}
-use Rattle.std.proofs.lemmas.List.{get_or_default, get_or_past, get_or-set_same, get_or-take, length-take-le, get_or-set_other}
+use Rattle.std.proofs.lemmas.List.{get_or_default, get_or-set_same, get_or-take, length-take-le, get_or-set_other}
 use Rattle.pv_model.specs.Bytes.{Bytes}
 use Rattle.pv_dirs.specs.declared.index.Index.{Index}
 use Rattle.pv_dirs.specs.declared.index.Bucket.{Bucket}
 use Rattle.pv_dirs.specs.declared.index.Bucket.TheVariants.{Empty, Slot}
-use Rattle.pv_dirs.specs.Index.{sum_after, place_of, said, known, Leads}
+use Rattle.pv_dirs.specs.Index.{sum_after, place_of, said, recorded_count, known, Leads}
+
+-- an element in front of a list whose front is copied
+read-front : {X : Type 0} (xs ys : List X) (count k : ℕ) (d : X) → count ≤ length xs → k < count → get_or (take count xs ++ ys) k d ≡ get_or xs k d
+read-front xs ys count k d within below =
+    let inside : k < length (take count xs) = omega (arith, length-take-le count xs within) in
+    get_or-append (take count xs) ys d k inside ∙ get_or-take count xs k d below
 
 pub place_of-within : (mask d : ℕ) (name : Bytes) → place_of mask d name < 8192
 unfolding place_of
@@ -67,27 +73,41 @@ leads-same old new d name k masked is =
 
 -- ---- the directories whose names are known to ascend
 
-pub known-within : (ix : Index) (d : ℕ) (is : Bool) → d < length ix.ascending → known ix d ≡ get_or ix.ascending d is
+pub known-within : (ix : Index) (d : ℕ) (is : Bool) → d < recorded_count ix → d < length ix.ascending → known ix d ≡ get_or ix.ascending d is
 unfolding known
-known-within ix d is within = get_or_default ix.ascending d false is within
+known-within ix d is recorded within = rw (lt-ltb d (recorded_count ix) recorded) (get_or_default ix.ascending d false is within)
 
-pub known-past : (ix : Index) (d : ℕ) → length ix.ascending ≤ d → known ix d ≡ false
+pub known-past : (ix : Index) (d : ℕ) → recorded_count ix ≤ d → known ix d ≡ false
 unfolding known
-known-past ix d past = get_or_past ix.ascending d false past
+known-past ix d past = rw (le-ltb d (recorded_count ix) past) refl
 
-module _ (old new : Index) (d : ℕ) (b : Bool) (is : new.ascending ≡ set old.ascending d b) where
-  pub known-here : d < length old.ascending → known new d ≡ b
+-- an index with the same mask as another records the same of a directory if the records at its number are the same
+known-alike : (old new : Index) (d : ℕ) → new.mask ≡ old.mask → (d < recorded_count old → get_or new.ascending d false ≡ get_or old.ascending d false) → known new d ≡ known old d
+unfolding known
+known-alike old new d masked same = rw masked (elim (cases_lt d (recorded_count old)) [
+  | inl recorded ↦ rw (same recorded) refl
+  | inr past ↦ rw (le-ltb d (recorded_count old) past) refl
+])
+
+module _ (old new : Index) (d : ℕ) (b : Bool) (masked : new.mask ≡ old.mask) (is : new.ascending ≡ set old.ascending d b) where
+  pub known-here : d < recorded_count old → d < length old.ascending → known new d ≡ b
   unfolding known
-  known-here within = ap (λ (bs : List Bool). get_or bs d false) is ∙ get_or-set_same old.ascending d b false within
+  known-here recorded within = rw (masked, is, lt-ltb d (recorded_count old) recorded) (get_or-set_same old.ascending d b false within)
 
   pub known-there : (e : ℕ) → e ≢ d → known new e ≡ known old e
-  unfolding known
-  known-there e there = ap (λ (bs : List Bool). get_or bs e false) is ∙ get_or-set_other old.ascending d e b false there
+  known-there e there = known-alike old new e masked (λ recorded. ap (λ (bs : List Bool). get_or bs e false) is ∙ get_or-set_other old.ascending d e b false there)
 
 -- an index that differs only in its buckets records the same
-pub known-same : (old new : Index) (d : ℕ) → new.ascending ≡ old.ascending → known new d ≡ known old d
-unfolding known
-known-same old new d is = ap (λ (bs : List Bool). get_or bs d false) is
+pub known-same : (old new : Index) (d : ℕ) → new.mask ≡ old.mask → new.ascending ≡ old.ascending → known new d ≡ known old d
+known-same old new d masked is = known-alike old new d masked (λ recorded. ap (λ (bs : List Bool). get_or bs d false) is)
+
+-- the records in front are those of another index
+pub known-copied : (ix new : Index) (front rest : List Bool) → recorded_count ix ≤ length ix.ascending → new.mask ≡ ix.mask → new.ascending ≡ front ++ rest → front ≡ take (recorded_count ix) ix.ascending → (d : ℕ) → known new d ≡ known ix d
+known-copied ix new front rest within masked is copied d =
+    known-alike ix new d masked (λ recorded.
+    ap (λ (bs : List Bool). get_or bs d false) is
+    ∙ ap (λ (bs : List Bool). get_or (bs ++ rest) d false) copied
+    ∙ read-front ix.ascending rest (recorded_count ix) d false within recorded)
 
 -- the buckets in front are those of another index
 pub said-copied : (ix new : Index) (count : ℕ) (front rest : List Bucket) → count ≤ length ix.places → new.mask ≡ ix.mask → new.places ≡ front ++ rest → front ≡ take count ix.places → (d : ℕ) (name : Bytes) → place_of ix.mask d name < count → said new d name ≡ said ix d name

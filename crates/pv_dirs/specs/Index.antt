@@ -1,9 +1,10 @@
 -- The index of the entries of directories.
-use Rattle.std.specs.Prelude.{◌≡◌, ◌⊎◌, ℕ, ◌+◌, ◌-◌, ◌*◌, ◌%◌, ◌<◌, ◌≤◌, [], ◌∷◌, bit_and, slice_index_or, Bool, true, false, Option, None, Some}
+use Rattle.std.specs.Prelude.{◌≡◌, ◌⊎◌, ℕ, ◌+◌, ◌-◌, ◌*◌, ◌%◌, ◌<◌, ◌≤◌, ◌&&◌, min, nat_lt, [], ◌∷◌, bit_and, slice_index_or, Bool, true, false, Option, None, Some}
 use Rattle.std.specs.Cmp.Lexicographic.{slice_cmp}
 use Rattle.std.specs.Ordering.{nat_cmp}
 use Rattle.std.specs.declared.cmp.Ordering.TheVariants.{Less}
 use Rattle.pv_model.specs.declared.kind.Kind.TheVariants.{Directory}
+use Rattle.pv_model.specs.declared.limits.TheConstants.{INODES}
 use Rattle.pv_model.specs.declared.version.Version.{Version}
 use Rattle.pv_model.specs.Bytes.{Bytes}
 use Rattle.pv_inodes.specs.Files.{Contained, Files, held}
@@ -31,9 +32,13 @@ said ix d name = slice_index_or ix.places (place_of ix.mask d name) Empty
 abbrev pub Leads : Index → ℕ → Bytes → ℕ → Type 0
 Leads ix d name k = (said ix d name ≡ Slot d k) ⊎ (said ix d name ≡ Shared)
 
+-- the number of directories whose order an index can record
+abbrev pub recorded_count : Index → ℕ
+recorded_count ix = min ix.mask INODES + 1
+
 -- whether an index records that the names of directory d ascend
 unfoldable pub known : Index → ℕ → Bool
-known ix d = slice_index_or ix.ascending d false
+known ix d = nat_lt d (recorded_count ix) && slice_index_or ix.ascending d false
 
 -- the names in the first `count` slots ascend in byte order
 abbrev pub Ascend : Version → Bytes → ℕ → Type 0

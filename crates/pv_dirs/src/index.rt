@@ -1,8 +1,9 @@
 //! An index of the entries of directories by name.
 ghost use Rattle.std.specs.Prelude.{◌≡◌, ◌≢◌, ◌↔◌, ◌<◌, ◌≤◌, ℕ, true, IsTrue};
 ghost use Rattle.pv_model.specs.Bytes.{Bytes};
+ghost use Rattle.pv_model.specs.declared.limits.TheConstants.{INODES};
 ghost use Rattle.pv_dirs.specs.declared.index.TheConstants.{PLACES};
-ghost use Rattle.pv_dirs.specs.Index.{place_of, said, known, Leads};
+ghost use Rattle.pv_dirs.specs.Index.{place_of, said, recorded_count, known, Leads};
 
 use pv_model::limits::INODES;
 
@@ -52,7 +53,9 @@ fn place_of(directory: u16, name: &[u8], mask: u16) -> usize
 
 /// Returns the mask of the hashes for an image with this number of inodes. The index of a large image uses all buckets.
 /// That of a smaller one uses at least four buckets for each inode.
-fn mask_for(inodes: u16) -> u16 {
+fn mask_for(inodes: u16) -> u16
+    ensures { inodes ≤ INODES → inodes ≤ result }
+{
     let buckets = (4 * u32::from(inodes)).max(FEWEST).next_power_of_two();
     (buckets.min(PLACES as u32) - 1) as u16
 }
@@ -64,7 +67,8 @@ pub(crate) struct Index {
     // not used.
     mask: u16,
     places: [Bucket; PLACES],
-    // For each directory, whether its names are known to ascend in byte order from slot to slot.
+    // For each directory, whether its names are known to ascend in byte order from slot to slot. Only the first
+    // `mask + 1` of these are used.
     ascending: [bool; INODES + 1],
 }
 
@@ -86,22 +90,33 @@ impl Index {
         usize::from(self.mask).min(PLACES - 1) + 1
     }
 
-    /// Makes lookups in this index equal to those in another one. Buckets that are not in use do not change.
+    // Returns the number of directories whose order the index can record. Every inode of the image is among them,
+    // because the mask is not less than the number of inodes.
+    fn recorded_count(&self) -> usize
+        ensures { result ≡ recorded_count self.now }
+    {
+        usize::from(self.mask).min(INODES) + 1
+    }
+
+    /// Makes lookups in this index equal to those in another one. Buckets and records that are not in use do not
+    /// change.
     pub(crate) fn copy_from(&mut self, other: &Index)
         ensures said { (d : ℕ) (name : Bytes) → said self.new d name ≡ said other.now d name }
         ensures known { (d : ℕ) → known self.new d ≡ known other.now d }
     {
         let count = other.bucket_count();
+        let recorded = other.recorded_count();
         self.mask = other.mask;
         self.places[..count].copy_from_slice(&other.places[..count]);
-        self.ascending.copy_from_slice(&other.ascending);
+        self.ascending[..recorded].copy_from_slice(&other.ascending[..recorded]);
     }
 
     /// Removes all entries from the index.
     pub(crate) fn clear(&mut self) {
         let count = self.bucket_count();
         self.places[..count].fill(Bucket::Empty);
-        self.ascending.fill(false);
+        let recorded = self.recorded_count();
+        self.ascending[..recorded].fill(false);
     }
 
     /// Returns whether the names of a directory are known to ascend from slot to slot.
@@ -109,7 +124,7 @@ impl Index {
         ensures { result ≡ known self.now directory }
     {
         let at = directory as usize;
-        at <= INODES && self.ascending[at]
+        at < self.recorded_count() && self.ascending[at]
     }
 
     // Records whether the names of a directory ascend.
@@ -120,7 +135,7 @@ impl Index {
         ensures others { (d : ℕ) → d ≢ directory → known self.new d ≡ known self.old d }
     {
         let at = directory as usize;
-        if at <= INODES {
+        if at < self.recorded_count() {
             self.ascending[at] = ascends;
         }
     }

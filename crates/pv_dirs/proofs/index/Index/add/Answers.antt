@@ -23,7 +23,7 @@ returns-clause-others c = λ d k other leads.
     ]) leads
 
 pub returns-clause-ascends : goal.returns-clause-ascends
-returns-clause-ascends c = λ is. c.know.ensures.this (sym (known-same c.know.new.self _ c.args.directory refl) ∙ is)
+returns-clause-ascends c = λ is. c.know.ensures.this (sym (known-same c.know.new.self _ c.args.directory refl refl) ∙ is)
 
 pub returns-clause-known : goal.returns-clause-known
-returns-clause-known c = λ d other. known-same c.know.new.self _ d refl ∙ c.know.ensures.others d other
+returns-clause-known c = λ d other. known-same c.know.new.self _ d refl refl ∙ c.know.ensures.others d other

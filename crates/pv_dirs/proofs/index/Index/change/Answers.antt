@@ -48,10 +48,10 @@ known_before c d is = elim (cases_eq d c.args.directory) [
 ]
 
 pub returns-then-is_slot-clause-stays : goal.returns-then-is_slot-clause-stays
-returns-then-is_slot-clause-stays c = λ is. (still (goal.at.returns-then-is_slot-clause-stays c).After-is_slot (sym (known-same c.know.new.self _ c.args.directory refl) ∙ is)).0
+returns-then-is_slot-clause-stays c = λ is. (still (goal.at.returns-then-is_slot-clause-stays c).After-is_slot (sym (known-same c.know.new.self _ c.args.directory refl refl) ∙ is)).0
 
 pub returns-then-is_slot-clause-known : goal.returns-then-is_slot-clause-known
-returns-then-is_slot-clause-known c = λ d is. known_before (goal.at.returns-then-is_slot-clause-known c).After-is_slot d (sym (known-same c.know.new.self _ d refl) ∙ is)
+returns-then-is_slot-clause-known c = λ d is. known_before (goal.at.returns-then-is_slot-clause-known c).After-is_slot d (sym (known-same c.know.new.self _ d refl refl) ∙ is)
 
 pub returns-else-is_slot-clause-stays : goal.returns-else-is_slot-clause-stays
 returns-else-is_slot-clause-stays c = λ is. (still (goal.at.returns-else-is_slot-clause-stays c).After-is_slot is).0

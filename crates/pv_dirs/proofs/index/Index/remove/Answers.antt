@@ -11,4 +11,4 @@ returns-then-is_slot-clause-others c = λ d k other apart leads.
     let both = leads-slot c.args.self.now d other k c.args.directory c.args.slot here before in absurd (apart both.0 both.1)) leads
 
 pub returns-then-is_slot-clause-known : goal.returns-then-is_slot-clause-known
-returns-then-is_slot-clause-known c = λ d. known-same c.args.self.now _ d refl
+returns-then-is_slot-clause-known c = λ d. known-same c.args.self.now _ d refl refl
