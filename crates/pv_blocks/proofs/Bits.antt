@@ -1,10 +1,11 @@
 -- One bit of a list of 64-bit words.
-use Rattle.std.proofs.Common.{◌≡◌, ℕ, ◌*◌, ◌/◌, ◌%◌, ◌-◌, ◌^◌, ◌<◌, ◌≢◌, Bool, false, not, ◌&&◌, ◌||◌, eqb, List, length, get_or, set, replicate, refl, ap, inl, inr, arith}
+use Rattle.std.proofs.Common.{◌≡◌, ℕ, ◌*◌, ◌/◌, ◌%◌, ◌-◌, ◌^◌, ◌<◌, ◌≤◌, ◌≢◌, ◌++◌, ◌∙◌, Bool, false, not, ◌&&◌, ◌||◌, eqb, List, length, get_or, set, take, replicate, refl, ap, inl, inr, arith}
 use Rattle.std.specs.Int.{bit_at, w64}
 use Rattle.std.specs.Int.RustNames.{bit_or}
 use lib.Bits.{bit_and}
+use Rattle.std.proofs.Math.ListN.{get_or-append}
 use Rattle.std.proofs.lemmas.Bool.{cases_eq, cases_lt, eq-eqb, ne_eqb}
-use Rattle.std.proofs.lemmas.List.{get_or-set_same, get_or-set_other, get_or-replicate, get_or_past, length-replicate}
+use Rattle.std.proofs.lemmas.List.{get_or-set_same, get_or-set_other, get_or-replicate, get_or-take, get_or_past, length-replicate, length-take-le}
 use Rattle.std.proofs.lemmas.Nat.Bits.{bit_at-zero, bit_at_set_same, bit_at_set_other, bit_at_clear_same, bit_at_clear_other}
 
 abbrev pub is_set : List ℕ → ℕ → Bool
@@ -55,3 +56,13 @@ module _ (words : List ℕ) (k : ℕ) (within : k / 64 < length words) where
         let differs : j ≢ k = λ e. other (ap (λ n. n / 64) e) in
         rw (get_or-set_other words (k / 64) (j / 64) (bit_and (get_or words (k / 64) 0) (2 ^ 64 - 1 - 1 * 2 ^ (k % 64) % 2 ^ 64)) 0 other, ne_eqb j k differs) refl
   ]
+
+-- the bits of the words in front are those of another list
+pub is_set-copied : (front rest words : List ℕ) (count k : ℕ) → front ≡ take count words → count ≤ length words → k / 64 < count → is_set (front ++ rest) k ≡ is_set words k
+is_set-copied front rest words count k copied long within =
+    let inside : k / 64 < length front = rw copied (omega (arith, length-take-le count words long)) in
+    ap (λ w. eqb (bit_at w (k % 64)) 1) (
+    get_or-append front rest 0 (k / 64) inside
+    ∙ ap (λ (ws : List ℕ). get_or ws (k / 64) 0) copied
+    ∙ get_or-take count words (k / 64) 0 within
+    )

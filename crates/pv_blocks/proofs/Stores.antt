@@ -62,6 +62,15 @@ length-free_outside taken count = length-map-range_with_len (λ k. not (is_membe
 pub get_or-free_outside : (taken : BlockSet) (count k : ℕ) (d : Bool) → k < count → get_or (free_outside taken count) k d ≡ not (is_member taken k)
 get_or-free_outside taken count k d within = get_or-map-range_with_len (λ k. not (is_member taken k)) 0 count k k d within (omega arith)
 
+-- sets with the same members give the same flags
+pub free_outside-same : (old new : BlockSet) (count : ℕ) → ((k : ℕ) → k < count → is_member new k ≡ is_member old k) → free_outside new count ≡ free_outside old count
+free_outside-same old new count same =
+    let length_new = length-free_outside new count in
+    let length_old = length-free_outside old count in
+    same_lists _ _ (omega arith) (λ k d in_range.
+    let within : k < count = omega arith in
+    get_or-free_outside new count k d within ∙ ap not (same k within) ∙ sym (get_or-free_outside old count k d within))
+
 -- a set that differs at one number changes one flag
 pub free_outside-set : (old new : BlockSet) (count k : ℕ) (flag : Bool) → k < count → not (is_member new k) ≡ flag → ((j : ℕ) → j ≢ k → is_member new j ≡ is_member old j) → free_outside new count ≡ set (free_outside old count) k flag
 free_outside-set old new count k flag within here elsewhere =

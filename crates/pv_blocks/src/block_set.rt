@@ -16,11 +16,12 @@ impl BlockSet {
         BlockSet { words: [0; 1024] }
     }
 
-    /// Makes this set equal to another one.
-    pub(crate) fn copy_from(&mut self, other: &BlockSet)
-        ensures { self.new ≡ other.now }
+    /// Makes the members below `count` equal to those of another set. Copies only the words that contain them.
+    pub(crate) fn copy_from(&mut self, other: &BlockSet, count: u16)
+        ensures { (k : ℕ) → k < count → is_member self.new k ≡ is_member other.now k }
     {
-        self.words.copy_from_slice(&other.words);
+        let words = count as usize / 64 + 1;
+        self.words[..words].copy_from_slice(&other.words[..words]);
     }
 
     /// Adds a number to the set. If the set contains it already, nothing changes.

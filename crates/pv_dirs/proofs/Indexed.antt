@@ -14,12 +14,13 @@ use Rattle.pv_inodes.specs.Files.{Contained, Files, held, bytes_at, with_bytes, 
 use Rattle.pv_inodes.proofs.Edits.{with_bytes-is}
 use Rattle.pv_inodes.proofs.Numbers.{at_number-within}
 use Rattle.pv_dirs.specs.declared.index.Index.{Index}
-use Rattle.pv_dirs.specs.Index.{known, Leads, AscendTo, AreLed, IsIndexed}
+use Rattle.pv_dirs.specs.Index.{said, known, Leads, AscendTo, AreLed, IsIndexed}
 use Rattle.pv_dirs.specs.Slots.{slot_at, slot_count, slot_name, slot_entries}
 use Rattle.pv_dirs.specs.Trees.{tree_of, IsHolding}
 use Rattle.pv_dirs.proofs.Adding.{written_end}
 use Rattle.pv_dirs.proofs.Contents.{IsContent}
 use Rattle.pv_dirs.proofs.Entries.{by_name, absent_from}
+use Rattle.pv_dirs.proofs.Leading.{leads-alike}
 use Rattle.pv_dirs.proofs.Mapped.{each-with_number, each-without_number, at_number-none}
 use Rattle.pv_dirs.proofs.Removing.{shortened, shortened_is}
 use Rattle.pv_dirs.proofs.SlotBytes.{length-slot_entries, get_or-slot_entries, closed_bytes, slot_at-append_before, slot_at-append_last, slot_count-append, slot_at-closed_hole, slot_at-closed_other, slot_count-closed, slot_count-old}
@@ -33,6 +34,15 @@ IsLed ix v n c = c.sort ≡ Directory → AreLed ix v n c.bytes
 -- an index leads to the entries of a directory
 pub directory_led : (f : Files) (d : ℕ) (ix : Index) → IsIndexed f ix → is_directory_at (tree_of f) d ≡ true → AreLed ix f.version d (bytes_at f d)
 directory_led f d ix indexed is = indexed d (record { sort = Directory; bytes = bytes_at f d }) (directory_held f d is) refl
+
+-- an index with the same bucket for each name as another, and the same records, leads to the same entries
+pub indexed-alike : (f : Files) (ix new : Index) → ((d : ℕ) (name : Bytes) → said new d name ≡ said ix d name) → ((d : ℕ) → known new d ≡ known ix d) → IsIndexed f ix → IsIndexed f new
+indexed-alike f ix new same records indexed = λ n c there sort.
+    let led = indexed n c there sort in
+    record {
+      slots = λ k below. leads-alike ix new n (slot_name (slot_at f.version c.bytes k)) k (same n (slot_name (slot_at f.version c.bytes k))) (led.slots k below);
+      ordered = λ is. led.ordered (sym (records n) ∙ is);
+    }
 
 -- a name to which an index leads in no slot is not found
 pub absent_unled : (v : Version) (bytes : Bytes) (d : ℕ) (name : Bytes) (ix : Index) → AreLed ix v d bytes → ((k : ℕ) → k < slot_count v bytes → slot_name (slot_at v bytes k) ≡ name → Leads ix d name k → ⊥) → find by_name name (slot_entries v bytes) ≡ None

@@ -1,9 +1,10 @@
 -- The index of the entries of directories.
-use Rattle.std.specs.Prelude.{◌≡◌, ◌⊎◌, ℕ, ◌+◌, ◌-◌, ◌*◌, ◌%◌, ◌<◌, ◌≤◌, [], ◌∷◌, slice_index_or, Bool, true, false, Option, None, Some}
+use Rattle.std.specs.Prelude.{◌≡◌, ◌⊎◌, ℕ, ◌+◌, ◌-◌, ◌*◌, ◌%◌, ◌<◌, ◌≤◌, ◌&&◌, min, nat_lt, [], ◌∷◌, bit_and, slice_index_or, Bool, true, false, Option, None, Some}
 use Rattle.std.specs.Cmp.Lexicographic.{slice_cmp}
 use Rattle.std.specs.Ordering.{nat_cmp}
 use Rattle.std.specs.declared.cmp.Ordering.TheVariants.{Less}
 use Rattle.pv_model.specs.declared.kind.Kind.TheVariants.{Directory}
+use Rattle.pv_model.specs.declared.limits.TheConstants.{INODES}
 use Rattle.pv_model.specs.declared.version.Version.{Version}
 use Rattle.pv_model.specs.Bytes.{Bytes}
 use Rattle.pv_inodes.specs.Files.{Contained, Files, held}
@@ -19,21 +20,25 @@ unfoldable pub sum_after : ℕ → Bytes → ℕ
 sum_after sum [] = sum
 sum_after sum (byte ∷ bytes) = sum_after ((sum * FACTOR + byte) % 65536) bytes
 
--- the bucket to which a name of a directory hashes
-unfoldable pub place_of : ℕ → Bytes → ℕ
-place_of d name = sum_after d name % PLACES
+-- the bucket to which a name of a directory hashes under a mask
+unfoldable pub place_of : ℕ → ℕ → Bytes → ℕ
+place_of mask d name = bit_and (sum_after d name) mask % PLACES
 
 -- the bucket of a name
 unfoldable pub said : Index → ℕ → Bytes → Bucket
-said ix d name = slice_index_or ix.places (place_of d name) Empty
+said ix d name = slice_index_or ix.places (place_of ix.mask d name) Empty
 
 -- an index leads to the entry in slot k of directory d: the bucket of its name is this slot, or is shared
 abbrev pub Leads : Index → ℕ → Bytes → ℕ → Type 0
 Leads ix d name k = (said ix d name ≡ Slot d k) ⊎ (said ix d name ≡ Shared)
 
+-- the number of directories whose order an index can record
+abbrev pub recorded_count : Index → ℕ
+recorded_count ix = min ix.mask INODES + 1
+
 -- whether an index records that the names of directory d ascend
 unfoldable pub known : Index → ℕ → Bool
-known ix d = slice_index_or ix.ascending d false
+known ix d = nat_lt d (recorded_count ix) && slice_index_or ix.ascending d false
 
 -- the names in the first `count` slots ascend in byte order
 abbrev pub Ascend : Version → Bytes → ℕ → Type 0

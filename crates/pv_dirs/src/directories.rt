@@ -72,7 +72,7 @@ impl Directories {
         ensures inodes { IfOk result (λ directories. directories.inodes ≡ inodes) }
         ensures version { IfOk result (λ directories. directories.version ≡ version) }
     {
-        let index = Box::new(alloc, Index::empty())?;
+        let index = Box::new(alloc, Index::empty(inodes))?;
         let inodes = Inodes::empty(zeros, blocks, inodes, version);
         let block_count = inodes.free();
         Ok(Directories {

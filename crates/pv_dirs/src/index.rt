@@ -1,13 +1,17 @@
 //! An index of the entries of directories by name.
-ghost use Rattle.std.specs.Prelude.{◌≡◌, ◌≢◌, ◌↔◌, ◌<◌, ℕ, true, IsTrue};
+ghost use Rattle.std.specs.Prelude.{◌≡◌, ◌≢◌, ◌↔◌, ◌<◌, ◌≤◌, ℕ, true, IsTrue};
 ghost use Rattle.pv_model.specs.Bytes.{Bytes};
+ghost use Rattle.pv_model.specs.declared.limits.TheConstants.{INODES};
 ghost use Rattle.pv_dirs.specs.declared.index.TheConstants.{PLACES};
-ghost use Rattle.pv_dirs.specs.Index.{place_of, said, known, Leads};
+ghost use Rattle.pv_dirs.specs.Index.{place_of, said, recorded_count, known, Leads};
 
 use pv_model::limits::INODES;
 
-/// The number of buckets of an index.
+/// The greatest number of buckets of an index.
 const PLACES: usize = 8_192;
+
+/// The least number of buckets of an index.
+const FEWEST: u32 = 64;
 
 // The base of the hash: each byte of a name has this many times the weight of the next.
 const FACTOR: u16 = 11;
@@ -35,47 +39,84 @@ impl Bucket {
     }
 }
 
-/// Returns the bucket to which a name of a directory hashes.
-fn place_of(directory: u16, name: &[u8]) -> usize
-    ensures value { result ≡ place_of directory name.now }
+/// Returns the bucket to which a name of a directory hashes. Only the bits of the hash in `mask` count.
+fn place_of(directory: u16, name: &[u8], mask: u16) -> usize
+    ensures value { result ≡ place_of mask directory name.now }
     ensures within { result < PLACES }
 {
     let mut sum = directory;
     for byte in name {
         sum = sum.wrapping_mul(FACTOR).wrapping_add(u16::from(*byte));
     }
-    sum as usize % PLACES
+    (sum & mask) as usize % PLACES
+}
+
+/// Returns the mask of the hashes for an image with this number of inodes. The index of a large image uses all buckets.
+/// That of a smaller one uses at least four buckets for each inode.
+fn mask_for(inodes: u16) -> u16
+    ensures { inodes ≤ INODES → inodes ≤ result }
+{
+    let buckets = (4 * u32::from(inodes)).max(FEWEST).next_power_of_two();
+    (buckets.min(PLACES as u32) - 1) as u16
 }
 
 /// An index of the entries of all directories by name. Its size is fixed, and it allocates no memory beyond that.
 #[derive(Drop)]
 pub(crate) struct Index {
+    // The bits of a hash that select a bucket. Their number depends on the number of inodes, and the other buckets are
+    // not used.
+    mask: u16,
     places: [Bucket; PLACES],
-    // For each directory, whether its names are known to ascend in byte order from slot to slot.
+    // For each directory, whether its names are known to ascend in byte order from slot to slot. Only the first
+    // `mask + 1` of these are used.
     ascending: [bool; INODES + 1],
 }
 
 impl Index {
-    /// Creates an index without entries.
-    pub(crate) fn empty() -> Index {
+    /// Creates an index without entries for an image with this number of inodes.
+    pub(crate) fn empty(inodes: u16) -> Index {
         Index {
+            mask: mask_for(inodes),
             places: [Bucket::Empty; PLACES],
             ascending: [false; INODES + 1],
         }
     }
 
-    /// Makes this index equal to another one.
-    pub(crate) fn copy_from(&mut self, other: &Index)
-        ensures { self.new ≡ other.now }
+    // Returns the number of buckets in use.
+    fn bucket_count(&self) -> usize
+        ensures within { result ≤ PLACES }
+        ensures all { (d : ℕ) (name : Bytes) → place_of self.now.mask d name < result }
     {
-        self.places.copy_from_slice(&other.places);
-        self.ascending.copy_from_slice(&other.ascending);
+        usize::from(self.mask).min(PLACES - 1) + 1
+    }
+
+    // Returns the number of directories whose order the index can record. Every inode of the image is among them,
+    // because the mask is not less than the number of inodes.
+    fn recorded_count(&self) -> usize
+        ensures { result ≡ recorded_count self.now }
+    {
+        usize::from(self.mask).min(INODES) + 1
+    }
+
+    /// Makes lookups in this index equal to those in another one. Buckets and records that are not in use do not
+    /// change.
+    pub(crate) fn copy_from(&mut self, other: &Index)
+        ensures said { (d : ℕ) (name : Bytes) → said self.new d name ≡ said other.now d name }
+        ensures known { (d : ℕ) → known self.new d ≡ known other.now d }
+    {
+        let count = other.bucket_count();
+        let recorded = other.recorded_count();
+        self.mask = other.mask;
+        self.places[..count].copy_from_slice(&other.places[..count]);
+        self.ascending[..recorded].copy_from_slice(&other.ascending[..recorded]);
     }
 
     /// Removes all entries from the index.
     pub(crate) fn clear(&mut self) {
-        self.places.fill(Bucket::Empty);
-        self.ascending.fill(false);
+        let count = self.bucket_count();
+        self.places[..count].fill(Bucket::Empty);
+        let recorded = self.recorded_count();
+        self.ascending[..recorded].fill(false);
     }
 
     /// Returns whether the names of a directory are known to ascend from slot to slot.
@@ -83,17 +124,18 @@ impl Index {
         ensures { result ≡ known self.now directory }
     {
         let at = directory as usize;
-        at <= INODES && self.ascending[at]
+        at < self.recorded_count() && self.ascending[at]
     }
 
     // Records whether the names of a directory ascend.
     fn know(&mut self, directory: u16, ascends: bool)
+        ensures mask { self.new.mask ≡ self.old.mask }
         ensures places { self.new.places ≡ self.old.places }
         ensures this { known self.new directory ≡ true → ascends ≡ true }
         ensures others { (d : ℕ) → d ≢ directory → known self.new d ≡ known self.old d }
     {
         let at = directory as usize;
-        if at <= INODES {
+        if at < self.recorded_count() {
             self.ascending[at] = ascends;
         }
     }
@@ -102,7 +144,7 @@ impl Index {
     pub(crate) fn find(&self, directory: u16, name: &[u8]) -> Bucket
         ensures { result ≡ said self.now directory name.now }
     {
-        self.places[place_of(directory, name)]
+        self.places[place_of(directory, name, self.mask)]
     }
 
     /// Adds an entry to the index. Lookups of other entries do not change. `ascends` is whether the names of the
@@ -114,7 +156,7 @@ impl Index {
         ensures known { (d : ℕ) → d ≢ directory → known self.new d ≡ known self.old d }
     {
         self.know(directory, ascends);
-        let at = place_of(directory, name);
+        let at = place_of(directory, name, self.mask);
         self.places[at] = match self.places[at] {
             Bucket::Empty => Bucket::Slot(directory, slot),
             _ => Bucket::Shared,
@@ -126,7 +168,7 @@ impl Index {
         ensures others { (d k : ℕ) (other : Bytes) → (d ≡ directory → k ≢ slot) → Leads self.old d other k → Leads self.new d other k }
         ensures known { (d : ℕ) → known self.new d ≡ known self.old d }
     {
-        let at = place_of(directory, name);
+        let at = place_of(directory, name, self.mask);
         if self.places[at].is_slot(directory, slot) {
             self.places[at] = Bucket::Empty;
         }
@@ -142,7 +184,7 @@ impl Index {
     {
         let ascends = from == to && self.ascends(directory);
         self.know(directory, ascends);
-        let at = place_of(directory, name);
+        let at = place_of(directory, name, self.mask);
         if self.places[at].is_slot(directory, from) {
             self.places[at] = Bucket::Slot(directory, to);
         }

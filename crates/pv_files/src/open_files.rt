@@ -73,7 +73,7 @@ fn first_free_from(records: &Slab<Opened>, keys: &[usize], first: usize) -> Opti
     Some(first + following)
 }
 
-// Makes the record of a number equal to another record.
+// Makes the record of a number free if another record is free, and otherwise equal to it.
 fn copy_record(records: &mut Slab<Opened>, keys: &[usize], number: usize, opened: &Opened)
     requires are_keys { AreKeys records.old keys.now }
     requires in_range { number < OPEN_FILES }
@@ -84,7 +84,7 @@ fn copy_record(records: &mut Slab<Opened>, keys: &[usize], number: usize, opened
     records[keys[number]].copy_from(opened);
 }
 
-// Makes the record of each number equal to the one that it has in another table.
+// Makes the open file of each number equal to the one that it has in another table.
 fn copy_records(
     records: &mut Slab<Opened>,
     keys: &[usize],

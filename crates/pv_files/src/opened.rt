@@ -22,6 +22,8 @@ pub(crate) struct Opened {
 }
 
 impl Opened {
+    ghost use Rattle.pv_files.specs.Slots.{where_used};
+
     /// Creates a free record.
     pub(crate) fn free() -> Opened
         ensures { result.users ≡ 0 }
@@ -86,10 +88,14 @@ impl Opened {
         self.listed.keep(name);
     }
 
-    /// Makes this record equal to another one.
+    /// Makes this record free if another one is free, and otherwise equal to it.
     pub(crate) fn copy_from(&mut self, other: &Opened)
-        ensures { self.new ≡ other.now }
+        ensures { where_used self.new ≡ where_used other.now }
     {
+        if other.users == 0 {
+            self.users = 0;
+            return;
+        }
         self.node = other.node;
         self.mode = other.mode;
         self.append = other.append;

@@ -7,6 +7,7 @@
 --   versions), Entries, Prefix (the tree with only a root)
 -- - names of a node: Rising (lists that ascend in the order of names), NextOnes (from one name to the next), LeastNames
 --   (the least of all). Lending: runs of borrowed bytes
+-- - Copying: the stored data of a copied tree
 -- - an existing image: Gathering (the data that a pass over entries has collected so far), Encoding (names and contents
 --   are bytes)
 pub mod Entries
@@ -30,3 +31,4 @@ pub mod Rising
 pub mod NextOnes
 pub mod LeastNames
 pub mod Lending
+pub mod Copying

@@ -125,15 +125,17 @@ impl Tree {
         })
     }
 
-    /// Makes this tree equal to another one, with the same reference counts, in an image of the same sizes.
+    /// Makes this tree equal to another one, with the same reference counts, in an image of the same sizes. Copies only
+    /// the data of numbers that the image has.
     pub fn copy_from(&mut self, other: &Tree)
         requires { HaveSameSizes self.old.tree other.now.tree }
         ensures { self.new ≡ other.now }
     {
+        let count = usize::from(other.directories.inodes()) + 1;
         self.directories.copy_from(&other.directories);
-        self.parents.copy_from_slice(&other.parents);
-        self.names.copy_from_slice(&other.names);
-        self.holds.copy_from_slice(&other.holds);
+        self.parents[..count].copy_from_slice(&other.parents[..count]);
+        self.names[..count].copy_from_slice(&other.names[..count]);
+        self.holds[..count].copy_from_slice(&other.holds[..count]);
     }
 
     /// Does nothing. Its contract states the invariant of the tree.

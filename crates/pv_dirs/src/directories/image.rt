@@ -30,7 +30,7 @@ impl Directories {
     {
         let table = inodes as usize * version.layout().inode_length;
         let block_count = (bytes.len() / BLOCK - table.div_ceil(BLOCK) - 1) as u16;
-        let mut index = Box::new(alloc, Index::empty())?;
+        let mut index = Box::new(alloc, Index::empty(inodes))?;
         let inodes = Inodes::of_image(bytes, inodes, version);
         add_all(&inodes, &mut index);
         Ok(Directories {

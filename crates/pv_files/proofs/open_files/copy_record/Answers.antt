@@ -1,5 +1,6 @@
-use Rattle.std.proofs.Common.{◌<◌, ◌∙◌, length, slice_set, ap, arith}
-use Rattle.pv_files.specs.Slots.{slots_under, where_used}
+use Rattle.std.proofs.Common.{◌<◌, ◌∙◌, length, slice_set, Option, ap, arith}
+use Rattle.pv_files.specs.declared.opened.Opened.{Opened}
+use Rattle.pv_files.specs.Slots.{slots_under}
 use Rattle.pv_files.proofs.Keys.{slots_after}
 use Rattle.pv_files.proofs.open_files.copy_record.Goals as goal
 
@@ -7,4 +8,4 @@ pub returns-clause-copied : goal.returns-clause-copied
 returns-clause-copied c =
     let within : c.args.number < length c.args.keys.now = omega (arith, c.requires.in_range, c.requires.are_keys.count) in
     slots_after c.args.records.now c.args.keys.now c.requires.are_keys c.args.number within c.copy_from.new.self
-    ∙ ap (λ o. slice_set (slots_under c.args.records.now c.args.keys.now) c.args.number (where_used o)) c.copy_from.ensures
+    ∙ ap (λ (o : Option Opened). slice_set (slots_under c.args.records.now c.args.keys.now) c.args.number o) c.copy_from.ensures

@@ -1,9 +1,8 @@
 use Rattle.std.proofs.Common.{◌≡◌, ℕ, ◌∙◌, ap, arith, length, sym}
-use Rattle.std.specs.Prelude.{List}
+use Rattle.std.specs.Prelude.{List, count_by}
 use Rattle.pv_model.specs.Bytes.{Bytes}
-use Rattle.pv_blocks.specs.declared.block_set.BlockSet.{BlockSet}
 use Rattle.pv_blocks.specs.BlockStore.{BlockStore, blocks_of, free_outside, used_or_old}
-use Rattle.pv_blocks.proofs.Stores.{length-blocks_of}
+use Rattle.pv_blocks.proofs.Stores.{free_outside-same, length-blocks_of}
 use Rattle.pv_blocks.proofs.blocks.Blocks.copy_used_from.Goals as goal
 
 -- a store has as many blocks as it counts
@@ -14,13 +13,14 @@ pub invariant_of-self : goal.invariant_of-self
 invariant_of-self c =
     let mine = counted c.args.self.now.blocks c.self.inside.count c.self.inside.bytes.items (ap (λ (s : BlockStore). s.blocks) c.self.view_is) in
     let other = counted c.args.other.now.blocks c.other.inside.count c.other.inside.bytes.items (ap (λ (s : BlockStore). s.blocks) c.other.view_is) in
-    rw c.copy_from.ensures (record {
+    let same = c.copy_from.ensures in
+    record {
       whole = omega (arith, mine, other, c.requires, c.self.invariant.whole);
       first_within = c.other.invariant.first_within;
-      reserved = c.other.invariant.reserved;
-      counted = c.other.invariant.counted;
-      none_below = c.other.invariant.none_below;
-    })
+      reserved = λ k below. same k (omega (arith, c.other.invariant.first_within)) ∙ c.other.invariant.reserved k below;
+      counted = c.other.invariant.counted ∙ ap (count_by (λ is_free. is_free)) (sym (free_outside-same c.other.inside.taken c.copy_from.new.self c.other.inside.count same));
+      none_below = λ k below. same k (omega (arith, c.min-self-inside.ensures)) ∙ c.other.invariant.none_below k (omega (arith, c.min-self-inside.ensures));
+    }
 
 pub returns : goal.returns
 returns c =
@@ -32,7 +32,7 @@ returns c =
     let blocks : blocks_of b.count a.bytes.items ≡ c.args.self.now.blocks = ap (λ n. blocks_of n a.bytes.items) counts ∙ ap (λ (s : BlockStore). s.blocks) c.self.view_is in
     let front : BlockStore = record { blocks = blocks_of b.count a.bytes.items; free = free_outside c.copy_from.new.self b.count; first = b.first } in
     record {
-      free = c.copy_used.ensures.free ∙ ap (λ (taken : BlockSet). free_outside taken b.count) c.copy_from.ensures ∙ ap (λ (s : BlockStore). s.free) c.other.view_is;
+      free = c.copy_used.ensures.free ∙ free_outside-same b.taken c.copy_from.new.self b.count c.copy_from.ensures ∙ ap (λ (s : BlockStore). s.free) c.other.view_is;
       first = c.copy_used.ensures.first ∙ ap (λ (s : BlockStore). s.first) c.other.view_is;
       long = c.copy_used.ensures.long ∙ length-blocks_of b.count a.bytes.items ∙ other;
       each = λ k.

@@ -7,7 +7,7 @@ use Rattle.pv_dirs.proofs.index.Index.add.Goals.{in-Empty, in_default}
 
 pub returns-clause-this : goal.returns-clause-this
 returns-clause-this c =
-    let here = said-here c.know.new.self _ c.place_of-at.result c.match-self-at.self (omega (arith, c.place_of-at.ensures.within)) refl c.args.directory c.args.name.now (sym c.place_of-at.ensures.value) in
+    let here = said-here c.know.new.self _ c.place_of-at.result c.match-self-at.self (omega (arith, c.place_of-at.ensures.within)) refl refl c.args.directory c.args.name.now (sym c.place_of-at.ensures.value) in
     elim c.match-self-at.branch [
       | in-Empty w ↦ inl (here ∙ w.self-is)
       | in_default w ↦ inr (here ∙ w.self-is)
@@ -16,14 +16,14 @@ returns-clause-this c =
 pub returns-clause-others : goal.returns-clause-others
 returns-clause-others c = λ d k other leads.
     let set_is = ap (λ (ps : List Bucket). set ps c.place_of-at.result c.match-self-at.self) c.know.ensures.places in
-    leads-others c.args.self.now _ c.place_of-at.result c.match-self-at.self (omega (arith, c.place_of-at.ensures.within)) set_is d other k
+    leads-others c.args.self.now _ c.place_of-at.result c.match-self-at.self (omega (arith, c.place_of-at.ensures.within)) c.know.ensures.mask set_is d other k
     (λ same before. elim c.match-self-at.branch [
       | in-Empty w ↦ absurd (leads-empty c.args.self.now d other k (said-at c.args.self.now d other c.place_of-at.result Empty same (ap (λ (ps : List Bucket). get_or ps c.place_of-at.result Empty) (sym c.know.ensures.places) ∙ w.in-Empty.is)) before)
-      | in_default w ↦ inr (said-here c.args.self.now _ c.place_of-at.result c.match-self-at.self (omega (arith, c.place_of-at.ensures.within)) set_is d other same ∙ w.self-is)
+      | in_default w ↦ inr (said-here c.args.self.now _ c.place_of-at.result c.match-self-at.self (omega (arith, c.place_of-at.ensures.within)) c.know.ensures.mask set_is d other same ∙ w.self-is)
     ]) leads
 
 pub returns-clause-ascends : goal.returns-clause-ascends
-returns-clause-ascends c = λ is. c.know.ensures.this (sym (known-same c.know.new.self _ c.args.directory refl) ∙ is)
+returns-clause-ascends c = λ is. c.know.ensures.this (sym (known-same c.know.new.self _ c.args.directory refl refl) ∙ is)
 
 pub returns-clause-known : goal.returns-clause-known
-returns-clause-known c = λ d other. known-same c.know.new.self _ d refl ∙ c.know.ensures.others d other
+returns-clause-known c = λ d other. known-same c.know.new.self _ d refl refl ∙ c.know.ensures.others d other
