@@ -1,5 +1,5 @@
 //! States.
-ghost use Rattle.std.specs.Prelude.{◌≡◌, ◌++◌, ◌∷◌, [], length, map, IfOk};
+ghost use Rattle.std.specs.Prelude.{◌≡◌, ◌++◌, ◌∷◌, [], length, map, IfOk, OnOk};
 ghost use Rattle.pv_state_encoding.specs.Groups.{counts_part, files_part, groups_of, parts_of, state_groups, tree_part};
 ghost use Rattle.pv_state_encoding.specs.Encoded.{counts_group, encoded, encoded_all, encoded_of, plain, tree_groups};
 
@@ -67,6 +67,21 @@ pub fn state_groups(
     Ok(groups)
 }
 
+// Appends the groups of a state's open files and tree.
+fn push_trees(
+    alloc: Global,
+    encoded: &mut Vec<EncodedGroup>,
+    parts: &Parts,
+) -> Result<(), AllocError>
+    ensures { OnOk result (encoded_all encoded.new.items ≡ encoded_all encoded.old.items ++ map plain (tree_groups parts.now)) }
+{
+    push_plain(encoded, group_of_files(alloc, parts)?)?;
+    let mut nodes = Vec::new(alloc);
+    push_node_groups(alloc, &mut nodes, parts.tree())?;
+    push_plains(encoded, nodes)?;
+    Ok(())
+}
+
 /// Returns the encoding of a state as groups of parts, each with its owner and, for a live process, its outside view.
 /// `last` is the last process number that the state has given.
 ///
@@ -87,10 +102,7 @@ pub fn encoded_state(
         group_of_counts(alloc, parts.processes(), last)?,
     )?;
     push_encoded_processes(alloc, &mut encoded, parts.processes())?;
-    push_plain(&mut encoded, group_of_files(alloc, parts)?)?;
-    let mut nodes = Vec::new(alloc);
-    push_node_groups(alloc, &mut nodes, parts.tree())?;
-    push_plains(&mut encoded, nodes)?;
+    push_trees(alloc, &mut encoded, parts)?;
     Ok(encoded)
 }
 
@@ -118,10 +130,7 @@ pub fn encoded_counts(alloc: Global, parts: &Parts, last: u32) -> Result<Encoded
 pub fn encoded_trees(alloc: Global, parts: &Parts) -> Result<Vec<EncodedGroup>, AllocError>
     ensures { IfOk result (λ groups. encoded_all groups.items ≡ map plain (tree_groups parts.now)) }
 {
-    let mut encoded = Vec::new(alloc);
-    push_plain(&mut encoded, group_of_files(alloc, parts)?)?;
-    let mut nodes = Vec::new(alloc);
-    push_node_groups(alloc, &mut nodes, parts.tree())?;
-    push_plains(&mut encoded, nodes)?;
-    Ok(encoded)
+    let mut groups = Vec::new(alloc);
+    push_trees(alloc, &mut groups, parts)?;
+    Ok(groups)
 }
