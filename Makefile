@@ -35,7 +35,7 @@ bin/pvsim: $(SOURCES)
 demo:
 	@cat examples/motd.bundle
 	@echo '--- its trace:'
-	@cd crates/pv_cli_try && rt try < ../../examples/motd.bundle
+	@cd crates/pv_cli && rt try < ../../examples/motd.bundle
 
 # The proved program answers if bin/pvsim is newer than the code; else an unproved one is built.
 RUN ?= explain
