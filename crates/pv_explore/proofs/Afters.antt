@@ -239,8 +239,8 @@ module _ (parts groups : List Bytes) where
       let at_s = found-live s other of.process (found-at s.processes of.place other (live of.process) it.whole.processes.ascending of.at) in
       let alive_there : IsSome (process_at (stepped it.state pid).after pid) = subst (λ (t : State). IsSome (process_at t pid)) it.after_is alive in
       let order = whole-in_order s it.whole in
-      let kept = others-keep_all program_of s pid other of.process order apart at_s (goes-on s pid order alive_there) in
-      let found : find nat_cmp other after.processes ≡ Some (live of.process) = live-found after other of.process (ap (λ (t : State). process_at t other) it.after_is ∙ kept) in
+      let process_is = others-keep_all program_of s pid other of.process order apart at_s (goes-on s pid order alive_there) in
+      let found : find nat_cmp other after.processes ≡ Some (live of.process) = live-found after other of.process (ap (λ (t : State). process_at t other) it.after_is ∙ process_is) in
       let group : numbered_encoded other (find nat_cmp other after.processes) ≡ e.0 = ap (numbered_encoded other) found ∙ of.is in
       record {
         are = ap (λ (c : Cell). c ∷ []) (sym e.2) ∙ ap (λ (c : Encoded). cell_of (number_of parts groups) c ∷ []) (sym group);
