@@ -1,15 +1,14 @@
 -- Processes in the order of their numbers, from one to the next.
 use Rattle.std.proofs.Common.{◌≡◌, ℕ, ◌<◌, ◌≤◌, true, false, cond, nat_lt, List, [], ◌∷◌, filter, length, None, Some, option_map, refl, ap, sym, subst, ◌∙◌, arith}
 use Rattle.std.specs.Prelude.{find as first_where, ◌&&◌, nat_le}
-use Rattle.std.specs.Cmp.{ranks, unsigned_ties}
+use Rattle.std.specs.Cmp.{unsigned_ties}
 use Rattle.std.specs.FinMap.Entries.{find, is_sorted, below_all}
 use Rattle.std.specs.List.{list_all}
-use Rattle.std.specs.Ordering.{nat_cmp, is_lt, MatchOrdering}
-use Rattle.std.specs.declared.cmp.Ordering.{Ordering}
-use Rattle.std.specs.declared.cmp.Ordering.TheVariants.{Less, Equal, Greater}
+use Rattle.std.specs.Ordering.{nat_cmp, is_lt}
 use Rattle.std.proofs.lemmas.Bool.{and_parts, eq-eqb, ne_eqb, le-ltb, lt-ltb, ltb-true, ltb-false, leb-true}
 use Rattle.pv_model.specs.State.{ProcessRecord}
 use Rattle.pv_procs.specs.ProcessTable.{number_after}
+use Rattle.pv_procs.proofs.Forks.{less-is}
 
 abbrev pub Recorded : Type 0
 Recorded = ℕ × ProcessRecord
@@ -18,13 +17,8 @@ Recorded = ℕ × ProcessRecord
 abbrev pub records_after : ℕ → List Recorded → List Recorded
 records_after last rs = filter (λ (r : Recorded). nat_lt last r.0) rs
 
-less_of : (o : Ordering) (a b : ℕ) → MatchOrdering o (a < b) (a ≡ b) (b < a) → is_lt o ≡ true → a < b
-less_of Less a b is less = is
-less_of Equal a b is less = cc less
-less_of Greater a b is less = cc less
-
 lower : (a b : ℕ) → is_lt (nat_cmp a b) ≡ true → a < b
-lower a b is = less_of (nat_cmp a b) a b (ranks a b) is
+lower a b is = ltb-true a b (sym (less-is a b) ∙ is)
 
 preserved : (last : ℕ) (e : Recorded) (es : List Recorded) → last < e.0 → records_after last (e ∷ es) ≡ e ∷ records_after last es
 preserved last e es more = ap (λ b. cond b (e ∷ records_after last es) (records_after last es)) (lt-ltb last e.0 more)

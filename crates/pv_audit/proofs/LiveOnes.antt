@@ -1,10 +1,8 @@
 -- The live processes, in the order of their numbers.
 use Rattle.std.proofs.Common.{◌≡◌, ◌≢◌, ℕ, suc, ◌+◌, ◌<◌, ◌≤◌, Bool, true, false, cond, nat_lt, List, [], ◌∷◌, ◌++◌, map, filter, length, Option, None, Some, is_some, refl, ap, sym, subst, ◌∙◌, ◌⊎◌, ⊎_elim, inl, inr, arith, length-append}
 use Rattle.std.specs.List.{list_all}
-use Rattle.std.specs.Cmp.{ranks, unsigned_ties}
-use Rattle.std.specs.Ordering.{nat_cmp, is_lt, MatchOrdering}
-use Rattle.std.specs.declared.cmp.Ordering.{Ordering}
-use Rattle.std.specs.declared.cmp.Ordering.TheVariants.{Less, Equal, Greater}
+use Rattle.std.specs.Cmp.{unsigned_ties}
+use Rattle.std.specs.Ordering.{nat_cmp, is_lt}
 use Rattle.std.specs.FinMap.Entries.{find, is_sorted, below_all}
 use Rattle.std.proofs.lemmas.Bool.{and_parts, and_from, eq-eqb, ne_eqb, lt-ltb, ltb-true, cases_lt, false_from_ne_true}
 use Rattle.std.proofs.lemmas.List.{map-append}
@@ -12,6 +10,7 @@ use Rattle.pv_model.specs.Held.{live_processes}
 use Rattle.pv_model.specs.State.{Process, ProcessRecord, live, ended_record, State, live_process, process_at}
 use Rattle.pv_laws_states.proofs.Members.{find_number_after}
 use Rattle.pv_laws_trees.proofs.Members.{In}
+use Rattle.pv_procs.proofs.Forks.{less-is}
 use Rattle.pv_audit.specs.declared.suspects.Suspect.{Suspect}
 use Rattle.pv_audit.specs.Findings.{suspect, are_live}
 
@@ -30,13 +29,8 @@ abbrev pub at_most_one : ℕ → Option Process → List Living
 at_most_one n None = []
 at_most_one n (Some p) = (n, p) ∷ []
 
-less_of : (o : Ordering) (a b : ℕ) → MatchOrdering o (a < b) (a ≡ b) (b < a) → is_lt o ≡ true → a < b
-less_of Less a b is less = is
-less_of Equal a b is less = cc less
-less_of Greater a b is less = cc less
-
 pub number-less : (a b : ℕ) → is_lt (nat_cmp a b) ≡ true → a < b
-number-less a b is = less_of (nat_cmp a b) a b (ranks a b) is
+number-less a b is = ltb-true a b (sym (less-is a b) ∙ is)
 
 not_lower : (a b : ℕ) → b ≤ a → nat_lt a b ≡ false
 not_lower a b high = false_from_ne_true (nat_lt a b) (λ less. let low = ltb-true a b less in absurd (omega arith))

@@ -26,7 +26,7 @@ use Rattle.pv_procs.proofs.Ends.{same-entries}
 
 -- ---- what contracts see
 
-less-is : (x y : ℕ) → is_lt (nat_cmp x y) ≡ nat_lt x y
+pub less-is : (x y : ℕ) → is_lt (nat_cmp x y) ≡ nat_lt x y
 less-is x y =
     elim (nat_lt x y) as (λ b. is_lt (cond b Less (cond (x == y) Equal Greater)) ≡ b) [
       | true ↦ refl
