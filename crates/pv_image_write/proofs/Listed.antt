@@ -20,6 +20,7 @@ use Rattle.pv_model.specs.Tree.{Entries, Node, directory_node, file_node, link_n
 use Rattle.pv_laws_trees.proofs.Changes.{entries-good}
 use Rattle.pv_laws_trees.proofs.Entries.{by_name, tied_itself, find_after}
 use Rattle.pv_dirs.proofs.Strides.{name_length}
+use Rattle.pv_laws_trees.proofs.NameOrder.{less_from}
 use Rattle.pv_image_write.specs.Encoding.{slot_of}
 
 -- the name before an index
@@ -67,11 +68,6 @@ below-get q (f ∷ es) zero e below is =
     let same : f ≡ e = cc in
     ap (λ (g : Bytes × ℕ). is_lt (by_name q g.0)) (sym same) ∙ (and_parts (is_lt (by_name q f.0)) _ below).0
 below-get q (f ∷ es) (suc i) e below is = below-get q es i e (and_parts (is_lt (by_name q f.0)) _ below).1 is
-
-less_from : (o : Ordering) → is_lt o ≡ true → o ≡ Less
-less_from Less is = refl
-less_from Equal is = cc
-less_from Greater is = cc
 
 not_after : (a b : Bytes) → is_lt (by_name a b) ≡ true → is_lt (by_name b a) ≡ false
 not_after a b is = ap is_lt (nat_list_cmp_total.antisymm b a ∙ ap ordering_reverse (less_from (by_name a b) is))

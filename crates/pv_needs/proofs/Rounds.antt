@@ -16,7 +16,7 @@ use Rattle.pv_model.specs.State.{Process, ProcessRecord, Program, State, ended_r
 use Rattle.pv_model.specs.Step.{step, step_of}
 use Rattle.pv_laws_states.specs.States.{AreProcesses, is_number}
 use Rattle.pv_laws_states.proofs.Members.{find_number_after}
-use Rattle.pv_procs.proofs.Forks.{less-is}
+use Rattle.pv_procs.proofs.Forks.{number-less}
 use Rattle.pv_needs.specs.Turning.{first_between}
 
 -- ---- filters
@@ -40,16 +40,13 @@ first-append (x ∷ xs) ys = refl
 
 -- ---- ascending numbers
 
-less : (k n : ℕ) → is_lt (nat_cmp k n) ≡ true → k < n
-less k n is = ltb-true k n (sym (less-is k n) ∙ is)
-
 abbrev AllAbove : ℕ → List (ℕ × ProcessRecord) → Type 0
 AllAbove k [] = Unit {0}
 AllAbove k (r ∷ rs) = (k < r.0) × AllAbove k rs
 
 all-above : (k : ℕ) (rs : List (ℕ × ProcessRecord)) → below_all nat_cmp k rs ≡ true → AllAbove k rs
 all-above k [] is = tt
-all-above k (r ∷ rs) is = let parts = and_parts (is_lt (nat_cmp k r.0)) (below_all nat_cmp k rs) is in (less k r.0 parts.0, all-above k rs parts.1)
+all-above k (r ∷ rs) is = let parts = and_parts (is_lt (nat_cmp k r.0)) (below_all nat_cmp k rs) is in (number-less k r.0 parts.0, all-above k rs parts.1)
 
 abbrev pub after_of : ℕ → List (ℕ × ProcessRecord) → Option ℕ
 after_of k rs = option_map (λ (r : ℕ × ProcessRecord). r.0) (first_where (λ (r : ℕ × ProcessRecord). nat_lt k r.0) rs)
