@@ -1,15 +1,14 @@
 -- The table entries for absent names, one at a time.
-use Rattle.std.proofs.Common.{◌≡◌, ℕ, zero, suc, ◌+◌, ◌<◌, ◌≤◌, ◌==◌, Bool, true, false, cond, bytes_eq, List, [], ◌∷◌, ◌++◌, codes, flat_map, drop, get_or, length, Option, None, Some, option_map, refl, ap, ap₂, sym, ◌∙◌, ⊎_elim, arith, add-one}
+use Rattle.std.proofs.Common.{◌≡◌, ℕ, zero, suc, ◌+◌, ◌<◌, ◌≤◌, Bool, true, false, cond, List, [], ◌∷◌, ◌++◌, codes, flat_map, drop, get_or, length, Option, None, Some, option_map, refl, ap, ap₂, sym, ◌∙◌, ⊎_elim, arith, add-one}
 use Rattle.std.specs.List.{position_or_len}
 use Rattle.std.specs.Prelude.{option_to_list, slice_get}
 use Rattle.std.specs.Fmt.{decimal}
 use Rattle.std.specs.Option.{option_or}
-use Rattle.std.proofs.lemmas.Bool.{and_from, cases_lt, eq-eqb, lt-ltb}
+use Rattle.std.proofs.lemmas.Bool.{cases_lt, lt-ltb}
 use Rattle.std.proofs.lemmas.Grind.{flat_map-append}
 use Rattle.std.proofs.lemmas.List.{append-nil, drop_all}
 use Rattle.std.proofs.lemmas.List.Sums.{fails_before_first}
 use Rattle.std.proofs.lemmas.Option.{get_or_from_slice_get, slice_get_within}
-use Rattle.std.proofs.lemmas.Slice.Eq.{bytes_eq-Decides}
 use Rattle.pv_model.specs.declared.perms.Perms.{Perms}
 use Rattle.pv_model.specs.declared.target.Target.{Target}
 use Rattle.pv_model.specs.declared.target.Target.TheVariants.{Directory, Name}
@@ -21,6 +20,7 @@ use Rattle.pv_model.specs.Bytes.{Bytes}
 use Rattle.pv_model.specs.Calls.Restraints.{entries_of_table}
 use Rattle.pv_model.specs.Tree.{Tree}
 use Rattle.pv_model.specs.Unveil.{Table, directory_rights, entry_for, governing_entry, same_target}
+use Rattle.pv_unveil.proofs.EntryLemmas.{same_target-same}
 use Rattle.pv_answers.specs.declared.reach.reacher.Reacher.{Reacher}
 use Rattle.pv_answers.specs.Reaching.{absent_line, absent_words, is_absent_in, may_line, may_lines, permitted_by, process_of, state_of, table_of}
 use Rattle.pv_answers.proofs.Permitted.{letters-are}
@@ -34,10 +34,6 @@ drop-one (x ∷ xs) (suc k) less = drop-one xs k (omega arith)
 
 -- ---- the governing entry
 
-same-target : (target : Target) → same_target target target ≡ true
-same-target (Directory d) = eq-eqb d d refl
-same-target (Name d name) = and_from (d == d) (bytes_eq name name) (eq-eqb d d refl) ((bytes_eq-Decides name name).1 refl)
-
 -- an entry for a target in the table is found
 entry-there : (table : Table) (target : Target) (permissions : Perms) (k : ℕ) → slice_get table k ≡ Some (target, permissions) → (j : ℕ) × (entry_for table target ≡ Some j)
 entry-there table target permissions k at =
@@ -48,7 +44,7 @@ entry-there table target permissions k at =
     ⊎_elim (λ (low : first < length table). low)
     (λ high.
     let fails : test (get_or table k (target, permissions)) ≡ false = fails_before_first test table k (target, permissions) (omega (arith, high, within)) in
-    let passes : test (get_or table k (target, permissions)) ≡ true = ap test (get_or_from_slice_get table k (target, permissions) (target, permissions) at) ∙ same-target target in
+    let passes : test (get_or table k (target, permissions)) ≡ true = ap test (get_or_from_slice_get table k (target, permissions) (target, permissions) at) ∙ same_target-same target in
     cc (fails, passes))
     (cases_lt first (length table)) in
     (first, ap (λ b. cond b (Some first) None) (lt-ltb first (length table) less))

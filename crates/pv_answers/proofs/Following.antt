@@ -1,15 +1,14 @@
 -- Processes in the order of their numbers, from one to the next.
 use Rattle.std.proofs.Common.{◌≡◌, ℕ, ◌<◌, ◌≤◌, true, false, cond, nat_lt, List, [], ◌∷◌, filter, length, None, Some, option_map, refl, ap, sym, subst, ◌∙◌, arith}
 use Rattle.std.specs.Prelude.{find as first_where, ◌&&◌, nat_le}
-use Rattle.std.specs.Cmp.{ranks, unsigned_ties}
+use Rattle.std.specs.Cmp.{unsigned_ties}
 use Rattle.std.specs.FinMap.Entries.{find, is_sorted, below_all}
 use Rattle.std.specs.List.{list_all}
-use Rattle.std.specs.Ordering.{nat_cmp, is_lt, MatchOrdering}
-use Rattle.std.specs.declared.cmp.Ordering.{Ordering}
-use Rattle.std.specs.declared.cmp.Ordering.TheVariants.{Less, Equal, Greater}
+use Rattle.std.specs.Ordering.{nat_cmp, is_lt}
 use Rattle.std.proofs.lemmas.Bool.{and_parts, eq-eqb, ne_eqb, le-ltb, lt-ltb, ltb-true, ltb-false, leb-true}
 use Rattle.pv_model.specs.State.{ProcessRecord}
 use Rattle.pv_procs.specs.ProcessTable.{number_after}
+use Rattle.pv_procs.proofs.Forks.{number-less}
 
 abbrev pub Recorded : Type 0
 Recorded = ℕ × ProcessRecord
@@ -17,14 +16,6 @@ Recorded = ℕ × ProcessRecord
 -- the processes with greater numbers
 abbrev pub records_after : ℕ → List Recorded → List Recorded
 records_after last rs = filter (λ (r : Recorded). nat_lt last r.0) rs
-
-less_of : (o : Ordering) (a b : ℕ) → MatchOrdering o (a < b) (a ≡ b) (b < a) → is_lt o ≡ true → a < b
-less_of Less a b is less = is
-less_of Equal a b is less = cc less
-less_of Greater a b is less = cc less
-
-lower : (a b : ℕ) → is_lt (nat_cmp a b) ≡ true → a < b
-lower a b is = less_of (nat_cmp a b) a b (ranks a b) is
 
 preserved : (last : ℕ) (e : Recorded) (es : List Recorded) → last < e.0 → records_after last (e ∷ es) ≡ e ∷ records_after last es
 preserved last e es more = ap (λ b. cond b (e ∷ records_after last es) (records_after last es)) (lt-ltb last e.0 more)
@@ -37,7 +28,7 @@ all_above : (last x : ℕ) (es : List Recorded) → last ≤ x → below_all nat
 all_above last x [] few below = refl
 all_above last x (e ∷ es) few below =
     let parts = and_parts (is_lt (nat_cmp x e.0)) (below_all nat_cmp x es) below in
-    let more = lower x e.0 parts.0 in preserved last e es (omega arith) ∙ ap (λ (rs : List Recorded). e ∷ rs) (all_above last x es few parts.1)
+    let more = number-less x e.0 parts.0 in preserved last e es (omega arith) ∙ ap (λ (rs : List Recorded). e ∷ rs) (all_above last x es few parts.1)
 
 -- the process with the next number, and those after it
 pub record IsNextRecord (last pid : ℕ) (rs : List Recorded) : Type 0 where

@@ -3,7 +3,7 @@ use Rattle.std.proofs.Common.{◌≡◌, ℕ, ◌+◌, ◌<◌, ◌≤◌, Bool,
 use Rattle.std.specs.Prelude.{OnOk, OnErr, Result}
 use Rattle.std.proofs.Math.ListN.{get_or}
 use Rattle.std.proofs.lemmas.Grind.{flat_map-append}
-use Rattle.std.proofs.lemmas.List.{drop_all}
+use Rattle.std.proofs.lemmas.List.{drop_all, drop_more}
 use Rattle.pv_model.specs.declared.promise.Promise.{Promise}
 use Rattle.pv_model.specs.declared.promise.Promise.TheVariants.{Stdio, Rpath, Wpath, Cpath, Proc, Exec, Unveil, Error, Dpath, Fattr, Chown, Flock, Unix, Inet, Mcast, Dns, Getpw, Sendfd, Recvfd, Tape, Tty, ProtExec, Settime, Ps, Vminfo, Id, Pf, Route, Wroute, Audio, Video, Bpf}
 use Rattle.pv_model.specs.Answers.Lines.{spaced}
@@ -14,7 +14,6 @@ use Rattle.pv_model.specs.Trace.{quote_byte}
 use Rattle.pv_streams.specs.Sinks.{and_all, WritesPrefix}
 use Rattle.pv_listing.proofs.Rests.{LeavesRest, written_text}
 use Rattle.pv_answers.specs.Texts.{keyword_after, keywords_in, words_after}
-use Rattle.pv_answers.proofs.Rows.{drop-next}
 
 words-none : (first : Bool) → words_after first [] ≡ []
 words-none true = refl
@@ -25,7 +24,7 @@ module _ (set : Promises) (ps : List Promise) (k : ℕ) (d : Promise) (within : 
   here = get_or ps k d
 
   found : (held : Bool) → contains set here ≡ held → keywords_in set (drop k ps) ≡ cond held (promise_name here ∷ keywords_in set (drop (k + 1) ps)) (keywords_in set (drop (k + 1) ps))
-  found held is = ap (keywords_in set) (drop-next ps k d within) ∙ by held is
+  found held is = ap (keywords_in set) (drop_more ps k d within) ∙ by held is
     where
       by : (held : Bool) → contains set here ≡ held
           → map promise_name (cond (contains set here) (here ∷ filter (contains set) (drop (k + 1) ps)) (filter (contains set) (drop (k + 1) ps)))

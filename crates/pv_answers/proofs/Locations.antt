@@ -30,7 +30,7 @@ live-words-are (Some (live p)) owned program parent line count is of up at many 
     ap (λ n. words_by n line count) up ∙ ap (λ n. words_by p.parent n count) (at ∙ ap (λ (r : ProcessRecord). r.context.line) same)
     ∙ ap (words_by p.parent p.line) (many ∙ ap length own)
 
-one-line : (pid : ℕ) (word text : Bytes) → line_front pid word ++ text ++ 10 ∷ [] ≡ answer_line_bytes (answer_line pid word text)
+pub one-line : (pid : ℕ) (word text : Bytes) → line_front pid word ++ text ++ 10 ∷ [] ≡ answer_line_bytes (answer_line pid word text)
 unfolding text_line
 one-line pid word text = refl
 

@@ -1,22 +1,19 @@
 -- Texts of many parts, and the front of a buffer.
-use Rattle.std.proofs.Common.{◌≡◌, ◌≢◌, ℕ, ◌+◌, ◌<◌, cond, [], ◌∷◌, ◌++◌, List, length, drop, flat_map, map, ap, ◌∙◌, arith, suc}
+use Rattle.std.proofs.Common.{◌≡◌, ◌≢◌, ℕ, ◌+◌, ◌<◌, cond, [], ◌∷◌, ◌++◌, List, length, drop, flat_map, map, ap}
 use Rattle.std.proofs.Math.ListN.{get_or}
-use Rattle.std.proofs.Math.Seq.{drop-cons}
 use Rattle.std.proofs.lemmas.Bool.{ne_eqb}
+use Rattle.std.proofs.lemmas.List.{drop_more}
 use Rattle.pv_model.specs.Answers.ProcessRecord.{buffer_front, without_zero}
 use Rattle.pv_model.specs.Bytes.{Bytes}
 
-pub drop-next : {X : Type 0} (xs : List X) (k : ℕ) (d : X) → k < length xs → drop k xs ≡ get_or xs k d ∷ drop (k + 1) xs
-drop-next xs k d within = let next : suc k ≡ k + 1 = omega arith in drop-cons xs k d within ∙ ap (λ j. get_or xs k d ∷ drop j xs) next
-
 -- the part at an index, and those after it
 pub part-next : {X : Type 0} (part : X → Bytes) (xs : List X) (k : ℕ) (d : X) → k < length xs → flat_map part (drop k xs) ≡ part (get_or xs k d) ++ flat_map part (drop (k + 1) xs)
-part-next part xs k d within = ap (flat_map part) (drop-next xs k d within)
+part-next part xs k d within = ap (flat_map part) (drop_more xs k d within)
 
 -- the same for mapped elements
 pub mapped-next : {X Y : Type 0} (part : Y → Bytes) (f : X → Y) (xs : List X) (k : ℕ) (d : X) → k < length xs
     → flat_map part (map f (drop k xs)) ≡ part (f (get_or xs k d)) ++ flat_map part (map f (drop (k + 1) xs))
-mapped-next part f xs k d within = ap (λ ys. flat_map part (map f ys)) (drop-next xs k d within)
+mapped-next part f xs k d within = ap (λ ys. flat_map part (map f ys)) (drop_more xs k d within)
 
 -- ---- up to the last nonzero byte
 

@@ -30,10 +30,6 @@ drop-at xs i x within is = drop-cons xs i x within ∙ (λ j. sym is j ∷ drop 
 drop_past : {X : Type 0} (xs : List X) (i : ℕ) → length xs ≤ i → drop i xs ≡ []
 drop_past xs i past = drop_all i xs past
 
-pub empty-of : {X : Type 0} (xs : List X) → length xs ≡ 0 → xs ≡ []
-empty-of [] none = refl
-empty-of (x ∷ xs) none = cc none
-
 pub some-of : {X : Type 0} (xs : List X) → (length xs ≡ 0 → ⊥) → xs ≢ []
 some-of xs some none = some (ap length none)
 

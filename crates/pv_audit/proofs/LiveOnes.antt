@@ -1,17 +1,16 @@
 -- The live processes, in the order of their numbers.
 use Rattle.std.proofs.Common.{◌≡◌, ◌≢◌, ℕ, suc, ◌+◌, ◌<◌, ◌≤◌, Bool, true, false, cond, nat_lt, List, [], ◌∷◌, ◌++◌, map, filter, length, Option, None, Some, is_some, refl, ap, sym, subst, ◌∙◌, ◌⊎◌, ⊎_elim, inl, inr, arith, length-append}
 use Rattle.std.specs.List.{list_all}
-use Rattle.std.specs.Cmp.{ranks, unsigned_ties}
-use Rattle.std.specs.Ordering.{nat_cmp, is_lt, MatchOrdering}
-use Rattle.std.specs.declared.cmp.Ordering.{Ordering}
-use Rattle.std.specs.declared.cmp.Ordering.TheVariants.{Less, Equal, Greater}
+use Rattle.std.specs.Cmp.{unsigned_ties}
+use Rattle.std.specs.Ordering.{nat_cmp, is_lt}
 use Rattle.std.specs.FinMap.Entries.{find, is_sorted, below_all}
-use Rattle.std.proofs.lemmas.Bool.{and_parts, and_from, eq-eqb, ne_eqb, lt-ltb, ltb-true, cases_lt, false_from_ne_true}
+use Rattle.std.proofs.lemmas.Bool.{and_parts, and_from, eq-eqb, ne_eqb, lt-ltb, cases_lt, le-ltb}
 use Rattle.std.proofs.lemmas.List.{map-append}
 use Rattle.pv_model.specs.Held.{live_processes}
 use Rattle.pv_model.specs.State.{Process, ProcessRecord, live, ended_record, State, live_process, process_at}
 use Rattle.pv_laws_states.proofs.Members.{find_number_after}
 use Rattle.pv_laws_trees.proofs.Members.{In}
+use Rattle.pv_procs.proofs.Forks.{number-less}
 use Rattle.pv_audit.specs.declared.suspects.Suspect.{Suspect}
 use Rattle.pv_audit.specs.Findings.{suspect, are_live}
 
@@ -30,30 +29,19 @@ abbrev pub at_most_one : ℕ → Option Process → List Living
 at_most_one n None = []
 at_most_one n (Some p) = (n, p) ∷ []
 
-less_of : (o : Ordering) (a b : ℕ) → MatchOrdering o (a < b) (a ≡ b) (b < a) → is_lt o ≡ true → a < b
-less_of Less a b is less = is
-less_of Equal a b is less = cc less
-less_of Greater a b is less = cc less
-
-pub number-less : (a b : ℕ) → is_lt (nat_cmp a b) ≡ true → a < b
-number-less a b is = less_of (nat_cmp a b) a b (ranks a b) is
-
-not_lower : (a b : ℕ) → b ≤ a → nat_lt a b ≡ false
-not_lower a b high = false_from_ne_true (nat_lt a b) (λ less. let low = ltb-true a b less in absurd (omega arith))
-
 -- no process is below if all numbers are above
 none_below : (k n : ℕ) (rs : List Recorded) → below_all nat_cmp k rs ≡ true → n ≤ suc k → live_below n rs ≡ []
 none_below k n [] below low = refl
 none_below k n ((j, live p) ∷ rs) below low =
     let parts = and_parts (is_lt (nat_cmp k j)) (below_all nat_cmp k rs) below in
     let more = number-less k j parts.0 in
-    ap (λ b. cond b ((j, p) ∷ live_below n rs) (live_below n rs)) (not_lower j n (omega arith)) ∙ none_below k n rs parts.1 low
+    ap (λ b. cond b ((j, p) ∷ live_below n rs) (live_below n rs)) (le-ltb j n (omega arith)) ∙ none_below k n rs parts.1 low
 none_below k n ((j, ended_record parent status) ∷ rs) below low =
     none_below k n rs (and_parts (is_lt (nat_cmp k j)) (below_all nat_cmp k rs) below).1 low
 
 pub below-zero : (rs : List Recorded) → live_below 0 rs ≡ []
 below-zero [] = refl
-below-zero ((j, live p) ∷ rs) = ap (λ b. cond b ((j, p) ∷ live_below 0 rs) (live_below 0 rs)) (not_lower j 0 (omega arith)) ∙ below-zero rs
+below-zero ((j, live p) ∷ rs) = ap (λ b. cond b ((j, p) ∷ live_below 0 rs) (live_below 0 rs)) (le-ltb j 0 (omega arith)) ∙ below-zero rs
 below-zero ((j, ended_record parent status) ∷ rs) = below-zero rs
 
 find_here : (k : ℕ) (r : ProcessRecord) (rs : List Recorded) → find nat_cmp k ((k, r) ∷ rs) ≡ Some r
@@ -73,7 +61,7 @@ below-more n ((k, live p) ∷ rs) sorted =
     ⊎_elim
     (λ same.
     let here : nat_lt k (n + 1) ≡ true = lt-ltb k (n + 1) (omega (arith, same)) in
-    let not_yet : nat_lt k n ≡ false = not_lower k n (omega (arith, same)) in
+    let not_yet : nat_lt k n ≡ false = le-ltb k n (omega (arith, same)) in
     let table_access : find nat_cmp n ((k, live p) ∷ rs) ≡ Some (live p) = ap (λ j. find nat_cmp j ((k, live p) ∷ rs)) same ∙ find_here k (live p) rs in
     ap (λ b. cond b ((k, p) ∷ live_below (n + 1) rs) (live_below (n + 1) rs)) here
     ∙ ap (λ (xs : List Living). (k, p) ∷ xs) (none_below k (n + 1) rs parts.0 (omega (arith, same)))
@@ -85,7 +73,7 @@ below-more n ((k, live p) ∷ rs) sorted =
     let further = below-more n rs parts.1 in
     let past = find_past n k (live p) rs apart in
     let alike : nat_lt k (n + 1) ≡ nat_lt k n = ⊎_elim (λ (low : k < n). lt-ltb k (n + 1) (omega arith) ∙ sym (lt-ltb k n low))
-    (λ high. let higher : n + 1 ≤ k = omega (arith, high, apart) in not_lower k (n + 1) higher ∙ sym (not_lower k n high)) (cases_lt k n) in
+    (λ high. let higher : n + 1 ≤ k = omega (arith, high, apart) in le-ltb k (n + 1) higher ∙ sym (le-ltb k n high)) (cases_lt k n) in
     ap (λ b. cond b ((k, p) ∷ live_below (n + 1) rs) (live_below (n + 1) rs)) alike
     ∙ elim (nat_lt k n) as (λ b. cond b ((k, p) ∷ live_below (n + 1) rs) (live_below (n + 1) rs) ≡ cond b ((k, p) ∷ live_below n rs) (live_below n rs) ++ at_most_one n (live_process (find nat_cmp n rs))) [
       | true ↦ ap (λ (xs : List Living). (k, p) ∷ xs) further

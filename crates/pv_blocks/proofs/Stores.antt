@@ -171,7 +171,7 @@ some_free taken count k within absent =
 pub count-all_taken : (taken : BlockSet) (count : ℕ) → AllMembers taken 0 count → count_by (λ f. f) (free_outside taken count) ≡ 0
 count-all_taken taken count all = count-none (λ k. not (is_member taken k)) 0 count (λ k from below. ap not (all k from (omega arith)))
 
-ltb-other : (j k : ℕ) → j ≢ k → ltb j (k + 1) ≡ ltb j k
+pub ltb-other : (j k : ℕ) → j ≢ k → ltb j (k + 1) ≡ ltb j k
 ltb-other j k other = grind (arith, nat_tests)
 
 -- a loop over the blocks has added those in use to the set, and counted the others

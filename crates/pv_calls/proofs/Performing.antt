@@ -9,6 +9,7 @@ use Rattle.pv_calls_plain.specs.declared.answer.Refused.{Refused}
 use Rattle.pv_calls_state.specs.Attempts.{collected}
 use Rattle.pv_calls_plain.specs.Performed.{IsAnswered, IsPerformed, attempt_of, answered}
 use Rattle.pv_calls_state.proofs.Alone.{some-at}
+use Rattle.pv_calls_plain.proofs.Waits.{value_of}
 use Rattle.pv_calls.proofs.Carrying.{find-collect}
 use Rattle.pv_calls_plain.proofs.Reporting.{process_at-collect}
 use Rattle.pv_laws_states.specs.States.{IsValid, is_word}
@@ -54,21 +55,18 @@ lives-on pid (after, returns_bytes n bytes) live = tt
 lives-on pid (after, ends status) live = tt
 lives-on pid (after, waits) live = tt
 
-other-reply : (n m : ℕ) (x y : Effect) → done n x ≡ done m y → x ≡ y
-other-reply n m x y is = cc is
-
 -- if the effect of the definitions keeps the process live, so does the code
 pub performed-live : (s new : State) (pid : ℕ) (performed : Result Done Refused) (a : Attempt Effect) → collected a ≡ attempt_of new performed → OnErr performed (new ≡ s) → IsSome (process_at s pid)
     → Leads (LivesOn pid) a → IsSome (process_at new pid)
 performed-live s new pid (Ok d) (done walks (after, returns n)) is same live lives =
-    let left : collect after ≡ new = ap (λ (x : Effect). x.0) (other-reply walks d.walks (collect after, returns n) (new, returns d.value) is) in
+    let left : collect after ≡ new = ap (λ (x : Effect). x.0) (value_of walks d.walks (collect after, returns n) (new, returns d.value) is) in
     subst (λ x. IsSome (process_at x pid)) left (subst IsSome (sym (process_at-collect after pid)) lives)
 performed-live s new pid (Ok d) (done walks (after, returns_bytes n bytes)) is same live lives =
-    let reply : returns_bytes n bytes ≡ returns d.value = ap (λ (x : Effect). x.1) (other-reply walks d.walks (collect after, returns_bytes n bytes) (new, returns d.value) is) in absurd cc
+    let reply : returns_bytes n bytes ≡ returns d.value = ap (λ (x : Effect). x.1) (value_of walks d.walks (collect after, returns_bytes n bytes) (new, returns d.value) is) in absurd cc
 performed-live s new pid (Ok d) (done walks (after, ends status)) is same live lives =
-    let reply : ends status ≡ returns d.value = ap (λ (x : Effect). x.1) (other-reply walks d.walks (collect after, ends status) (new, returns d.value) is) in absurd cc
+    let reply : ends status ≡ returns d.value = ap (λ (x : Effect). x.1) (value_of walks d.walks (collect after, ends status) (new, returns d.value) is) in absurd cc
 performed-live s new pid (Ok d) (done walks (after, waits)) is same live lives =
-    let reply : waits ≡ returns d.value = ap (λ (x : Effect). x.1) (other-reply walks d.walks (collect after, waits) (new, returns d.value) is) in absurd cc
+    let reply : waits ≡ returns d.value = ap (λ (x : Effect). x.1) (value_of walks d.walks (collect after, waits) (new, returns d.value) is) in absurd cc
 performed-live s new pid (Ok d) (refused walks errno cause) is same live lives = cc
 performed-live s new pid (Err r) a is same live lives = subst (λ x. IsSome (process_at x pid)) (sym same) live
 
@@ -136,7 +134,7 @@ module _ (f : State → Process → Attempt Effect) (s new : State) (pid : ℕ) 
       performed-quiet : (s new : State) (a : Attempt Effect) (performed : Result Done Refused) → collected a ≡ attempt_of new performed → OnErr performed (new ≡ s) → Leads (Stays s pid) a
           → Alike (find_entry s.tree) (find_entry new.tree)
       performed-quiet s new (done walks (after, reply)) (Ok d) is same stays =
-          left-alike s after after new refl stays.0.0 stays.0.1 (ap (λ (x : Effect). x.0) (other-reply walks d.walks (collect after, reply) (new, returns d.value) is))
+          left-alike s after after new refl stays.0.0 stays.0.1 (ap (λ (x : Effect). x.0) (value_of walks d.walks (collect after, reply) (new, returns d.value) is))
       performed-quiet s new (refused walks errno cause) (Ok d) is same stays = cc
       performed-quiet s new a (Err r) is same stays = λ d name. ap (λ x. find_entry x.tree d name) same
 

@@ -7,7 +7,7 @@ use Rattle.std.specs.declared.cmp.Ordering.{Ordering}
 use Rattle.std.specs.declared.cmp.Ordering.TheVariants.{Less, Equal, Greater}
 use Rattle.pv_model.specs.declared.errno.Errno.TheVariants.{ECHILD}
 use Rattle.pv_model.specs.Answer.{at_next_line}
-use Rattle.pv_model.specs.Attempt.{done, give, refuse_if, ◌>>◌}
+use Rattle.pv_model.specs.Attempt.{give, refuse_if, ◌>>◌}
 use Rattle.pv_model.specs.Bytes.{is_empty}
 use Rattle.pv_model.specs.Calls.Processes.{parent_of, children, statuses, reap, wait}
 use Rattle.pv_model.specs.Effect.{Effect, waits}
@@ -15,6 +15,7 @@ use Rattle.pv_model.specs.State.{Process, ProcessRecord, live, ended_record, Sta
 use Rattle.std.proofs.lemmas.Bool.{and_parts}
 use Rattle.pv_laws_states.proofs.Members.{live-found}
 use Rattle.pv_laws_states.proofs.Running.{not_before}
+use Rattle.pv_calls_state.proofs.Reaping.{value_of}
 
 -- two lists of processes agree on whether a test selects any, and on the statuses of the ended ones that it selects
 abbrev SameChildren : (ℕ × ProcessRecord → Bool) → List (ℕ × ProcessRecord) → List (ℕ × ProcessRecord) → Type 0
@@ -60,9 +61,6 @@ module _ (parent : ℕ) where
       by Less is rest = not_before pid (live p) e rs sorted is found
       by Equal is rest = head e.1 (cc (sym (ap (λ o. cond (is_eq o) (Some e.1) (find nat_cmp pid rs)) is) ∙ found))
       by Greater is rest = links e (put nat_cmp pid (live q) rs) rs (rest (sym (ap (λ o. cond (is_eq o) (Some e.1) (find nat_cmp pid rs)) is) ∙ found))
-
-value_of : {a b : ℕ} {x y : Effect} → done a x ≡ done b y → x ≡ y
-value_of {a} {b} {x} {y} is = cc is
 
 -- a wait blocks exactly if there are children and none has ended
 abbrev waiting : Bool → List (ℕ × ℕ) → Bool

@@ -3,6 +3,7 @@ use Rattle.std.proofs.lemmas.Bool.{and_from, and_parts, le-leb}
 use Rattle.std.proofs.Common.{◌≤◌, List, ◌==◌, ◌≡◌, ◌∙◌, ℕ, Bool, true, false, not, nat_lt, [], ◌∷◌, length, Option, None, Some, is_some, refl, sym, ap, arith}
 use Rattle.pv_calls_plain.specs.Space.{space_errno}
 use Rattle.pv_calls_plain.specs.declared.answer.Refused.{Refused}
+use Rattle.pv_calls_state.proofs.Collecting.{not-there}
 use Rattle.pv_calls_path.specs.Reached.{IsMissed, IsReached}
 use Rattle.pv_calls_state.proofs.Attempts.{passed}
 use Rattle.pv_calls_plain.proofs.Room.{crowded}
@@ -31,10 +32,6 @@ use Rattle.pv_tree.specs.Rooms.{refusal}
 use Rattle.pv_laws_trees.specs.Found.{AlikeBut}
 use Rattle.pv_laws_trees.proofs.Edits.{stays-new_node, stays-with_entry, stays-without_entry}
 use Rattle.pv_laws_trees.proofs.Found.{alike-new, alike-with, alike-without}
-
-no_node : (o : Option ℕ) → is_some o ≡ false → o ≡ None
-no_node None is = refl
-no_node (Some n) is = cc
 
 pub no_entries : (o : Option Node) → is_directory o ≡ false → entries_of o ≡ []
 no_entries None plain = refl
@@ -87,7 +84,7 @@ module _ (s : State) (whole : IsValid s) (place : Place) (fine : IsFinePlace s.t
   fine_name = named-place s.tree place (d, name) fine named
 
   free_name : is_some (node_of place) ≡ false → find_entry s.tree d name ≡ None
-  free_name free = fine_name.found ∙ no_node (node_of place) free
+  free_name free = fine_name.found ∙ not-there (node_of place) free
 
   -- the names after a node is made
   pub names_made : is_some (node_of place) ≡ false → (node : Node) → is_node s.tree.version node ≡ true → entries_of (Some node) ≡ [] → (new : State)

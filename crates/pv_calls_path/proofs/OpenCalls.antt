@@ -1,7 +1,7 @@
 -- open(2) and openat(2).
-use Rattle.std.proofs.Common.{◌≡◌, ◌∙◌, ℕ, ◌<◌, Bool, true, false, not, ◌&&◌, ◌||◌, if◌then◌else◌, nat_le, [], length, Option, None, Some, is_some, refl, sym, ap, subst, arith}
+use Rattle.std.proofs.Common.{◌≡◌, ◌∙◌, ℕ, ◌<◌, Bool, true, false, not, ◌&&◌, ◌||◌, if◌then◌else◌, nat_le, [], length, None, Some, refl, sym, ap, subst, arith}
 use Rattle.std.specs.Prelude.{IsTrue}
-use Rattle.std.proofs.lemmas.Bool.{lt-leb}
+use Rattle.std.proofs.lemmas.Bool.{lt-leb, not-false}
 use Rattle.pv_calls_plain.specs.declared.answer.Refused.{Refused}
 use Rattle.pv_calls_plain.specs.Space.{space_errno}
 use Rattle.pv_calls_state.specs.Changes.{with_node_opened, with_file_made}
@@ -42,10 +42,6 @@ use Rattle.pv_laws_trees.specs.Found.{Alike, AlikeBut}
 use Rattle.pv_laws_trees.proofs.Edits.{stays-content, stays-new_node}
 use Rattle.pv_laws_trees.proofs.Found.{alike-new, alike-content}
 
-made : (b : Bool) → not b ≡ false → b ≡ true
-made true is = refl
-made false is = cc
-
 never : (b : Bool) → (b && false) ≡ false
 never true = refl
 never false = refl
@@ -74,7 +70,7 @@ pub create_crowded : (s : State) (pid : ℕ) (me : Process) (f : OpenFlags) → 
     → (d : ℕ) (name : Bytes) → name_of place ≡ Some (d, name) → (why : Space) → refusal (collect (with_file_made s pid me f d name)).tree ≡ Some why
     → after_walks 1 (open_place s pid me f place) ≡ refused 1 (space_errno why) Plain
 create_crowded s pid me f fine unless place absent d name named why is =
-    let makes : f.create ≡ true = made f.create unless in
+    let makes : f.create ≡ true = not-false f.create unless in
     let plain : f.directory ≡ false = no_directory (f.truncate && not (writes f.mode)) (f.exclusive && not f.create) f.create f.directory fine makes in
     rw (absent, named, makes, plain, never f.exclusive, crowded (with_file_made s pid me f d name) why is) refl
 
@@ -119,10 +115,6 @@ pub alike_opened : (s : State) → IsValid s → (pid : ℕ) (me : Process) (f :
 alike_opened s whole pid me f n new is d q =
     let cut = cut_found s.tree whole.tree.well_formed n f.truncate in
     alike_collect (with_node_opened s pid me f n) new is cut.0 d q ∙ cut.1 d q
-
-no_number : (o : Option ℕ) → is_some o ≡ false → o ≡ None
-no_number None is = refl
-no_number (Some n) is = cc
 
 -- opening a new file changes one name
 pub names_opened : (s : State) (whole : IsValid s) (place : Place) (fine : IsFinePlace s.tree place) (d : ℕ) (name : Bytes) → name_of place ≡ Some (d, name) → node_of place ≡ None

@@ -1,12 +1,11 @@
 -- A walk with its unveil check, as the code makes it.
-use Rattle.std.proofs.Common.{◌≡◌, ◌∙◌, ℕ, true, if◌then◌else◌, nat_le, nat_lt, [], ◌∷◌, length, Option, Some, Ok, Err, option_map, refl, sym, ap, arith, subst}
-use Rattle.std.proofs.lemmas.Bool.Decides.{nat_tests}
+use Rattle.std.proofs.Common.{◌≡◌, ◌∙◌, ℕ, true, if◌then◌else◌, Option, Some, Ok, Err, option_map, refl, sym, ap, subst}
 use Rattle.pv_calls_path.specs.Reached.{IsFound, IsMissed, IsMissedByBoth, IsReached, IsStopped}
 use Rattle.pv_calls_plain.specs.declared.answer.Refused.{Refused}
 use Rattle.pv_laws_states.specs.States.{IsValid, is_text, IsFinePlace}
+use Rattle.pv_laws_states.proofs.Going.{begins-found}
 use Rattle.pv_laws_states.proofs.Present.{resolve-fine}
 use Rattle.pv_model.specs.declared.errno.Errno.{Errno}
-use Rattle.pv_model.specs.declared.errno.Errno.TheVariants.{ENAMETOOLONG}
 use Rattle.pv_model.specs.declared.follow.Follow.{Follow}
 use Rattle.pv_model.specs.declared.judgement.Judgement.{Judgement}
 use Rattle.pv_model.specs.declared.outcome.Cause.{Cause}
@@ -20,21 +19,12 @@ use Rattle.pv_model.specs.Effect.{Effect, walk_from, judge_for, judgement_or_ref
 use Rattle.pv_model.specs.State.{Process, State, process_at}
 use Rattle.pv_model.specs.Tree.{Tree, is_directory_at}
 use Rattle.pv_model.specs.Unveil.{judgement}
-use Rattle.pv_model.specs.Walk.{Walked, resolve, begins_walk}
+use Rattle.pv_model.specs.Walk.{resolve, begins_walk}
 use Rattle.pv_model.specs.Walks.{Walk}
 use Rattle.pv_procs.specs.declared.record.ProcessRecord.{ProcessRecord}
 use Rattle.pv_procs.specs.Parts.{record_of}
 use Rattle.pv_calls_state.proofs.Attempts.{after_none}
 use Rattle.pv_unveil.specs.Up.{directory_of}
-
-short : (n : ℕ) (rest : Walked) (place : Place) → (if nat_lt 1023 n then Err ENAMETOOLONG else rest) ≡ Ok place → nat_le n 1023 ≡ true
-short n rest place = grind (arith, nat_tests)
-
--- a walk that ends at a place was begun
-pub begun : (t : Tree) (follow : Follow) (start : ℕ) (path : Bytes) (place : Place) → resolve t follow start path ≡ Ok place → begins_walk path ≡ true
-unfolding resolve
-begun t follow start [] place found = cc
-begun t follow start (b ∷ bs) place found = short (length (b ∷ bs)) _ place found
 
 -- the record of a live process
 pub recorded : (o : Option Process) (me : Process) (r : ProcessRecord) → o ≡ Some me → option_map record_of o ≡ Some r → record_of me ≡ r
@@ -53,7 +43,7 @@ fine_directory t (At d name n) is = is.0
 
 module _ (s : State) (start : ℕ) (follow : Follow) (path : Bytes) where
   pub walk_found : (place : Place) → resolve s.tree follow start path ≡ Ok place → walk_from s start follow path ≡ done 1 place
-  walk_found place found = rw (begun s.tree follow start path place found, found) refl
+  walk_found place found = rw (begins-found s.tree follow start path place found, found) refl
 
   -- an error of the walk
   pub walk_refused : (walks : ℕ) (e : Errno) → walks ≡ (if begins_walk path then 1 else 0) → resolve s.tree follow start path ≡ Err e

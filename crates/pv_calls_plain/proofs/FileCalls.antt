@@ -3,6 +3,7 @@ use Rattle.std.proofs.Common.{◌≡◌, ℕ, zero, suc, ◌<◌, ◌+◌, ℤ, 
 use Rattle.std.specs.Prelude.{IsSome, option_map}
 use Rattle.pv_calls_plain.specs.Space.{space_errno, write_some}
 use Rattle.pv_calls_state.specs.Attempts.{collected}
+use Rattle.pv_calls_state.proofs.Alone.{some-at}
 use Rattle.pv_calls_state.proofs.Attempts.{after_none, given, passed, refused_before, refused_first}
 use Rattle.pv_calls_plain.proofs.Room.{roomy, crowded}
 use Rattle.pv_inodes.specs.declared.space.Space.{Space}
@@ -33,10 +34,6 @@ part-is g o x y is at = let mine : option_map g o ≡ Some (g x) = ap (option_ma
 pub file-part : {Y : Type 0} (g : OpenFile → Y) (fs files : Numbered OpenFile) (k : ℕ) (f : OpenFile) (y : Y) → fs ≡ files → option_map g (at_number fs k) ≡ Some y → at_number files k ≡ Some f → y ≡ g f
 file-part g fs files k f y same is at = part-is g (at_number fs k) f y is (ap (λ xs. at_number xs k) same ∙ at)
 
-some-of : {X : Type 0} (o : Option X) → is_some o ≡ true → (x : X) × (o ≡ Some x)
-some-of None is = cc
-some-of (Some x) is = (x, refl)
-
 there : (o : Option Node) → (is_file o || is_directory o) ≡ true → is_some o ≡ true
 there None is = cc
 there (Some node) is = refl
@@ -58,7 +55,7 @@ module _ (s : State) (whole : IsValid s) (k : ℕ) where
   pub node-used : (t : Tree) (fs : Numbered OpenFile) (n : ℕ) → t ≡ s.tree → fs ≡ s.files → IsSome (at_number s.files k) → option_map (λ (f : OpenFile). f.node) (at_number fs k) ≡ Some n
       → IsSome (node_at t n)
   node-used t fs n tree files opened is =
-      let file = some-of (at_number s.files k) opened in
+      let file = some-at (at_number s.files k) opened in
       let f = file.0 in
       let at = file.1 in
       ap₂ (λ u m. is_some (node_at u m)) tree (file-part (λ (f : OpenFile). f.node) fs s.files k f n files is at) ∙ there (node_at s.tree f.node) (whole.files.each k f at).node

@@ -22,7 +22,7 @@ use Rattle.pv_laws_states.proofs.Members.{live-found, found-live}
 use Rattle.pv_laws_states.proofs.Replies.{IsEffect}
 use Rattle.pv_calls_plain.proofs.Reporting.{process_at-collect}
 
-value_of : (a b : ℕ) (x y : Effect) → done a x ≡ done b y → x ≡ y
+pub value_of : (a b : ℕ) (x y : Effect) → done a x ≡ done b y → x ≡ y
 value_of a b x y is = cc is
 
 -- a value that comes with bytes fits a register

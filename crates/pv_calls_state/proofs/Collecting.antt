@@ -63,13 +63,13 @@ collected-counted t holds ns counts =
 
 -- ---- open files
 
-is_none : {X : Type 0} (o : Option X) → is_some o ≡ false → o ≡ None
-is_none None is = refl
-is_none (Some x) is = cc
+pub not-there : {X : Type 0} (o : Option X) → is_some o ≡ false → o ≡ None
+not-there None is = refl
+not-there (Some x) is = cc
 
 preserved-file : (o p : Option OpenFile) (n : ℕ) → (IsSome p ↔ (0 < n)) → (0 < n → p ≡ o) → keep_if (is_positive n) o ≡ p
 preserved-file o p zero used same =
-    ⊎_elim (λ is. let more = used.0 is in absurd (omega arith)) (λ none. sym (is_none p none)) (cases_Bool (is_some p))
+    ⊎_elim (λ is. let more = used.0 is in absurd (omega arith)) (λ none. sym (not-there p none)) (cases_Bool (is_some p))
 preserved-file o p (suc n) used same = sym (same (omega arith))
 
 -- the open files with a positive count are those that are used

@@ -1,7 +1,7 @@
 -- The counts before the first step.
 use Rattle.std.proofs.Common.{◌≡◌, ◌≢◌, ℕ, zero, suc, cond, ◌==◌, [], ◌∷◌, replicate, None, refl, ap, sym, ◌∙◌, arith, ⊎_elim}
-use Rattle.std.specs.Prelude.{slice_index}
 use Rattle.std.proofs.lemmas.Bool.{cases_eq, eq-eqb, ne_eqb}
+use Rattle.pv_tree.proofs.Prefix.{zeros-at}
 use Rattle.pv_calls_state.specs.Counts.{times, open_nodes, IsCountedUp}
 use Rattle.pv_files.specs.Counted.{no_files}
 use Rattle.pv_model.specs.State.{Program}
@@ -9,11 +9,6 @@ use Rattle.pv_model.specs.Tree.{root}
 use Rattle.pv_procs.specs.ProcessTable.{first_processes}
 use Rattle.pv_tree.specs.Holding.{HeldTree, holds_at}
 use Rattle.pv_calls_state.proofs.Collecting.{times-cons}
-
-none-at : (n k : ℕ) → slice_index (replicate n 0) k ≡ 0
-none-at zero k = refl
-none-at (suc n) zero = refl
-none-at (suc n) (suc k) = none-at n k
 
 none-open : (n : ℕ) → open_nodes (replicate n None) ≡ []
 none-open zero = refl
@@ -25,7 +20,7 @@ once n = times-cons n root [] ∙ omega arith
 -- the first process references the root once, and there is no other user or reference
 pub first-counted : (h : HeldTree) (program : Program) → holds_at h root ≡ 1 → ((n : ℕ) → n ≢ root → holds_at h n ≡ 0) → IsCountedUp h no_files (first_processes program)
 first-counted h program one others = record {
-  users = λ k. none-at 128 k;
+  users = λ k. zeros-at 128 k;
   holds = λ n.
       ⊎_elim
       (λ same. ap (holds_at h) same ∙ one ∙ sym (ap (λ b. cond b 1 0) (eq-eqb root n (sym same))))

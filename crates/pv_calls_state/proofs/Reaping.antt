@@ -38,7 +38,7 @@ module _ (g : Process → List ℕ) where
       by false other (live p) is rest = ap (λ ns. g p ++ ns) rest
       by false other (ended_record parent status) is rest = rest
 
-value_of : {a b : ℕ} {x y : Effect} → done a x ≡ done b y → x ≡ y
+pub value_of : {a b : ℕ} {x y : Effect} → done a x ≡ done b y → x ≡ y
 value_of {a} {b} {x} {y} is = cc is
 
 module _ (s after : State) (pid : ℕ) (me : Process) (sorted : is_sorted nat_cmp s.processes ≡ true) where

@@ -9,16 +9,13 @@ use Rattle.pv_model.specs.Bytes.{Bytes}
 use Rattle.pv_model.specs.Effect.{overwrite, resize, size_of}
 use Rattle.pv_model.specs.Tree.{Node, node_at, is_directory, is_directory_at, with_node}
 use Rattle.pv_inodes.specs.Files.{Contained, Files, held, IsUsed, bytes_at, bytes_of, sort_at, LacksRoom, with_bytes, written, cut, with_new}
+use Rattle.pv_inodes.proofs.Edits.{some_is}
 use Rattle.pv_dirs.specs.Slots.{slot_count, slot_entries, in_order, IsDistinct, IsSlotted}
 use Rattle.pv_dirs.specs.Trees.{node_from, node_of, tree_of, IsHolding, sort_of, new_node, bytes_at as bytes_in, bytes_of as bytes_of_node, with_bytes as node_with_bytes, with_bytes_at, written as tree_written, cut as tree_cut, LacksRoom as TreeLacksRoom, replaced}
 use Rattle.pv_dirs.proofs.Entries.{length-in_order}
 use Rattle.pv_dirs.proofs.Strides.{no_entries, none_counted, none_left}
 use Rattle.pv_dirs.proofs.SlotBytes.{length-slot_entries}
 use Rattle.pv_dirs.proofs.TreeOf.{node_at-tree_of, used_in, blocks-tree_of, total_need-tree_of, tree_of-with_bytes, tree_of-with_number, holding-with_bytes, holding-with_number}
-
-pub held_by : {X : Type 0} (o : Option X) → is_some o ≡ true → (x : X) × (o ≡ Some x)
-held_by None used = cc
-held_by (Some x) used = (x, refl)
 
 -- ---- kinds and sizes
 
@@ -118,7 +115,7 @@ pub record IsContent (f : Files) (n : ℕ) (c : Contained) : Type 0 where
 
 pub content : (f : Files) (n : ℕ) → IsSome (node_at (tree_of f) n) → is_directory_at (tree_of f) n ≡ false → (c : Contained) × IsContent f n c
 content f n used other =
-    let some = held_by (held f n) (used_in f n used) in
+    let some = some_is (held f n) (used_in f n used) in
     let no : is_directory (Some (node_of f.version some.0)) ≡ false = ap is_directory (sym (node_at-tree_of f n ∙ ap (option_map (node_of f.version)) some.1)) ∙ other in
     (some.0, record { there = some.1; other = sort_other f.version some.0.sort some.0.bytes no })
 

@@ -1,6 +1,7 @@
 -- The next name of sorted entries after the last one.
 use Rattle.std.proofs.Common.{◌≡◌, ◌≢◌, ℕ, ◌+◌, ◌<◌, ◌++◌, length, take, get_or, Bool, true, false, cond, ◌&&◌, [], ◌∷◌, Option, None, Some, is_some, T, refl, ap, sym, subst, ◌∙◌}
 use Rattle.std.proofs.lemmas.List.{take_more}
+use Rattle.std.proofs.lemmas.Bool.{and_parts}
 use Rattle.std.specs.Ordering.{is_lt, is_some_and, nat_cmp, ordering_reverse}
 use Rattle.std.specs.Cmp.Lexicographic.{slice_cmp, slice_partial_cmp, lists_agrees}
 use Rattle.std.specs.FinMap.Entries.{find, put, is_sorted, below_all, by_order}
@@ -76,15 +77,11 @@ from_T : (b : Bool) → T b → b ≡ true
 from_T true h = refl
 from_T false h = absurd h
 
-both_parts : (a b : Bool) → (a && b) ≡ true → (a ≡ true) × (b ≡ true)
-both_parts true b is = (refl, is)
-both_parts false b is = cc
-
 -- a name that is listed after one below all entries is not less
 listed_above : (x other : Bytes) (es : Entries) → below_all by_name x es ≡ true → IsListed es other → by_name x other ≡ Less
 listed_above x other [] below listed = cc
 listed_above x other (e ∷ es) below listed =
-    let parts = both_parts _ _ below in
+    let parts = and_parts _ _ below in
     elim (tied other e.0) as (λ b. tied other e.0 ≡ b → is_some (cond b (Some e.1) (find by_name other es)) ≡ true → by_name x other ≡ Less) [
       | true ↦ λ is there. ap (by_name x) (tied-same other e.0 is) ∙ less_from _ parts.0
       | false ↦ λ is there. listed_above x other es parts.1 there
@@ -131,7 +128,7 @@ next_later last e es (Some name) not_after least = record {
 pub next_name_is : (last : Option Bytes) (es : Entries) → is_sorted by_name es ≡ true → IsNextName last es (next_name last es)
 next_name_is last [] sorted = λ other listed is. cc
 next_name_is last (e ∷ es) sorted =
-    let parts = both_parts _ _ sorted in
+    let parts = and_parts _ _ sorted in
     elim (is_past last e.0) as (λ b. is_past last e.0 ≡ b → IsNextName last (e ∷ es) (cond b (Some e.0) (next_name last es))) [
       | true ↦ λ is. least_first last e es parts.0 is
       | false ↦ λ is. next_later last e es (next_name last es) is (next_name_is last es parts.1)

@@ -13,7 +13,7 @@ use Rattle.pv_explain.specs.declared.making.MadeCall.{MadeCall}
 use Rattle.pv_explain.specs.Made.{first_part_lines, promise_lines, table_lines, moved_lines, last_lines, call_made_lines}
 use Rattle.pv_explain.specs.Parts.{promise_part, moved_part}
 
-trace-bytes : (ls : List Line) → trace_bytes ls ≡ answer_bytes (map of_trace ls)
+pub trace-bytes : (ls : List Line) → trace_bytes ls ≡ answer_bytes (map of_trace ls)
 trace-bytes [] = refl
 trace-bytes (l ∷ ls) = ap (λ (bs : Bytes). line_bytes l ++ bs) (trace-bytes ls)
 

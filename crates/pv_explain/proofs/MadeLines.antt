@@ -2,6 +2,8 @@
 use Rattle.std.proofs.Common.{◌≡◌, ◌≤◌, ◌∙◌, ℕ, List, [], ◌∷◌, ◌++◌, map, take, Option, None, Some, option_map, refl, ap, ap₂, sym, subst, arith}
 use Rattle.std.specs.Prelude.{flat_map, codes}
 use Rattle.std.proofs.lemmas.Grind.{flat_map-append}
+use Rattle.std.proofs.lemmas.List.Folds.{flat_map-map}
+use Rattle.std.proofs.lemmas.Simd.{map-map}
 use Rattle.pv_model.specs.declared.call.Call.{Call}
 use Rattle.pv_model.specs.declared.call.Call.TheVariants.{Pledge, Unveil, Wait, Stat, Lstat, Fstat, Read, Write}
 use Rattle.pv_model.specs.declared.errno.Errno.{Errno}
@@ -44,17 +46,9 @@ use Rattle.pv_explain.specs.Before.{place_of, pledged_of}
 use Rattle.pv_explain.specs.Made.{table_lines_of, table_lines, call_made_lines, made_lines, IsMadeCall, IsMade}
 use Rattle.pv_explain.specs.Parts.{why, increase_reason, promise_part, source_of, found_by, directory_words_by, level_words_of, level_text_by, judgement_lines, table_reasons, table_part, file_number, node_text, file_at, moved_by_call, moved_part}
 
-map-map : {X Y Z : Type 0} (f : X → Y) (g : Y → Z) (xs : List X) → map g (map f xs) ≡ map (λ x. g (f x)) xs
-map-map f g [] = refl
-map-map f g (x ∷ xs) = ap (λ ys. g (f x) ∷ ys) (map-map f g xs)
-
 map-same : {X Y : Type 0} (f g : X → Y) → ((x : X) → f x ≡ g x) → (xs : List X) → map f xs ≡ map g xs
 map-same f g same [] = refl
 map-same f g same (x ∷ xs) = ap₂ (λ y ys. y ∷ ys) (same x) (map-same f g same xs)
-
-flat-map : {X Y Z : Type 0} (f : Y → List Z) (g : X → Y) (xs : List X) → flat_map f (map g xs) ≡ flat_map (λ x. f (g x)) xs
-flat-map f g [] = refl
-flat-map f g (x ∷ xs) = ap (λ ys. f (g x) ++ ys) (flat-map f g xs)
 
 -- ---- the lines of a table
 
@@ -80,7 +74,7 @@ module _ (s : State) (p : Process) (mine : List Setting) where
   judgement-same : (pid : ℕ) (asked : Perms) (o : Option Place) → map (answer_line pid (codes "WHY")) (judgement_texts s p (source_of mine) asked o) ≡ judgement_lines s.tree table mine pid asked o
   judgement-same pid asked None = refl
   judgement-same pid asked (Some place) =
-      map-map (level_text s p (source_of mine) asked) (answer_line pid (codes "WHY")) (levels s.tree table place)
+      map-map (answer_line pid (codes "WHY")) (level_text s p (source_of mine) asked) (levels s.tree table place)
       ∙ map-same (λ l. answer_line pid (codes "WHY") (level_text s p (source_of mine) asked l)) (λ l. why pid (level_text_by s.tree table mine asked l))
       (λ l. ap (answer_line pid (codes "WHY")) (level-same asked l)) (levels s.tree table place)
 
@@ -235,7 +229,7 @@ module _ (s : State) (pid : ℕ) (mine : List Setting) (m : MadeCall) (after : S
 
   table-same : flat_map says (unveil_lines_of pid c m.answer.walks m.answer.outcome) ≡ table_lines pid mine m after
   table-same =
-      flat-map says (line pid) (unveil_words c m.answer.walks m.answer.outcome)
+      flat_map-map says (line pid) (unveil_words c m.answer.walks m.answer.outcome)
       ∙ reasons-same s me mine pid m.answer.walks after c m.answer.outcome
       ∙ ap (λ (o : Option Place). flat_map (table_part s.tree (entries_of_table me.table) mine pid c o) (unveil_words c m.answer.walks m.answer.outcome)) (sym place-same)
       ∙ sym (left-same m.answer.outcome refl)

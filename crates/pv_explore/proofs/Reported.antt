@@ -7,6 +7,7 @@ use Rattle.std.proofs.lemmas.Bool.Decides.{nat_tests}
 use Rattle.std.proofs.lemmas.Grind.{flat_map-append}
 use Rattle.std.proofs.lemmas.List.{map-append}
 use Rattle.std.proofs.lemmas.List.Folds.{list_any-append}
+use Rattle.pv_explain.proofs.CallLines.{trace-bytes}
 use Rattle.pv_explore.specs.Observing.{is_shown, observation_bytes, observed_bytes, trace_text, IsSearched}
 use Rattle.pv_explore.specs.Plan.{Visited, added_to, move_bytes, new_bytes, reported_after, result_lines}
 use Rattle.pv_explore.proofs.Planned.{Finds, items, tree_key-many, written}
@@ -117,10 +118,6 @@ line-shown pid word text rest =
 
 -- ---- the bytes of `explore`
 
-trace-lines : (ls : List Line) → trace_bytes ls ≡ answer_bytes (map of_trace ls)
-trace-lines [] = refl
-trace-lines (l ∷ ls) = ap (λ bs. answer_line_bytes (of_trace l) ++ bs) (trace-lines ls)
-
 trace_shown : (ls : List Line) → is_shown (trace_bytes ls) ≡ not (is_empty (trace_bytes ls))
 trace_shown [] = refl
 trace_shown (l ∷ ls) =
@@ -159,7 +156,7 @@ explored had seen have [] = refl
 explored had seen have (m ∷ ms) = by (λ h k all. explored h k all ms) (move_text m) refl (trace_shown m.stepped.lines)
   where
     lines : answer_bytes (move_lines m) ≡ move_bytes m.pid m.witness (move_text m)
-    lines = ap (λ bs. text_line m.pid (codes "BY") (witness_text m.witness) ++ bs) (sym (trace-lines m.stepped.lines))
+    lines = ap (λ bs. text_line m.pid (codes "BY") (witness_text m.witness) ++ bs) (sym (trace-bytes m.stepped.lines))
 
     by : AreExplored ms → (t : Bytes) → t ≡ move_text m → is_shown (move_text m) ≡ not (is_empty (move_text m))
         → new_bytes had m.pid m.witness (move_text m) ++ written (added_to had (move_text m)) (map text_observed ms)

@@ -16,7 +16,7 @@ use Rattle.pv_state_encoding.proofs.Adding.{packed-append, packed-is, packed-sma
 use Rattle.pv_state_encoding.proofs.Apart.{packed-apart}
 use Rattle.pv_state_encoding.proofs.Grouping.{state-joined}
 use Rattle.pv_explore.specs.Rows.{unpacked_from, unpacked, number_in, IsAmong, Grew, group_row, group_bytes, state_row, state_bytes, AreVisited, IsRow}
-use Rattle.pv_explore.proofs.Planned.{same-tests}
+use Rattle.pv_laws_steps.proofs.HeldApart.{same-truth}
 
 -- ---- numbers from bytes
 
@@ -195,7 +195,7 @@ module _ (parts groups : List Bytes) where
   row-test row is s =
       let t = is.state in
       let bytes : state_bytes parts groups row ≡ joined (state_groups t) = ap (state_bytes parts groups) is.is ∙ state-back (state_groups t) is.visited in
-      same-tests (bytes_eq (state_row parts groups (state_groups s)) row) (bytes_eq (joined (state_groups s)) (state_bytes parts groups row))
+      same-truth (bytes_eq (state_row parts groups (state_groups s)) row) (bytes_eq (joined (state_groups s)) (state_bytes parts groups row))
       (λ same.
       let rows : state_row parts groups (state_groups s) ≡ state_row parts groups (state_groups t) = bytes_eq-same (state_row parts groups (state_groups s)) row same ∙ is.is in
       let groups_are = same-rows (state_groups s) (state_groups t) is.visited rows in

@@ -14,7 +14,7 @@ use Rattle.pv_model.specs.Held.{live_processes}
 use Rattle.pv_model.specs.Sealed.{leaks}
 use Rattle.pv_model.specs.State.{ProcessRecord, live, ended_record, live_process}
 use Rattle.pv_audit.specs.Reasons.{first_of}
-use Rattle.pv_exposure.specs.Collected.{Exposed, RecordedLeak, exposed_after, exposed_more, exposed_none, exposed_with, has_key, is_of, recorded_at, record_key, recorded_of, key_of, with_all, with_one}
+use Rattle.pv_exposure.specs.Collected.{Exposed, RecordedLeak, exposed_after, exposed_more, exposed_none, exposed_with, has_key, is_of, recorded_at, record_key, recorded_of, key_of, with_all}
 use Rattle.pv_exposure.specs.Stored.{found_in, recorded_by_file, located_if}
 use Rattle.pv_exposure.specs.declared.leaks.Visit.{Visit}
 
@@ -57,10 +57,6 @@ module _ (ks : List RecordedLeak) (l : Located) (f : ℕ) where
           ∙ ap (λ w. ks ++ recorded_of (record { at = l; file = text; why = w }) ∷ []) same
 
 -- the files of a process, in sequence
-pub with-then : (ks xs ys : List RecordedLeak) → with_all ks (xs ++ ys) ≡ with_all (with_all ks xs) ys
-with-then ks [] ys = refl
-with-then ks (x ∷ xs) ys = with-then (with_one ks x) xs ys
-
 files-mapped : (l : Located) (fs : List ℕ) → map recorded_of (flat_map (λ f. leak_of l f (leaks l.found.state l.process f)) fs) ≡ flat_map (recorded_by_file l) fs
 files-mapped l [] = refl
 files-mapped l (f ∷ fs) =

@@ -5,9 +5,10 @@ use Rattle.std.specs.List.{join_by, list_any, range_with_len}
 use Rattle.std.proofs.lemmas.Bool.{eq-eqb}
 use Rattle.std.proofs.lemmas.Bool.Decides.{nat_tests}
 use Rattle.std.proofs.lemmas.List.{map-append}
-use Rattle.std.proofs.lemmas.List.Elements.{filter-append}
-use Rattle.std.proofs.lemmas.List.Folds.{list_any-append}
+use Rattle.std.proofs.lemmas.List.Elements.{filter-append, filter_agree}
+use Rattle.std.proofs.lemmas.List.Folds.{flat_map-map, list_any-append}
 use Rattle.std.proofs.lemmas.List.Sums.{fold-append}
+use Rattle.std.proofs.lemmas.Simd.{map-map}
 use Rattle.pv_model.specs.Answers.Explore.{new_ones}
 use Rattle.pv_model.specs.Answers.Exposure.{Leak, Located, greatest_line, in_ranges, last_leak, leak_lines, leaks_at, line_of, lines_leaking, range_text}
 use Rattle.pv_model.specs.Answers.Nodes.{first_of}
@@ -22,14 +23,6 @@ use Rattle.pv_exposure.proofs.Firsts.{keyed}
 
 -- ---- lists
 
-map-both : {X Y Z : Type 0} (f : X → Y) (g : Y → Z) (xs : List X) → map g (map f xs) ≡ map (λ x. g (f x)) xs
-map-both f g [] = refl
-map-both {Z = Z} f g (x ∷ xs) = ap (λ (zs : List Z). g (f x) ∷ zs) (map-both f g xs)
-
-filter-same : {X : Type 0} (p q : X → Bool) → ((x : X) → p x ≡ q x) → (xs : List X) → filter p xs ≡ filter q xs
-filter-same p q same [] = refl
-filter-same {X = X} p q same (x ∷ xs) = ap₂ (λ b (ys : List X). cond b (x ∷ ys) ys) (same x) (filter-same p q same xs)
-
 filter-map : {X Y : Type 0} (f : X → Y) (p : Y → Bool) (xs : List X) → filter p (map f xs) ≡ map f (filter (λ x. p (f x)) xs)
 filter-map f p [] = refl
 filter-map {Y = Y} f p (x ∷ xs) = by (p (f x)) (filter-map f p xs)
@@ -42,10 +35,6 @@ filter-map {Y = Y} f p (x ∷ xs) = by (p (f x)) (filter-map f p xs)
 first-map : {X Y : Type 0} (f : X → Y) (xs : List X) → first_of (map f xs) ≡ option_map f (first_of xs)
 first-map f [] = refl
 first-map f (x ∷ xs) = refl
-
-flat-both : {X Y Z : Type 0} (f : X → Y) (g : Y → List Z) (xs : List X) → flat_map g (map f xs) ≡ flat_map (λ x. g (f x)) xs
-flat-both f g [] = refl
-flat-both {Z = Z} f g (x ∷ xs) = ap (λ (zs : List Z). g (f x) ++ zs) (flat-both f g xs)
 
 flat-same : {X Y : Type 0} (f g : X → List Y) → ((x : X) → f x ≡ g x) → (xs : List X) → flat_map f xs ≡ flat_map g xs
 flat-same f g same [] = refl
@@ -136,7 +125,7 @@ module _ (x : RecordedLeak) (A B : List RecordedLeak) (known : among (map line_i
   ranges-with =
       ap (λ ns. join_by range_text (codes ", ") (in_ranges ns))
       (ap (λ g. filter (among (map line_in (A ++ x ∷ B))) (range_with_len 1 g)) greatest-with
-      ∙ filter-same (among (map line_in (A ++ x ∷ B))) (among (map line_in (A ++ B))) among-with (range_with_len 1 (greatest (A ++ B))))
+      ∙ filter_agree (among (map line_in (A ++ x ∷ B))) (among (map line_in (A ++ B))) among-with (range_with_len 1 (greatest (A ++ B))))
 
   -- the first leak at a line is not x
   first-with : (g : ℕ) → first_of (filter (λ k. k.line == g) (A ++ x ∷ B)) ≡ first_of (filter (λ k. k.line == g) (A ++ B))
@@ -243,10 +232,10 @@ module _ (x : RecordedLeak) (P X : List RecordedLeak) (known : has_key P (key_of
 
   all-again : all_recorded_lines (P ++ x ∷ X) ≡ all_recorded_lines (P ++ X)
   all-again =
-      flat-both (with_alike file_in (P ++ x ∷ X)) recorded_lines (new_ones file_in [] (P ++ x ∷ X))
+      flat_map-map recorded_lines (with_alike file_in (P ++ x ∷ X)) (new_ones file_in [] (P ++ x ∷ X))
       ∙ ap (flat_map (λ f. recorded_lines (with_alike file_in (P ++ x ∷ X) f))) (new-again file_in x X [] P (file-known P known))
       ∙ flat-same (λ f. recorded_lines (with_alike file_in (P ++ x ∷ X) f)) (λ f. recorded_lines (with_alike file_in (P ++ X) f)) group-again (new_ones file_in [] (P ++ X))
-      ∙ sym (flat-both (with_alike file_in (P ++ X)) recorded_lines (new_ones file_in [] (P ++ X)))
+      ∙ sym (flat_map-map recorded_lines (with_alike file_in (P ++ X)) (new_ones file_in [] (P ++ X)))
 
 -- the leaks that are stored have the lines of all
 lines-stored : (P X : List RecordedLeak) → all_recorded_lines (with_all P X) ≡ all_recorded_lines (P ++ X)
@@ -265,7 +254,7 @@ lines-stored P (x ∷ X) = by (has_key P (key_of x)) refl (lines-stored P X) (li
 -- ---- the definition's lines
 
 lines-are : (ls : List Leak) → map line_in (map recorded_of ls) ≡ map line_of ls
-lines-are ls = map-both recorded_of line_in ls
+lines-are ls = map-map line_in recorded_of ls
 
 leak-lines : (first : Leak) (ls : List Leak) → recorded_lines (recorded_of first, map recorded_of ls) ≡ leak_lines (first, ls)
 leak-lines first ls =
@@ -284,13 +273,13 @@ leak_file leak = leak.file
 
 groups-are : (ls : List Leak) → all_recorded_lines (map recorded_of ls) ≡ flat_map leak_lines (groups leak_file ls)
 groups-are ls =
-    flat-both (with_alike file_in (map recorded_of ls)) recorded_lines (new_ones file_in [] (map recorded_of ls))
+    flat_map-map recorded_lines (with_alike file_in (map recorded_of ls)) (new_ones file_in [] (map recorded_of ls))
     ∙ ap (flat_map (λ f. recorded_lines (with_alike file_in (map recorded_of ls) f))) (new-map recorded_of file_in [] ls)
-    ∙ flat-both recorded_of (λ f. recorded_lines (with_alike file_in (map recorded_of ls) f)) (new_ones leak_file [] ls)
+    ∙ flat_map-map (λ f. recorded_lines (with_alike file_in (map recorded_of ls) f)) recorded_of (new_ones leak_file [] ls)
     ∙ flat-same (λ f. recorded_lines (with_alike file_in (map recorded_of ls) (recorded_of f))) (λ f. leak_lines (with_alike leak_file ls f))
     (λ f. ap (λ (ks : List RecordedLeak). recorded_lines (recorded_of f, ks)) (filter-map recorded_of (λ k. bytes_eq k.file f.file) ls) ∙ leak-lines f (filter (λ leak. bytes_eq leak.file f.file) ls))
     (new_ones leak_file [] ls)
-    ∙ sym (flat-both (with_alike leak_file ls) leak_lines (new_ones leak_file [] ls))
+    ∙ sym (flat_map-map leak_lines (with_alike leak_file ls) (new_ones leak_file [] ls))
 
 leaks-mapped : (ls : List Located) → flat_map recorded_at ls ≡ map recorded_of (flat_map leaks_at ls)
 leaks-mapped [] = refl

@@ -3,8 +3,9 @@ use Rattle.std.proofs.Common.{◌≡◌, ◌∙◌, sym, ap, ap₂, ℕ, Bool, t
 use Rattle.std.specs.List.{list_all}
 use Rattle.std.proofs.lemmas.Bool.{or_parts}
 use Rattle.std.proofs.lemmas.Grind.{flat_map-append}
-use Rattle.std.proofs.lemmas.List.Elements.{filter-append}
+use Rattle.std.proofs.lemmas.List.Elements.{filter-append, filter_agree}
 use Rattle.std.proofs.lemmas.List.Folds.{list_all-append}
+use Rattle.std.proofs.lemmas.Simd.{map-map}
 use Rattle.pv_model.specs.Answers.Explore.{new_ones}
 use Rattle.pv_model.specs.Answers.Exposure.{Located, is_closed_to, program_key}
 use Rattle.pv_model.specs.Answers.Numbers.{Numbers}
@@ -16,7 +17,7 @@ use Rattle.pv_exposure.proofs.Firsts.{AreApart, firsts-apart, firsts-more, keyed
 
 -- ---- one more process of a program
 
-pub with-both : (ks xs ys : List RecordedLeak) → with_all ks (xs ++ ys) ≡ with_all (with_all ks xs) ys
+with-both : (ks xs ys : List RecordedLeak) → with_all ks (xs ++ ys) ≡ with_all (with_all ks xs) ys
 with-both ks [] ys = refl
 with-both ks (x ∷ xs) ys = with-both (with_one ks x) xs ys
 
@@ -30,10 +31,6 @@ both-filters p q (n ∷ ns) = by (p n) (q n) refl (both-filters p q ns)
     by true false is rest = sym (ap (λ c. cond c (n ∷ filter q (filter p ns)) (filter q (filter p ns))) is ∙ sym rest)
     by false true is rest = rest
     by false false is rest = rest
-
-same-filters : (p q : ℕ → Bool) → ((n : ℕ) → p n ≡ q n) → (ns : List ℕ) → filter p ns ≡ filter q ns
-same-filters p q same [] = refl
-same-filters p q same (n ∷ ns) = ap₂ (λ b (ms : List ℕ). cond b (n ∷ ms) ms) (same n) (same-filters p q same ns)
 
 and-true : (b : Bool) → (b && true) ≡ b
 and-true true = refl
@@ -58,7 +55,7 @@ module _ (named : List ℕ) where
       ∙ ap (with_all []) (sym (flat_map-append recorded_at ls (l ∷ []) ∙ ap (λ (ks : List RecordedLeak). flat_map recorded_at ls ++ ks) (append-nil (recorded_at l)))) in
       let safe : filter (λ f. is_closed_to f l) (filter (λ f. list_all (is_closed_to f) ls) named) ≡ filter (λ f. list_all (is_closed_to f) (ls ++ l ∷ [])) named =
       sym (both-filters (λ f. list_all (is_closed_to f) ls) (λ f. is_closed_to f l) named)
-      ∙ same-filters (λ f. list_all (is_closed_to f) ls && is_closed_to f l) (λ f. list_all (is_closed_to f) (ls ++ l ∷ []))
+      ∙ filter_agree (λ f. list_all (is_closed_to f) ls && is_closed_to f l) (λ f. list_all (is_closed_to f) (ls ++ l ∷ []))
       (λ f. sym (list_all-append (is_closed_to f) ls (l ∷ []) ∙ ap (λ b. list_all (is_closed_to f) ls && b) (and-true (is_closed_to f l)))) named in
       λ i. record { program = program; recorded = recorded i; safe = safe i }
 
@@ -134,9 +131,5 @@ module _ (named : List ℕ) where
   records-from ls [] = ap records_in (sym (append-nil ls))
   records-from ls (l ∷ more) = ap (λ (es : List Exposed). exposed_after named es more) (records-more ls l) ∙ records-from (ls ++ l ∷ []) more ∙ ap records_in (append_assoc ls (l ∷ []) more)
 
-  map-both : {X Y Z : Type 0} (f : X → Y) (g : Y → Z) (xs : List X) → map (λ x. g (f x)) xs ≡ map g (map f xs)
-  map-both f g [] = refl
-  map-both {Z = Z} f g (x ∷ xs) = ap (λ (zs : List Z). g (f x) ∷ zs) (map-both f g xs)
-
   pub records-are : (ls : List Located) → exposed_after named [] ls ≡ map summary_of (groups program_key ls)
-  records-are ls = records-from [] ls ∙ map-both (with_alike program_key ls) summary_of (new_ones program_key [] ls)
+  records-are ls = records-from [] ls ∙ sym (map-map summary_of (with_alike program_key ls) (new_ones program_key [] ls))

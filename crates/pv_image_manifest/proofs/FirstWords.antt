@@ -1,35 +1,32 @@
 -- Lines of manifests by their first word.
 use Rattle.std.proofs.Common.{◌≡◌, true, false, List, None, refl, codes}
 use Rattle.std.specs.Prelude.{bytes_eq}
-use Rattle.std.proofs.lemmas.Slice.Eq.{bytes_eq-Decides}
 use Rattle.pv_model.specs.Bytes.{Bytes}
 use Rattle.pv_model.specs.Grammar.Lines.{decimal_of}
 use Rattle.pv_model.specs.Grammar.Arguments.{text_at, word_at, one_argument, two_arguments}
 use Rattle.pv_model.specs.Grammar.Manifests.{entry_by, directory_line, file_line, program_line, link_line, name_line}
-
-is_word : (word name : Bytes) → bytes_eq word name ≡ true → word ≡ name
-is_word word name same = (bytes_eq-Decides word name).0 same
+use Rattle.pv_laws_trees.proofs.Entries.{bytes_eq-same}
 
 module _ (word rest : Bytes) (ls : List Bytes) where
   pub directory_is : bytes_eq word (codes "dir") ≡ true → directory_line (one_argument text_at rest) ≡ entry_by word rest ls
   unfolding entry_by
-  directory_is same = rw (is_word word (codes "dir") same) refl
+  directory_is same = rw (bytes_eq-same word (codes "dir") same) refl
 
   pub file_is : bytes_eq word (codes "bytes") ≡ true → file_line (two_arguments text_at text_at rest) ≡ entry_by word rest ls
   unfolding entry_by
-  file_is same = rw (is_word word (codes "bytes") same) refl
+  file_is same = rw (bytes_eq-same word (codes "bytes") same) refl
 
   pub program_is : bytes_eq word (codes "exec") ≡ true → program_line ls (two_arguments text_at (word_at decimal_of) rest) ≡ entry_by word rest ls
   unfolding entry_by
-  program_is same = rw (is_word word (codes "exec") same) refl
+  program_is same = rw (bytes_eq-same word (codes "exec") same) refl
 
   pub link_is : bytes_eq word (codes "link") ≡ true → link_line (two_arguments text_at text_at rest) ≡ entry_by word rest ls
   unfolding entry_by
-  link_is same = rw (is_word word (codes "link") same) refl
+  link_is same = rw (bytes_eq-same word (codes "link") same) refl
 
   pub name_is : bytes_eq word (codes "name") ≡ true → name_line (two_arguments text_at text_at rest) ≡ entry_by word rest ls
   unfolding entry_by
-  name_is same = rw (is_word word (codes "name") same) refl
+  name_is same = rw (bytes_eq-same word (codes "name") same) refl
 
   pub other_entry : bytes_eq word (codes "dir") ≡ false → bytes_eq word (codes "bytes") ≡ false → bytes_eq word (codes "exec") ≡ false → bytes_eq word (codes "link") ≡ false
       → bytes_eq word (codes "name") ≡ false → entry_by word rest ls ≡ None

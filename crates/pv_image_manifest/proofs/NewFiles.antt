@@ -1,9 +1,7 @@
 -- Whether an image has room for a tree, and a new file with its bytes.
-use Rattle.std.proofs.Common.{◌≡◌, ◌≢◌, ◌∙◌, ap, ℕ, zero, suc, ◌+◌, ◌<◌, ◌≤◌, Bool, true, false, not, cond, ◌||◌, [], ◌∷◌, ◌++◌, length, drop, Option, None, Some, Ok, Err, refl, sym, subst, arith, ⊎_elim, le_refl}
+use Rattle.std.proofs.Common.{◌≡◌, ◌≢◌, ◌∙◌, ap, ℕ, zero, suc, ◌<◌, ◌≤◌, Bool, true, false, not, cond, ◌||◌, [], ◌∷◌, length, drop, Option, None, Some, Ok, Err, refl, sym, subst, arith, ⊎_elim, le_refl}
 use Rattle.std.specs.FinMap.Entries.{put}
-use Rattle.std.proofs.Math.Seq.{drop-nil}
 use Rattle.std.proofs.lemmas.Bool.{cases_eq}
-use Rattle.std.proofs.lemmas.List.{append-nil}
 use Rattle.pv_inodes.specs.declared.space.Space.{Space}
 use Rattle.pv_inodes.specs.declared.space.Space.TheVariants.{Full, TooBig}
 use Rattle.pv_model.specs.declared.fault.ManifestFault.TheVariants.{Room}
@@ -24,6 +22,7 @@ use Rattle.pv_laws_trees.proofs.Entries.{by_name}
 use Rattle.pv_laws_trees.proofs.NewNodes.{new-same, dir-new, entries-new}
 use Rattle.pv_laws_trees.proofs.Numbered.{at_number-below, least_free-within, length-drop_one}
 use Rattle.pv_laws_trees.proofs.Rooms.{smaller-fits, smaller-not_too_long}
+use Rattle.pv_tree.proofs.Making.{overwrite-none}
 use Rattle.pv_image_manifest.specs.Building.{lacks_room}
 
 -- ---- room
@@ -80,9 +79,6 @@ module _ {X : Type 0} where
   over (x ∷ xs) (suc n) zero a b c within apart = ap (λ ys. Some c ∷ ys) (twice xs n a b (omega (arith, within)))
   over (x ∷ xs) (suc n) (suc d) a b c within apart = ap (λ ys. x ∷ ys) (over xs n d a b c (omega (arith, within)) (λ same. apart (ap suc same)))
 
-overwrite_nothing : (bs : Bytes) → overwrite [] 0 bs ≡ bs
-overwrite_nothing bs = ap (λ following. bs ++ following) (drop-nil (0 + length bs)) ∙ append-nil bs
-
 pub new-within : (t : Tree) → IsWellFormed t → new_number t ≤ length t.nodes
 new-within t w = omega (arith, least_free-within (drop 1 t.nodes), length-drop_one t.nodes t.inodes w.numbers, w.numbers)
 
@@ -119,7 +115,7 @@ module _ (t : Tree) (w : IsWellFormed t) (d : ℕ) (name : Bytes) (x : Bool) (di
   file-written [] = refl
   file-written (b ∷ bytes) =
       ap (λ o. with_content_of (filled []) n0 o (overwrite (bytes_of o) 0 (b ∷ bytes))) (file-there [])
-      ∙ ap (λ bs. with_node (filled []) n0 (file_node x bs)) (overwrite_nothing (b ∷ bytes)) ∙ file-filled (b ∷ bytes)
+      ∙ ap (λ bs. with_node (filled []) n0 (file_node x bs)) (overwrite-none (b ∷ bytes)) ∙ file-filled (b ∷ bytes)
 
   -- the same for a tree in which an empty file was created
   pub file-written-in : (bytes : Bytes) (u : Tree) (node : Node) (n : ℕ) → u ≡ with_new_node t d name node → node ≡ file_node x [] → n ≡ n0 → overwritten u n 0 bytes ≡ filled bytes

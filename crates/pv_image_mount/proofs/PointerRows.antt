@@ -7,6 +7,7 @@ use Rattle.pv_model.specs.declared.version.Version.TheVariants.{V1, V2}
 use Rattle.pv_model.specs.Bytes.{Bytes}
 use Rattle.pv_model.specs.Image.{field, pointers, index_pointers, block, block_count, inode, size, used_content, used_index}
 use Rattle.pv_model.specs.Room.{rounded_up, greatest_length}
+use Rattle.pv_laws_trees.proofs.Inodes.{length-pointers}
 use Rattle.pv_image_mount.specs.Rows.{pointed_row, pointer_row}
 
 -- one more pointer
@@ -58,10 +59,6 @@ pub joined_more : {X : Type 0} (front : List X) (f : ℕ → List X) (xs : List 
 joined_more front f xs i within list new part so_far more is =
     more ∙ ap (λ l. l ++ part) so_far ∙ ap (λ p. (front ++ flat_map f (take i xs)) ++ p) is ∙ flat_map_more f front (take i xs) (get_or xs i 0)
     ∙ ap (λ ys. front ++ flat_map f ys) (sym (take_more xs i 0 within))
-
-length-pointers : (n : ℕ) (bytes : Bytes) → length (pointers n bytes) ≡ n
-length-pointers zero bytes = refl
-length-pointers (suc n) bytes = ap suc (length-pointers n (drop 2 bytes))
 
 pub length-row : (n : ℕ) (bytes : Bytes) → length (pointer_row n bytes) ≡ n
 unfolding pointer_row

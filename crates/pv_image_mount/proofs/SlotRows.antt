@@ -9,14 +9,14 @@ use Rattle.std.specs.Prelude.{bytes_eq, not, ◌&&◌, ◌||◌, ◌==◌, nat_l
 use Rattle.std.specs.Cmp.Lexicographic.{slice_cmp, texts_ties}
 use Rattle.std.specs.List.{list_any}
 use Rattle.std.specs.Ordering.{is_lt, nat_cmp}
-use Rattle.std.specs.declared.cmp.Ordering.{Ordering}
-use Rattle.std.specs.declared.cmp.Ordering.TheVariants.{Less, Equal, Greater}
 use Rattle.pv_model.specs.declared.version.Version.{Version}
 use Rattle.pv_model.specs.declared.version.Version.TheVariants.{V1, V2}
 use Rattle.pv_model.specs.Bytes.{Bytes}
 use Rattle.pv_model.specs.Mount.{inode_number, is_bad_slot, is_free, slot_length, slot_name, slot_number, slots_of, appears_twice}
 use Rattle.pv_model.specs.Room.{entry_length}
 use Rattle.pv_model.specs.Tree.{greatest_name, is_name}
+use Rattle.pv_laws_trees.proofs.NameOrder.{less_from}
+use Rattle.pv_laws_trees.proofs.Images.{length-slots_of}
 use Rattle.pv_image_mount.proofs.InodeContents.{none_at}
 use Rattle.pv_image_mount.proofs.SortedNames.{once_rising}
 use Rattle.pv_image_mount.specs.Slots.{name_key, slot_at, slot_key, NamesAscend}
@@ -25,10 +25,6 @@ use Rattle.pv_image_mount.specs.Slots.{name_key, slot_at, slot_key, NamesAscend}
 pub slot_within : (v : Version) (i len : ℕ) → i < len / entry_length v → entry_length v * i + entry_length v ≤ len
 slot_within V1 i len less = omega arith
 slot_within V2 i len less = omega arith
-
-pub length_slots : (v : Version) (k : ℕ) (content : Bytes) → length (slots_of v k content) ≡ k
-length_slots v zero content = refl
-length_slots v (suc k) content = ap suc (length_slots v k (drop (entry_length v) content))
 
 slot_after : (v : Version) (i : ℕ) (content : Bytes) → slot_at v (drop (entry_length v) content) i ≡ slot_at v content (suc i)
 slot_after v i content =
@@ -63,12 +59,12 @@ module _ (p : Bytes → Bool) (v : Version) (content : Bytes) where
 
   pub any_slot_at : (k i : ℕ) → i < k → p (slot_at v content i) ≡ true → list_any p (slots_of v k content) ≡ true
   any_slot_at k i less is =
-      let within : i < length (slots_of v k content) = subst (λ m. i < m) (sym (length_slots v k content)) less in
+      let within : i < length (slots_of v k content) = subst (λ m. i < m) (sym (length-slots_of v k content)) less in
       list_any_at p (slots_of v k content) i [] within (ap p (get_or-slots v k i content less) ∙ is)
 
   no_slot_at : (k i : ℕ) → i < k → list_any p (slots_of v k content) ≡ false → p (slot_at v content i) ≡ false
   no_slot_at k i less none =
-      let within : i < length (slots_of v k content) = subst (λ m. i < m) (sym (length_slots v k content)) less in
+      let within : i < length (slots_of v k content) = subst (λ m. i < m) (sym (length-slots_of v k content)) less in
       sym (ap p (get_or-slots v k i content less)) ∙ none_at p (slots_of v k content) i [] none within
 
 -- ---- names
@@ -96,11 +92,6 @@ pub name_fits : (v : Version) (bytes content slot : Bytes) (count i : ℕ) → l
 name_fits v bytes content slot count i none less is whole =
     name_within v slot whole (name_short v bytes slot (ap (is_bad_slot v bytes) is ∙ no_slot_at (is_bad_slot v bytes) v content count i less none))
 
-less_then : (o : Ordering) → is_lt o ≡ true → o ≡ Less
-less_then Less is = refl
-less_then Equal is = absurd cc
-less_then Greater is = absurd cc
-
 map-slots_more : {X : Type 0} (of : Bytes → X) (v : Version) (content : Bytes) (k : ℕ) → map of (slots_of v k content) ++ of (slot_at v content k) ∷ [] ≡ map of (slots_of v (k + 1) content)
 map-slots_more of v content k = sym (ap (map of) (slots_more v k content) ∙ map-append of (slots_of v k content) (slot_at v content k ∷ []))
 
@@ -116,11 +107,11 @@ pub ascending_once : (v : Version) (content : Bytes) (count : ℕ) → NamesAsce
 ascending_once v content count up =
     let slots = slots_of v count content in
     once_rising nat_list_cmp_total texts_ties slot_name slots [] (λ k within.
-    let less : k + 1 < count = subst (λ m. k + 1 < m) (length_slots v count content) within in
+    let less : k + 1 < count = subst (λ m. k + 1 < m) (length-slots_of v count content) within in
     let low : k < count = omega (arith, less) in
     let one : 1 ≤ k + 1 = omega arith in
     let before : k + 1 - 1 ≡ k = omega arith in
-    less_then (slice_cmp nat_cmp (slot_name (get_or slots k [])) (slot_name (get_or slots (k + 1) [])))
+    less_from (slice_cmp nat_cmp (slot_name (get_or slots k [])) (slot_name (get_or slots (k + 1) [])))
     (ap (λ s. is_lt (slice_cmp nat_cmp (slot_name s) (slot_name (get_or slots (k + 1) [])))) (get_or-slots v count k content low)
     ∙ ap (λ s. is_lt (slice_cmp nat_cmp (slot_name (slot_at v content k)) (slot_name s))) (get_or-slots v count (k + 1) content less)
     ∙ sym (ap (λ m. is_lt (slice_cmp nat_cmp (slot_name (slot_at v content m)) (slot_name (slot_at v content (k + 1))))) before) ∙ up (k + 1) less one))

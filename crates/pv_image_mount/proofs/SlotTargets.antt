@@ -12,10 +12,11 @@ use Rattle.pv_model.specs.Image.{content, size}
 use Rattle.pv_model.specs.Mount.{has_bad_content, has_bad_inode, has_slot_for, inode_number, inode_numbers, is_bad_slot, is_free, kind, name_count, slot_length, slot_name, slot_number, slots_at, slots_of, appears_twice}
 use Rattle.pv_model.specs.Room.{entry_length, greatest_length}
 use Rattle.pv_model.specs.Tree.{greatest_name, is_name}
+use Rattle.pv_laws_trees.proofs.Images.{length-slots_of}
 use Rattle.pv_image_mount.proofs.BadContents.{used_kind}
 use Rattle.pv_image_mount.proofs.InodeBlocks.{size_fits}
 use Rattle.pv_image_mount.proofs.InodeContents.{none_at}
-use Rattle.pv_image_mount.proofs.SlotRows.{length_slots, slots_more}
+use Rattle.pv_image_mount.proofs.SlotRows.{slots_more}
 use Rattle.pv_image_mount.specs.Numbers.{IsNumber}
 use Rattle.pv_image_mount.specs.Places.{is_among, targets_of, times}
 use Rattle.pv_image_mount.specs.Slots.{slot_at}
@@ -77,7 +78,7 @@ module _ (v : Version) (bytes : Bytes) where
         | true ↦ λ one.
             let is : kind v bytes n ≡ 1 = eqb-true (kind v bytes n) 1 one in
             let count = size v bytes n / entry_length v in
-            let long : length (targets_of v bytes n) ≡ count = ap length (targets-directory n is) ∙ length-map (slots_of v count (content v bytes n)) slot_number ∙ length_slots v count (content v bytes n) in
+            let long : length (targets_of v bytes n) ≡ count = ap length (targets-directory n is) ∙ length-map (slots_of v count (content v bytes n)) slot_number ∙ length-slots_of v count (content v bytes n) in
             subst (λ m. m ≤ 2540) (sym long) (few_entries v (size v bytes n) (size_fits v bytes n fine (used_kind v bytes n 1 (λ h. cc) is)))
         | false ↦ λ differs. subst (λ m. m ≤ 2540) (sym (ap length (targets-other n differs))) (omega arith)
       ] refl

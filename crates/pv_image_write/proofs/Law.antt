@@ -15,14 +15,16 @@ use Rattle.pv_model.specs.Numbered.{Numbered, at_number, numbered_from}
 use Rattle.pv_model.specs.Room.{node_length, greatest_length}
 use Rattle.pv_model.specs.Tree.{Entries, Node, directory_node, file_node, link_node, Tree, node_at, entries_of, entries_at, is_directory, is_name, names_of, root}
 use Rattle.pv_laws_trees.proofs.Numbered.{at_number-below}
+use Rattle.pv_dirs.proofs.Strides.{name_length}
+use Rattle.pv_laws_trees.proofs.Ranges.{each_in_range}
 use Rattle.pv_image_write.specs.Encoding.{contained, content_of, taken, taken_of, inode_of, blocks_of, taken_before, first_data, first_of, first_block, image_bytes, inode_bytes, content_blocks}
 use Rattle.pv_image_write.specs.Writable.{IsWritable}
 use Rattle.pv_image_write.proofs.Contents.{Each, EachOf, HasShortName, length-contained, slots-are}
 use Rattle.pv_image_write.proofs.Heads.{kind-inode, count-inode}
-use Rattle.pv_image_write.proofs.Listed.{find-at, sorted-at, named-at, all-get, name-short}
+use Rattle.pv_image_write.proofs.Listed.{find-at, sorted-at, named-at, all-get}
 use Rattle.pv_image_write.proofs.Components.{front-is, past-is}
 use Rattle.pv_image_write.proofs.Places.{length-magic, length-image, image-is, first, table, contents, few-blocks, taken_before-grows, inode-image, blocks-image, zeros-image, zeros-all}
-use Rattle.pv_image_write.proofs.Ranges.{range_with_len-add, all-range, distinct-range, list_all-picked, two-bytes, length-little_endian}
+use Rattle.pv_image_write.proofs.Ranges.{range_with_len-add, distinct-range, list_all-picked, two-bytes, length-little_endian}
 use Rattle.pv_image_write.proofs.Reading.{size-read, used-read, content-read}
 
 -- ---- the entries of a node of a tree
@@ -45,7 +47,7 @@ module _ (u : Tree) (w : IsWritable u) where
   entries-short d es at i e is =
       let same : entries_at u d ≡ es = ap entries_of at in
       let there = ap (λ (fs : Entries). slice_get fs i) same ∙ is in
-      name-short u.version e.0 (all-get (λ (f : Bytes × ℕ). is_name u.version f.0) (entries_at u d) i e (named-at u d w.well_formed) there)
+      name_length u.version e.0 (all-get (λ (f : Bytes × ℕ). is_name u.version f.0) (entries_at u d) i e (named-at u d w.well_formed) there)
 
   pub node-short : (n : ℕ) (node : Node) → node_at u n ≡ Some node → EachOf (HasShortName u.version) node
   node-short n (directory_node es) at = entries-short n es at
@@ -249,7 +251,7 @@ module _ (u : Tree) (w : IsWritable u) where
     each_inode = each;
     in_data =
         subst (AllByRecursion (λ k. (inode_blocks u.version u.inodes < k) × (k < field (image_bytes u) 8 2))) (sym used-image)
-        (all-range (λ k. (inode_blocks u.version u.inodes < k) × (k < field (image_bytes u) 8 2)) (first_data u.version u.inodes) (taken_before u (suc u.inodes))
+        (each_in_range (λ k. (inode_blocks u.version u.inodes < k) × (k < field (image_bytes u) 8 2)) (first_data u.version u.inodes) (taken_before u (suc u.inodes))
         (λ k from below. (omega arith, omega (arith, blocks-written, w.room))));
     used_once = subst (IsDistinct ◌==◌) (sym used-image) (distinct-range (first_data u.version u.inodes) (taken_before u (suc u.inodes)));
     well_formed = w.well_formed;

@@ -1,24 +1,26 @@
 -- The entries of a directory, one by one.
-use Rattle.std.proofs.Common.{◌≡◌, ℕ, zero, suc, ◌+◌, ◌*◌, ◌<◌, ◌≤◌, not, nat_le, Bool, true, false, cond, List, [], ◌∷◌, ◌++◌, length, take, Option, None, Some, refl, ap, sym, subst, ◌∙◌, add-one, arith}
-use Rattle.std.specs.Prelude.{bytes_eq, codes, flat_map, option_map, slice_get}
+use Rattle.std.proofs.Common.{◌≡◌, ℕ, zero, suc, ◌+◌, ◌*◌, ◌<◌, ◌≤◌, Bool, true, false, cond, List, [], ◌∷◌, ◌++◌, length, take, Option, None, Some, refl, ap, sym, subst, ◌∙◌, add-one, arith}
+use Rattle.std.specs.Prelude.{flat_map, option_map, slice_get}
 use Rattle.std.specs.List.{list_all}
 use Rattle.std.specs.FinMap.Entries.{find, is_sorted, below_all}
 use Rattle.std.specs.Ordering.{is_lt, is_eq, ordering_reverse}
 use Rattle.std.specs.declared.cmp.Ordering.{Ordering}
 use Rattle.std.specs.declared.cmp.Ordering.TheVariants.{Less, Equal, Greater}
-use Rattle.std.proofs.lemmas.Bool.{and_parts, leb-true}
+use Rattle.std.proofs.lemmas.Bool.{and_parts}
 use Rattle.std.proofs.lemmas.Cmp.{nat_list_cmp_total}
 use Rattle.std.proofs.lemmas.Grind.{flat_map-append}
 use Rattle.std.proofs.lemmas.List.{append_assoc, append-nil, take_all}
 use Rattle.pv_model.specs.declared.version.Version.{Version}
 use Rattle.pv_model.specs.declared.version.Version.TheVariants.{V1, V2}
-use Rattle.pv_model.specs.Bytes.{Bytes, is_empty}
+use Rattle.pv_model.specs.Bytes.{Bytes}
 use Rattle.pv_model.specs.Calls.Descriptors.{next_name}
 use Rattle.pv_model.specs.Effect.{size_of}
 use Rattle.pv_model.specs.Room.{entry_length}
-use Rattle.pv_model.specs.Tree.{Entries, Node, directory_node, file_node, link_node, Tree, node_at, entries_of, entries_at, is_directory, is_directory_at, find_entry, greatest_name, is_name, is_name_byte, IsWellFormed}
+use Rattle.pv_model.specs.Tree.{Entries, Node, directory_node, file_node, link_node, Tree, node_at, entries_of, entries_at, is_directory, is_directory_at, find_entry, greatest_name, is_name, IsWellFormed}
 use Rattle.pv_laws_trees.proofs.Changes.{entries-good}
 use Rattle.pv_laws_trees.proofs.Entries.{by_name, tied_itself, find_after}
+use Rattle.pv_dirs.proofs.Strides.{name_length}
+use Rattle.pv_laws_trees.proofs.NameOrder.{less_from}
 use Rattle.pv_image_write.specs.Encoding.{slot_of}
 
 -- the name before an index
@@ -66,11 +68,6 @@ below-get q (f ∷ es) zero e below is =
     let same : f ≡ e = cc in
     ap (λ (g : Bytes × ℕ). is_lt (by_name q g.0)) (sym same) ∙ (and_parts (is_lt (by_name q f.0)) _ below).0
 below-get q (f ∷ es) (suc i) e below is = below-get q es i e (and_parts (is_lt (by_name q f.0)) _ below).1 is
-
-less_from : (o : Ordering) → is_lt o ≡ true → o ≡ Less
-less_from Less is = refl
-less_from Equal is = cc
-less_from Greater is = cc
 
 not_after : (a b : Bytes) → is_lt (by_name a b) ≡ true → is_lt (by_name b a) ≡ false
 not_after a b is = ap is_lt (nat_list_cmp_total.antisymm b a ∙ ap ordering_reverse (less_from (by_name a b) is))
@@ -151,13 +148,6 @@ all-get p [] i x all is = cc
 all-get p (y ∷ xs) zero x all is = let same : y ≡ x = cc in ap p (sym same) ∙ (and_parts (p y) _ all).0
 all-get p (y ∷ xs) (suc i) x all is = all-get p xs i x (and_parts (p y) _ all).1 is
 
-pub name-short : (v : Version) (name : Bytes) → is_name v name ≡ true → length name ≤ greatest_name v
-name-short v name is =
-    let first = and_parts _ (not (bytes_eq name (codes ".."))) is in
-    let second = and_parts _ (not (bytes_eq name (codes "."))) first.0 in
-    let third = and_parts _ (list_all is_name_byte name) second.0 in
-    leb-true (length name) (greatest_name v) (and_parts (not (is_empty name)) (nat_le (length name) (greatest_name v)) third.0).1
-
 module _ (t : Tree) (d : ℕ) (w : IsWellFormed t) where
   pub sorted-at : is_sorted by_name (entries_at t d) ≡ true
   sorted-at = (entries-good t d w.each_node).0
@@ -182,7 +172,7 @@ module _ (t : Tree) (d : ℕ) (w : IsWellFormed t) where
           there = there.1;
           next = ap (λ o. next_name o (entries_at t d)) so_far.last_name ∙ next-at (entries_at t d) sorted-at i there.0 there.1;
           found = find-at (entries_at t d) sorted-at i there.0 there.1;
-          short = name-short t.version there.0.0 (all-get (λ (e : Bytes × ℕ). is_name t.version e.0) (entries_at t d) i there.0 named-at there.1);
+          short = name_length t.version there.0.0 (all-get (λ (e : Bytes × ℕ). is_name t.version e.0) (entries_at t d) i there.0 named-at there.1);
         },
       )
 

@@ -28,11 +28,12 @@ use Rattle.pv_laws_trees.proofs.Rooms.{preserved-no_larger, length-within, small
 use Rattle.pv_laws_trees.proofs.Trees.{sound, well_formed}
 use Rattle.pv_tree.specs.Holding.{HeldTree}
 use Rattle.pv_tree.specs.Present.{IsPresent}
+use Rattle.pv_dirs.proofs.Strides.{name_length}
 use Rattle.pv_image_write.specs.Placed.{lengthened, placed, written_at, named_need}
 use Rattle.pv_image_write.specs.Encoding.{contained, content_of, taken, taken_of, taken_before}
 use Rattle.pv_image_write.specs.Writable.{IsWritable, names_end}
 use Rattle.pv_image_write.proofs.Contents.{EachOf, HasShortName, length-contained}
-use Rattle.pv_image_write.proofs.Listed.{named-at, all-get, name-short}
+use Rattle.pv_image_write.proofs.Listed.{named-at, all-get}
 use Rattle.pv_image_write.proofs.NamedTrees.{preserved_numbers, covers, as_written-was, as_written-none, names-preserved}
 
 -- ---- numbers without nodes
@@ -252,7 +253,7 @@ module _ (h : HeldTree) (s : IsPresent h) (v : Version) (blocks inodes : ℕ) wh
     short-names n (directory_node es) at = λ i e is.
         let same : entries_at h.tree n ≡ es = ap entries_of at in
         let there = ap (λ (fs : Entries). slice_get fs i) same ∙ is in
-        let here = name-short h.tree.version e.0 (all-get (λ (f : Bytes × ℕ). is_name h.tree.version f.0) (entries_at h.tree n) i e (named-at h.tree n s.well_formed) there) in
+        let here = name_length h.tree.version e.0 (all-get (λ (f : Bytes × ℕ). is_name h.tree.version f.0) (entries_at h.tree n) i e (named-at h.tree n s.well_formed) there) in
         omega (arith, here, longer_names)
     short-names n (file_node executable bytes) at = tt
     short-names n (link_node text) at = tt

@@ -1,7 +1,7 @@
 -- Sequences of numbers, and numbers as bytes.
 use Rattle.std.proofs.Common.{◌≡◌, ℕ, zero, suc, ◌+◌, ◌-◌, ◌*◌, ◌/◌, ◌<◌, ◌≤◌, Bool, true, false, cond, ◌&&◌, ◌==◌, List, [], ◌∷◌, ◌++◌, length, take, drop, refl, ap, sym, ◌∙◌, arith}
 use Rattle.std.specs.Prelude.{filter, flat_map}
-use Rattle.std.specs.List.{AllByRecursion, IsDistinct, list_all, range_with_len}
+use Rattle.std.specs.List.{IsDistinct, list_all, range_with_len}
 use Rattle.std.proofs.lemmas.Bool.{ne_eqb}
 use Rattle.std.proofs.lemmas.Grind.{flat_map-append}
 use Rattle.std.proofs.lemmas.List.{take-take, drop-take, drop-drop}
@@ -10,6 +10,7 @@ use Rattle.std.proofs.lemmas.List.FromFn.{length-range_with_len}
 use Rattle.std.proofs.Math.Seq.{take-add}
 use Rattle.pv_model.specs.Bytes.{Bytes, little_endian}
 use Rattle.pv_model.specs.Image.{number_of, field, pointers, block}
+use Rattle.pv_laws_trees.proofs.Ranges.{each_in_range}
 use Rattle.pv_image_write.specs.Encoding.{encoded}
 
 pub range_with_len-add : (a m n : ℕ) → range_with_len a (m + n) ≡ range_with_len a m ++ range_with_len (a + m) n
@@ -23,14 +24,10 @@ range_with_len-add a (suc m) n =
     ap (range_with_len a) all ∙ ap (λ (ks : List ℕ). a ∷ ks) (range_with_len-add (a + 1) m n ∙ ap (λ k. range_with_len (a + 1) m ++ range_with_len k n) same)
 
 -- a property of each number of a sequence
-pub all-range : (P : ℕ → Type 0) (a n : ℕ) → ((k : ℕ) → a ≤ k → k < a + n → P k) → AllByRecursion P (range_with_len a n)
-all-range P a zero each = tt
-all-range P a (suc n) each = (each a (omega arith) (omega arith), all-range P (a + 1) n (λ k from below. each k (omega arith) (omega arith)))
-
 pub distinct-range : (a n : ℕ) → IsDistinct ◌==◌ (range_with_len a n)
 unfolding IsDistinct
 distinct-range a zero = tt
-distinct-range a (suc n) = (all-range (λ k. (a == k) ≡ false) (a + 1) n (λ k from below. ne_eqb a k (λ same. absurd (omega arith))), distinct-range (a + 1) n)
+distinct-range a (suc n) = (each_in_range (λ k. (a == k) ≡ false) (a + 1) n (λ k from below. ne_eqb a k (λ same. absurd (omega arith))), distinct-range (a + 1) n)
 
 -- a test of all bytes for the numbers of a sequence that pass another test
 pub list_all-picked : (f : ℕ → Bytes) (p test : ℕ → Bool) (a n : ℕ) → ((k : ℕ) → a ≤ k → k < a + n → test k ≡ true → list_all p (f k) ≡ true)

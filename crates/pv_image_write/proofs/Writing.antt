@@ -271,3 +271,7 @@ module _ (u : Tree) (w : IsWritable u) where
       let contents = padded (512 * u.blocks) (all_contents u u.inodes) in
       ap (λ (xs : Bytes). xs ++ contents) (with_table ∙ ap (λ k. first_block u.version k u.inodes ++ rows) whole)
       ∙ append_assoc (first_block u.version (first_data u.version u.inodes + u.blocks) u.inodes) rows contents
+
+-- the blocks of an image: the first, those of the table, and the others
+pub whole-image : (blocks table : ℕ) → table + 1 ≤ blocks → blocks ≡ table + 1 + (blocks - (table + 1))
+whole-image blocks table fits = omega arith

@@ -1,5 +1,5 @@
 -- One inode gets other contents, and the others do not change.
-use Rattle.std.proofs.Common.{◌≡◌, ℕ, zero, suc, ◌-◌, ◌/◌, ◌^◌, ◌<◌, ◌≤◌, ◌≢◌, List, length, get_or, set, Option, None, Some, IsSome, is_some, refl, sym, ap, ◌∙◌, inl, inr, arith}
+use Rattle.std.proofs.Common.{◌≡◌, ℕ, zero, suc, ◌-◌, ◌/◌, ◌^◌, ◌<◌, ◌≤◌, ◌≢◌, List, length, get_or, set, Option, Some, is_some, refl, sym, ap, ◌∙◌, inl, inr, arith}
 use Rattle.std.proofs.lemmas.Bool.{cases_eq, cases_lt, false≢true}
 use Rattle.pv_model.specs.declared.version.Version.{Version}
 use Rattle.pv_model.specs.Bytes.{Bytes}
@@ -11,6 +11,7 @@ use Rattle.pv_inodes.specs.Layout.{block_at, home, kind_at, size_at, pointer_at,
 use Rattle.pv_inodes.specs.Owning.{sum_over, changed, IsOwning}
 use Rattle.pv_inodes.specs.Sound.{IsShaped, IsSound, files_of, resized}
 use Rattle.pv_inodes.proofs.Contents.{SameNode, node_at-same, node_at-used, node_at-free, content_at-is, content_byte-same, nodes_in-set, at_number-nodes_in, at_number-nodes_in_zero, length-nodes_in, owned_count-used, owned_count-same, place_of-needed, room-nodes_in}
+use Rattle.pv_inodes.proofs.Edits.{some_is}
 use Rattle.pv_inodes.proofs.Heads.{SameHead, owned_at-same, index-is, size_at-with_size, kind_at-with_size, pointer_at-with_size, head-with_size, block_at-with_size, length-with_size, length-block_with_size}
 use Rattle.pv_inodes.proofs.Layouts.{home-below, greatest_length-small, pointer_of-few, index_of, IsContent}
 use Rattle.pv_inodes.proofs.Numbers.{at_number-within, with_number-set}
@@ -37,10 +38,6 @@ pub record UsedSlot (version : Version) (st : BlockStore) (inodes n : ℕ) : Typ
   pub slot : n ≡ suc (n - 1)
   pub below : n - 1 < inodes
   pub used : 0 < kind_at version st.blocks (n - 1)
-
-some_is : (o : Option Contained) → IsSome o → (c : Contained) × (o ≡ Some c)
-some_is None is = absurd (false≢true is)
-some_is (Some c) is = (c, refl)
 
 pub used_slot : (version : Version) (st : BlockStore) (inodes n : ℕ) → IsUsed (files_of version st inodes) n → UsedSlot version st inodes n
 used_slot version st inodes zero used =

@@ -12,9 +12,9 @@ use Rattle.pv_inodes.proofs.Bytes.{length-resize, resize-resize, length-overwrit
 use Rattle.pv_inodes.proofs.Contents.{need-mono}
 use Rattle.pv_inodes.proofs.Numbers.{sum_by-with_number, at_number-with_number_same, with_number-with_number, with_number-itself, without_number-with_number}
 
-some_is : (o : Option Contained) → IsSome o → (c : Contained) × (o ≡ Some c)
+pub some_is : {X : Type 0} (o : Option X) → IsSome o → (x : X) × (o ≡ Some x)
 some_is None is = absurd (false≢true is)
-some_is (Some c) is = (c, refl)
+some_is (Some x) is = (x, refl)
 
 pub with_bytes-is : (f : Files) (n : ℕ) (c : Contained) (xs : Bytes) → held f n ≡ Some c → with_bytes f n xs ≡ record f { nodes = with_number f.nodes n (record c { bytes = xs }) }
 with_bytes-is f n c xs there = ap (λ (o : Option Contained). replaced f n o xs) there

@@ -17,7 +17,6 @@ use Rattle.pv_inodes.specs.Sound.{IsSound, files_of, resized, patched, pushed}
 use Rattle.pv_inodes.proofs.Becoming.{Becomes, files_of-becomes, Ready, becomes-resized}
 use Rattle.pv_inodes.proofs.Growth.{ready_within, becomes_written, Extended, extended_once, extended_again, ready_extended, Reduced, ready_reduced}
 use Rattle.pv_inodes.proofs.InUse.{InUse, free_left}
-use Rattle.pv_inodes.proofs.Bytes.{length-resize_longer, length-resize_shorter}
 use Rattle.pv_inodes.proofs.Layouts.{index_of, need-wanted, wanted-is, wanted-most, place_of-is}
 use Rattle.pv_inodes.proofs.Edits.{blocks-with_bytes, total_room-in_version}
 
@@ -58,12 +57,6 @@ room_enough version st inodes f n s xs sound view used known allowed room =
     let old = need-wanted version (length (bytes_at f n)) (rw known.size at known.allowed) in
     let new = need-wanted version (length xs) allowed in
     omega (arith, free_left version st inodes f sound view, total_room-in_version f n xs version used known.same_version, blocks-with_bytes f n xs used, room, old, new)
-
-pub length-resize : (xs : Bytes) (v : ℕ) → length (resize xs v) ≡ v
-length-resize xs v = elim (cases_lt v (length xs)) [
-  | inl shorter ↦ length-resize_shorter xs v (omega arith)
-  | inr longer ↦ length-resize_longer xs v longer
-]
 
 -- the block that contents need after those that they fill
 pub wanted_next : (n v : ℕ) → n % 512 ≡ 0 → n < v → v ≤ n + 512 → wanted v ≡ suc (place_of (n / 512))

@@ -15,14 +15,10 @@ use Rattle.pv_model.specs.Walk.{split_slashes, components}
 use Rattle.pv_laws_grammar.proofs.EntryPaths.{is_manifest_path-IsEntryPath}
 use Rattle.pv_laws_states.specs.States.{is_byte, are_bytes, is_text_byte, has_bytes}
 use Rattle.pv_laws_trees.proofs.Entries.{list_all-filter}
+use Rattle.pv_laws_trees.proofs.Places.{list_all-weaker}
 use Rattle.pv_laws_runs.proofs.Ranges.{text-encoded}
 
 -- ---- bytes
-
-list_all-weaker : {X : Type 0} (p q : X → Bool) → ((x : X) → p x ≡ true → q x ≡ true) → (xs : List X) → list_all p xs ≡ true → list_all q xs ≡ true
-list_all-weaker p q weaker [] all = refl
-list_all-weaker p q weaker (x ∷ xs) all =
-    let parts = and_parts (p x) (list_all p xs) all in and_from (q x) (list_all q xs) (weaker x parts.0) (list_all-weaker p q weaker xs parts.1)
 
 text-bytes : (value word : Bytes) → EncodesText value word → are_bytes value ≡ true
 text-bytes value word is =

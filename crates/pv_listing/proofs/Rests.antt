@@ -3,6 +3,7 @@ use Rattle.std.proofs.Common.{◌≡◌, ℕ, ◌++◌, ◌∙◌, ap, ap₂, sy
 use Rattle.std.proofs.lemmas.List.{append-nil, take-append-drop}
 use Rattle.std.proofs.lemmas.Grind.{flat_map-append}
 use Rattle.pv_model.specs.Bytes.{Bytes}
+use Rattle.pv_model.specs.Trace.{quote_byte}
 use Rattle.pv_streams.specs.Sinks.{and_all, WritesPrefix}
 use Rattle.pv_streams.proofs.Sinks.{begins_whole}
 use Rattle.pv_streams.proofs.Reporting.{begins_first, begins_then, written_both, written_none}
@@ -51,3 +52,9 @@ pub components-split : (component : ℕ → Bytes) (text front following as_writ
 components-split component text front following as_written n first then is =
     ap (flat_map component) (sym (take-append-drop n text)) ∙ flat_map-append component (take n text) (drop n text)
     ∙ ap₂ (λ (a b : Bytes). a ++ flat_map component b) (sym (is ∙ ap (flat_map component) first)) (sym then)
+
+-- bytes that represent themselves, and then the others
+pub plain-split : (text front following : Bytes) (n : ℕ) → front ≡ take n text → following ≡ drop n text → flat_map quote_byte (take n text) ≡ take n text
+    → flat_map quote_byte text ≡ front ++ flat_map quote_byte following
+plain-split text front following n first then same =
+    components-split quote_byte text front following front n first then (first ∙ sym same ∙ ap (flat_map quote_byte) (sym first))

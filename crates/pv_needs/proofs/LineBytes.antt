@@ -12,7 +12,6 @@ use Rattle.pv_model.specs.declared.stream.Failed.{Failed}
 use Rattle.pv_model.specs.Answers.Lines.{AnswerLine, answer_bytes, answer_line, answer_line_bytes, counted_from, permissions_in_places}
 use Rattle.pv_model.specs.Bytes.{Bytes}
 use Rattle.pv_model.specs.Promise.{all_promises, promise_name}
-use Rattle.pv_model.specs.Trace.{text_line}
 use Rattle.pv_streams.specs.Sinks.{WritesPrefix, and_all}
 use Rattle.pv_streams.proofs.Reporting.{begins_first, begins_then, written_both}
 use Rattle.pv_needs.specs.declared.process_images.RecordedTarget.{RecordedTarget}
@@ -20,6 +19,7 @@ use Rattle.pv_needs.specs.declared.process_images.Times.{Times}
 use Rattle.pv_needs.specs.RecordedLines.{recorded_promise_lines, recorded_promises_lines, recorded_image_lines, recorded_target_lines, recorded_times_text}
 use Rattle.pv_needs.specs.ProcessImages.{RecordedImage}
 use Rattle.pv_answers.specs.Texts.{line_front}
+use Rattle.pv_answers.proofs.Locations.{one-line}
 
 -- the output of a text is the output of an equal text
 pub whole-as : (r : Result (Unit {0}) Failed) (before after : Option Bytes) (a b : Bytes) → a ≡ b → OnOk r (after ≡ and_all before a) → OnOk r (after ≡ and_all before b)
@@ -28,16 +28,12 @@ whole-as r before after a b same whole = subst (λ (bs : Bytes). OnOk r (after �
 pub begins-as : (r : Result (Unit {0}) Failed) (before after : Option Bytes) (a b : Bytes) → a ≡ b → OnErr r (WritesPrefix a before after) → OnErr r (WritesPrefix b before after)
 begins-as r before after a b same begins = subst (λ (bs : Bytes). OnErr r (WritesPrefix bs before after)) same begins
 
-pub line-bytes : (pid : ℕ) (word text : Bytes) → line_front pid word ++ text ++ 10 ∷ [] ≡ answer_line_bytes (answer_line pid word text)
-unfolding text_line
-line-bytes pid word text = refl
-
 -- the line of a promise that was needed
 pub promise-bytes : (pid : ℕ) (p : Promise) (times : Times) → (times.count ≡ 0 → ⊥)
     → line_front pid (codes "PLDG") ++ (promise_name p ++ recorded_times_text (codes "calls") times) ++ 10 ∷ [] ≡ answer_bytes (recorded_promise_lines pid p times)
 promise-bytes pid p times some =
     let line = answer_line pid (codes "PLDG") (promise_name p ++ recorded_times_text (codes "calls") times) in
-    line-bytes pid (codes "PLDG") (promise_name p ++ recorded_times_text (codes "calls") times) ∙ sym (append-nil (answer_line_bytes line))
+    one-line pid (codes "PLDG") (promise_name p ++ recorded_times_text (codes "calls") times) ∙ sym (append-nil (answer_line_bytes line))
     ∙ sym (ap (λ (b : Bool). answer_bytes (cond b [] (line ∷ []))) (ne_eqb times.count 0 some))
 
 -- the line of a target
@@ -46,7 +42,7 @@ pub target-bytes : (pid : ℕ) (target : RecordedTarget) (permissions : Perms) (
     ≡ answer_bytes (recorded_target_lines pid target)
 target-bytes pid target permissions words given named =
     ap₂ (λ (p : Perms) (w : Bytes). line_front pid (codes "UNVL") ++ (permissions_in_places p ++ codes ", " ++ w ++ recorded_times_text (codes "walks") target.times) ++ 10 ∷ []) given named
-    ∙ line-bytes pid (codes "UNVL") (permissions_in_places target.judged.permissions ++ codes ", " ++ target.judged.words ++ recorded_times_text (codes "walks") target.times)
+    ∙ one-line pid (codes "UNVL") (permissions_in_places target.judged.permissions ++ codes ", " ++ target.judged.words ++ recorded_times_text (codes "walks") target.times)
     ∙ sym (append-nil (answer_line_bytes (answer_line pid (codes "UNVL") (permissions_in_places target.judged.permissions ++ codes ", " ++ target.judged.words ++ recorded_times_text (codes "walks") target.times))))
 
 -- ---- lines in sequence
@@ -113,7 +109,7 @@ process_image-bytes pid k process_image counts targets given there =
     ap₂ (λ (cs : List Times) (ts : List RecordedTarget).
     ((line_front pid (codes "STNT") ++ decimal k ++ 10 ∷ []) ++ answer_bytes (recorded_promises_lines pid all_promises cs)) ++ answer_bytes (flat_map (recorded_target_lines pid) ts)) given there
     ∙ ap (λ (bs : Bytes). (bs ++ answer_bytes (recorded_promises_lines pid all_promises process_image.promises)) ++ answer_bytes (flat_map (recorded_target_lines pid) process_image.targets))
-    (line-bytes pid (codes "STNT") (decimal k))
+    (one-line pid (codes "STNT") (decimal k))
     ∙ sym (flat_map-append answer_line_bytes (answer_line pid (codes "STNT") (decimal k) ∷ recorded_promises_lines pid all_promises process_image.promises) (flat_map (recorded_target_lines pid) process_image.targets))
 
 -- numbering from 1 and from 0

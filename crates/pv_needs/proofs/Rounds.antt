@@ -3,8 +3,7 @@ use Rattle.std.proofs.Common.{◌≡◌, ◌∙◌, ℕ, ◌<◌, ◌≤◌, Boo
 use Rattle.std.specs.Prelude.{find as first_where}
 use Rattle.std.specs.FinMap.Entries.{below_all, find, is_sorted}
 use Rattle.std.specs.List.{filter, list_all}
-use Rattle.std.specs.Cmp.{nat_cmp_is, unsigned_ties}
-use Rattle.std.specs.declared.cmp.Ordering.TheVariants.{Equal, Greater}
+use Rattle.std.specs.Cmp.{unsigned_ties}
 use Rattle.std.specs.Ordering.{is_lt, nat_cmp}
 use Rattle.std.proofs.lemmas.Bool.{and_parts, eq-eqb, le-leb, leb-true, leb-false, le-ltb, lt-leb, lt-ltb, ltb-false, ltb-true}
 use Rattle.std.proofs.lemmas.List.Elements.{filter-append}
@@ -17,6 +16,7 @@ use Rattle.pv_model.specs.State.{Process, ProcessRecord, Program, State, ended_r
 use Rattle.pv_model.specs.Step.{step, step_of}
 use Rattle.pv_laws_states.specs.States.{AreProcesses, is_number}
 use Rattle.pv_laws_states.proofs.Members.{find_number_after}
+use Rattle.pv_procs.proofs.Forks.{number-less}
 use Rattle.pv_needs.specs.Turning.{first_between}
 
 -- ---- filters
@@ -40,28 +40,13 @@ first-append (x ∷ xs) ys = refl
 
 -- ---- ascending numbers
 
-less : (k n : ℕ) → is_lt (nat_cmp k n) ≡ true → k < n
-less k n is = by (nat_lt k n) refl
-  where
-    equal : (b : Bool) → nat_lt n k ≡ b → nat_lt k n ≡ false → ⊥
-    equal true more not = let greater = nat_cmp_is k n Greater (ltb-true n k more) in let same : is_lt Greater ≡ true = subst (λ o. is_lt o ≡ true) (sym greater) is in cc same
-    equal false more not =
-        let low = ltb-false k n not in
-        let high = ltb-false n k more in
-        let alike = nat_cmp_is k n Equal (omega (arith, low, high)) in
-        let same : is_lt Equal ≡ true = subst (λ o. is_lt o ≡ true) (sym alike) is in cc same
-
-    by : (b : Bool) → nat_lt k n ≡ b → k < n
-    by true less = ltb-true k n less
-    by false not = absurd (equal (nat_lt n k) refl not)
-
 abbrev AllAbove : ℕ → List (ℕ × ProcessRecord) → Type 0
 AllAbove k [] = Unit {0}
 AllAbove k (r ∷ rs) = (k < r.0) × AllAbove k rs
 
 all-above : (k : ℕ) (rs : List (ℕ × ProcessRecord)) → below_all nat_cmp k rs ≡ true → AllAbove k rs
 all-above k [] is = tt
-all-above k (r ∷ rs) is = let parts = and_parts (is_lt (nat_cmp k r.0)) (below_all nat_cmp k rs) is in (less k r.0 parts.0, all-above k rs parts.1)
+all-above k (r ∷ rs) is = let parts = and_parts (is_lt (nat_cmp k r.0)) (below_all nat_cmp k rs) is in (number-less k r.0 parts.0, all-above k rs parts.1)
 
 abbrev pub after_of : ℕ → List (ℕ × ProcessRecord) → Option ℕ
 after_of k rs = option_map (λ (r : ℕ × ProcessRecord). r.0) (first_where (λ (r : ℕ × ProcessRecord). nat_lt k r.0) rs)

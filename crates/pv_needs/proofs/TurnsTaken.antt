@@ -1,5 +1,5 @@
 -- Turns as the code makes them, step by step and process by process.
-use Rattle.std.proofs.Common.{◌≡◌, ◌∙◌, ℕ, suc, ◌+◌, ◌-◌, ◌<◌, ◌≤◌, Bool, true, false, cond, if◌then◌else◌, nat_le, length, Option, None, Some, is_some, refl, sym, ap, subst, arith}
+use Rattle.std.proofs.Common.{◌≡◌, ◌∙◌, ℕ, suc, ◌+◌, ◌-◌, ◌<◌, ◌≤◌, Bool, true, false, cond, if◌then◌else◌, nat_le, length, Option, None, Some, refl, sym, ap, subst, arith}
 use Rattle.std.specs.Prelude.{IsSome}
 use Rattle.std.specs.FinMap.Entries.{is_sorted}
 use Rattle.std.specs.Ordering.{nat_cmp}
@@ -164,10 +164,6 @@ module _ (most : ℕ) (s : State) where
   pub none-above : (o : Option ℕ) (made : Option (ℕ × ℕ)) (after : State) → made ≡ None → IsTaken most s o made after → (o ≡ None) × (after ≡ s)
   none-above None made after none taken = (refl, taken.1)
   none-above (Some pid) made after none (count, some, is) = cc (none, some)
-
-pub not-there : {X : Type 0} (o : Option X) → is_some o ≡ false → o ≡ None
-not-there None is = refl
-not-there (Some x) is = absurd (cc)
 
 pub taken-as : (n m : ℕ) (s after : State) (o : Option ℕ) (made same : Option (ℕ × ℕ)) → n ≡ m → made ≡ same → IsTaken n s o made after → IsTaken m s o same after
 taken-as n m s after o made same most is taken =

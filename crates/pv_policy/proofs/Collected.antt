@@ -6,6 +6,7 @@ use Rattle.std.specs.List.{AllByRecursion, list_any}
 use Rattle.std.specs.Option.{option_or}
 use Rattle.std.proofs.lemmas.Grind.{flat_map-append}
 use Rattle.std.proofs.lemmas.List.{map-append}
+use Rattle.std.proofs.lemmas.List.Elements.{filter_agree}
 use Rattle.std.proofs.lemmas.List.Folds.{flat_map-map, list_any-append}
 use Rattle.std.proofs.lemmas.List.Sums.{fold-append}
 use Rattle.std.proofs.lemmas.Simd.{map-map}
@@ -63,9 +64,9 @@ flat-same : {X : Type 0} (f g : X → Bytes) (xs : List X) → AllByRecursion (�
 flat-same f g [] same = refl
 flat-same f g (x ∷ xs) same = ap₂ (λ (a b : Bytes). a ++ b) same.0 (flat-same f g xs same.1)
 
-flat-alike : {X : Type 0} (f g : X → Bytes) → ((x : X) → f x ≡ g x) → (xs : List X) → flat_map f xs ≡ flat_map g xs
+pub flat-alike : {X Y : Type 0} (f g : X → List Y) → ((x : X) → f x ≡ g x) → (xs : List X) → flat_map f xs ≡ flat_map g xs
 flat-alike f g same [] = refl
-flat-alike f g same (x ∷ xs) = ap₂ (λ (a b : Bytes). a ++ b) (same x) (flat-alike f g same xs)
+flat-alike {Y = Y} f g same (x ∷ xs) = ap₂ (λ (a b : List Y). a ++ b) (same x) (flat-alike f g same xs)
 
 -- ---- promises
 
@@ -189,10 +190,6 @@ module _ (p : Promise) where
   alone-is (Calls.Rename path new) = sym (one-shape (same_as Cpath))
   alone-is _ = sym (one-shape (same_as Stdio))
 
-filter-same : {X : Type 0} (t u : X → Bool) → ((x : X) → t x ≡ u x) → (xs : List X) → filter t xs ≡ filter u xs
-filter-same t u same [] = refl
-filter-same {X = X} t u same (x ∷ xs) = ap₂ (λ b (ys : List X). cond b (x ∷ ys) ys) (same x) (filter-same t u same xs)
-
 filter-none : {X : Type 0} (t : X → Bool) → ((x : X) → t x ≡ false) → (xs : List X) → filter t xs ≡ []
 filter-none t none [] = refl
 filter-none {X = X} t none (x ∷ xs) = ap₂ (λ b (ys : List X). cond b (x ∷ ys) ys) (none x) (filter-none t none xs)
@@ -203,7 +200,7 @@ any-same t u same (x ∷ xs) = ap₂ (λ a b. a || b) (same x) (any-same t u sam
 
 module _ (rs : Requests) where
   with-alone : (p : Promise) → filter (alone_test p) rs ≡ with_need rs (p ∷ [])
-  with-alone p = filter-same (alone_test p) (λ r. has_need (p ∷ []) r.item.call) (λ r. alone-is p r.item.call) rs
+  with-alone p = filter_agree (alone_test p) (λ r. has_need (p ∷ []) r.item.call) (λ r. alone-is p r.item.call) rs
 
   lines-of : (need : Need) (text : Bytes) → text ≡ need_text need → (r : Observation Request)
       → need_bytes (noted r).by (noted r).pid text (noted r).line ≡ answer_bytes (need_lines rs need (Some r))

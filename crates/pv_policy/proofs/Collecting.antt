@@ -1,5 +1,5 @@
 -- The calls of the visited states are those of the definitions.
-use Rattle.std.proofs.Common.{◌≡◌, ◌⊎◌, ⊎_elim, ◌∙◌, refl, sym, subst, ap, ap₂, ℕ, zero, suc, ◌+◌, ◌<◌, ◌≤◌, add-one, List, [], ◌∷◌, ◌++◌, append_assoc, append-nil, length, get_or, take, map, flat_map, codes, slice_get, Option, None, Some, option_map}
+use Rattle.std.proofs.Common.{◌≡◌, ◌⊎◌, ⊎_elim, ◌∙◌, refl, sym, subst, ap, ℕ, zero, suc, ◌+◌, ◌<◌, ◌≤◌, add-one, List, [], ◌∷◌, ◌++◌, append_assoc, append-nil, length, get_or, take, map, flat_map, codes, slice_get, Option, None, Some, option_map}
 use Rattle.std.proofs.lemmas.List.{map-append}
 use Rattle.std.proofs.lemmas.List.Folds.{flat_map-map}
 use Rattle.std.proofs.lemmas.List.Sums.{fold-append}
@@ -20,7 +20,7 @@ use Rattle.pv_model.specs.Tree.{Tree}
 use Rattle.pv_policy.specs.Collecting.{calls_at, calls_of, calls_of_process, visited_bytes}
 use Rattle.pv_policy.specs.Groups.{and_one}
 use Rattle.pv_policy.specs.Usage.{Noted, Usage, and_calls, noted, noted_by, noted_key, request_of, unused_by, usage_bytes, usage_key, usage_more}
-use Rattle.pv_policy.proofs.Collected.{policy-bytes}
+use Rattle.pv_policy.proofs.Collected.{flat-alike, policy-bytes}
 use Rattle.pv_policy.proofs.Nexts.{flat-all, flat-next}
 use Rattle.pv_procs.specs.declared.processes.Fetched.{Fetched}
 use Rattle.pv_procs.specs.declared.processes.Fetched.TheVariants.{Gone, Register}
@@ -30,10 +30,6 @@ module _ {X Y Z : Type 0} (f : Y → Z) (g : X → List Y) where
   map-flat : (xs : List X) → map f (flat_map g xs) ≡ flat_map (λ x. map f (g x)) xs
   map-flat [] = refl
   map-flat (x ∷ xs) = map-append f (g x) (flat_map g xs) ∙ ap (λ (zs : List Z). map f (g x) ++ zs) (map-flat xs)
-
-flat-same : {X Y : Type 0} (f g : X → List Y) → ((x : X) → f x ≡ g x) → (xs : List X) → flat_map f xs ≡ flat_map g xs
-flat-same f g same [] = refl
-flat-same {X = X} {Y = Y} f g same (x ∷ xs) = ap₂ (λ (a b : List Y). a ++ b) (same x) (flat-same f g same xs)
 
 calls-of : (f : Found) → map noted (observations_at (of_calls (request program_of)) program_of f) ≡ calls_of f
 calls-of f =
@@ -45,7 +41,7 @@ calls-of f =
 pub calls-of-search : (limit : ℕ) (s : State) → map noted (requests program_of limit s) ≡ flat_map calls_of (states_found program_of limit s)
 calls-of-search limit s =
     map-flat noted (observations_at (of_calls (request program_of)) program_of) (states_found program_of limit s)
-    ∙ flat-same (λ f. map noted (observations_at (of_calls (request program_of)) program_of f)) calls_of calls-of (states_found program_of limit s)
+    ∙ flat-alike (λ f. map noted (observations_at (of_calls (request program_of)) program_of f)) calls_of calls-of (states_found program_of limit s)
 
 -- ---- the next step of a process
 

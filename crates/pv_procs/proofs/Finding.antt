@@ -16,6 +16,7 @@ use Rattle.std.proofs.lemmas.List.Quantifiers.{position-Some}
 use Rattle.std.proofs.lemmas.List.Sums.{prefix_len-le-length}
 use Rattle.pv_model.specs.State.{Program, Process, ProcessRecord, live, live_process}
 use Rattle.pv_model.specs.Calls.Processes.{parent_of}
+use Rattle.pv_files.proofs.Seen.{past}
 use Rattle.pv_procs.specs.declared.slot.ProcessSlot.{ProcessSlot}
 use Rattle.pv_procs.specs.declared.shared.Shared.{Shared}
 use Rattle.pv_procs.specs.Slots.{process_of, entry_by, entry_of, entries_of, is_above, ascends, program_at, table_of}
@@ -52,9 +53,6 @@ greater q n more = ap₂ (λ a b. cond a Less (cond b Equal Greater)) (le-ltb q 
 
 pub equal : (q n : ℕ) → q ≡ n → nat_cmp q n ≡ Equal
 equal q n same = subst (λ m. nat_cmp q m ≡ Equal) same (tied_itself nat_cmp_total q)
-
-past : (n m : ℕ) → n ≤ m → cond (nat_lt n m) (Some n) None ≡ None → n ≡ m
-past n m within none = grind (arith, nat_tests)
 
 module _ (programs : List Shared) where
   pub find-at : (slots : List ProcessSlot) (pid k : ℕ) (slot : ProcessSlot) → ascends slots ≡ true → IsAt slots pid k slot

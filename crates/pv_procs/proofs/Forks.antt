@@ -5,7 +5,7 @@ use Rattle.std.specs.List.{list_all}
 use Rattle.std.specs.Ordering.{nat_cmp, is_lt}
 use Rattle.std.specs.declared.cmp.Ordering.TheVariants.{Less, Equal, Greater}
 use Rattle.std.proofs.Math.ListN.{length-map}
-use Rattle.std.proofs.lemmas.Bool.{and_parts, and_from, or_left, or_right, cases_eq, eq-eqb, ne_eqb, leb-true, lt-ltb, le-ltb, le-leb, lt-leb}
+use Rattle.std.proofs.lemmas.Bool.{and_parts, and_from, or_left, or_right, cases_eq, eq-eqb, ne_eqb, leb-true, lt-ltb, le-ltb, le-leb, lt-leb, ltb-true}
 use Rattle.std.proofs.lemmas.List.Folds.{list_all-append}
 use Rattle.std.proofs.lemmas.List.Sums.{count_by-le-length}
 use Rattle.pv_model.specs.declared.errno.Errno.TheVariants.{EAGAIN}
@@ -20,7 +20,7 @@ use Rattle.pv_procs.specs.declared.shared.Shared.{Shared}
 use Rattle.pv_procs.specs.Children.{child_slot}
 use Rattle.pv_procs.specs.Slots.{IsConsistent, IsRoomy, process_of, entry_of, entries_of, is_above, ascends, is_numbered, uses, users_at, program_at, table_of}
 use Rattle.pv_procs.specs.ProcessTable.{ProcessTable, IsProcessTable, state_with, process_in}
-use Rattle.pv_procs.proofs.Finding.{IsAt}
+use Rattle.pv_procs.proofs.Finding.{IsAt, greater}
 use Rattle.pv_procs.proofs.Keeping.{bit, count_by-cons, list_all-at}
 use Rattle.pv_procs.proofs.Ends.{same-entries}
 
@@ -32,6 +32,9 @@ less-is x y =
       | true ↦ refl
       | false ↦ elim (x == y) as (λ b. is_lt (cond b Equal Greater) ≡ false) [ true ↦ refl | false ↦ refl ]
     ]
+
+pub number-less : (a b : ℕ) → is_lt (nat_cmp a b) ≡ true → a < b
+number-less a b is = ltb-true a b (sym (less-is a b) ∙ is)
 
 below-is : (programs : List Shared) (n : ℕ) (slots : List ProcessSlot) → below_all nat_cmp n (entries_of programs slots) ≡ list_all (is_above n) slots
 below-is programs n [] = refl
@@ -86,9 +89,6 @@ count-append p (x ∷ xs) y =
     let after = count_by-cons p x (xs ++ y ∷ []) in
     let before = count_by-cons p x xs in
     let e : count_by p (x ∷ xs ++ y ∷ []) ≡ count_by p (x ∷ xs) + bit (p y) = omega (arith, rest, after, before) in e
-
-greater : (q n : ℕ) → n < q → nat_cmp q n ≡ Greater
-greater q n more = ap₂ (λ a b. cond a Less (cond b Equal Greater)) (le-ltb q n (omega arith)) (ne_eqb q n (λ same. absurd (omega arith)))
 
 put-append : (programs : List Shared) (slots : List ProcessSlot) (new : ProcessSlot) (last : ℕ) → list_all (is_numbered last) slots ≡ true → last < new.number
     → entries_of programs (slots ++ new ∷ []) ≡ put nat_cmp new.number (entry_of programs new) (entries_of programs slots)

@@ -10,6 +10,7 @@ use Rattle.std.proofs.lemmas.List.Quantifiers.{position-Some}
 use Rattle.std.proofs.lemmas.List.Sums.{count_by-le-length, prefix_len-le-length}
 use Rattle.pv_model.specs.Calls.Processes.{with_program}
 use Rattle.pv_model.specs.State.{Program, ProcessRecord, live, State}
+use Rattle.pv_files.proofs.Seen.{past}
 use Rattle.pv_procs.specs.declared.slot.ProcessSlot.{ProcessSlot}
 use Rattle.pv_procs.specs.declared.shared.Shared.{Shared}
 use Rattle.pv_procs.specs.Parts.{after_exec, first_record}
@@ -37,9 +38,6 @@ slice_get-set_other (x ∷ xs) (suc k) (suc j) y other = slice_get-set_other xs 
 
 abbrev pub has_user : Shared → Bool
 has_user s = s.users == 0
-
-past : (n m : ℕ) → n ≤ m → cond (nat_lt n m) (Some n) None ≡ None → n ≡ m
-past n m within none = grind (arith, nat_tests)
 
 all-used : (programs : List Shared) (j : ℕ) → position_or_len has_user programs ≡ length programs → j < length programs → 0 < users_at programs j
 all-used [] j is within = absurd (omega arith)

@@ -1,12 +1,11 @@
 -- A child that is waited for, on the slots.
-use Rattle.std.proofs.Common.{◌≡◌, ℕ, zero, suc, ◌+◌, ◌<◌, ◌≤◌, Bool, true, false, cond, not, ◌&&◌, ◌||◌, ◌==◌, nat_lt, List, [], ◌∷◌, filter, length, count_by, position, Option, None, Some, is_none, is_some, refl, sym, ap, ap₂, subst, ◌∙◌, arith}
+use Rattle.std.proofs.Common.{◌≡◌, ℕ, zero, suc, ◌+◌, ◌<◌, Bool, true, false, cond, not, ◌&&◌, ◌||◌, ◌==◌, nat_lt, List, [], ◌∷◌, filter, length, count_by, position, Option, None, Some, is_none, is_some, refl, sym, ap, ap₂, subst, ◌∙◌, arith}
 use Rattle.std.specs.FinMap.Entries.{where_key}
 use Rattle.std.specs.Prelude.{◌↔◌, IsTrue}
 use Rattle.std.specs.List.{list_all, list_any, remove, position_or_len, prefix_len}
 use Rattle.std.specs.Ordering.{nat_cmp}
 use Rattle.std.proofs.Math.ListN.{get_or}
 use Rattle.std.proofs.lemmas.Bool.{and_parts, and_from, eq-eqb, ne_eqb, ltb-true}
-use Rattle.std.proofs.lemmas.Bool.Decides.{nat_tests}
 use Rattle.std.proofs.lemmas.List.Quantifiers.{position-Some}
 use Rattle.std.proofs.lemmas.List.Sums.{prefix_len-le-length}
 use Rattle.pv_model.specs.declared.errno.Errno.TheVariants.{ECHILD}
@@ -17,6 +16,7 @@ use Rattle.pv_model.specs.Effect.{Effect, Reply, returns_bytes, waits, answers_b
 use Rattle.pv_model.specs.Numbered.{Numbered}
 use Rattle.pv_model.specs.State.{OpenFile, Process, ProcessRecord, State}
 use Rattle.pv_model.specs.Tree.{Tree}
+use Rattle.pv_files.proofs.Seen.{past}
 use Rattle.pv_procs.specs.declared.slot.ProcessSlot.{ProcessSlot}
 use Rattle.pv_procs.specs.declared.shared.Shared.{Shared}
 use Rattle.pv_procs.specs.declared.processes.Reap.TheVariants.{Child, Blocked, NoChild}
@@ -25,9 +25,6 @@ use Rattle.pv_procs.specs.ProcessTable.{ProcessTable, state_with}
 use Rattle.pv_procs.specs.Reaping.{waited}
 use Rattle.pv_procs.proofs.Finding.{parent-entry, above_at}
 use Rattle.pv_procs.proofs.Keeping.{bit, count_by-cons}
-
-past : (n m : ℕ) → n ≤ m → cond (nat_lt n m) (Some n) None ≡ None → n ≡ m
-past n m within none = grind (arith, nat_tests)
 
 -- ---- children
 

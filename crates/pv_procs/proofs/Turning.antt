@@ -3,6 +3,7 @@ use Rattle.std.proofs.Common.{◌≡◌, ℕ, zero, suc, ◌<◌, ◌==◌, cond
 use Rattle.std.proofs.Math.ListN.{get_or, set}
 use Rattle.std.proofs.lemmas.Cmp.{nat_cmp_total}
 use Rattle.std.proofs.lemmas.List.{set-get_or}
+use Rattle.std.proofs.lemmas.Option.{same_Some}
 use Rattle.std.specs.Cmp.{tied_itself}
 use Rattle.std.specs.FinMap.Entries.{find, find-put}
 use Rattle.std.specs.List.{HoldsAt}
@@ -108,9 +109,6 @@ module _ (slots : List ProcessSlot) (programs : List Shared) (last : ℕ) (ps : 
 
 -- ---- the next step, from the record of a process and its program
 
-some-is : {X : Type 0} {x y : X} → Some x ≡ Some y → x ≡ y
-some-is {X} {x} {y} is = cc is
-
 pub gone-by : (o : Option Process) → option_map record_of o ≡ None → o ≡ None
 gone-by None is = refl
 gone-by (Some me) is = absurd cc
@@ -124,8 +122,8 @@ module _ (r : ProcessRecord) (program : Program) where
       → ((p : Process) → next (in_context p program r.context) ≡ calls_for (call_of call)) → CallsNext call o
   fetched-call None is own call comes = absurd cc
   fetched-call (Some me) is own call comes =
-      let context : context_of me ≡ r.context = ap (λ (x : ProcessRecord). x.context) (some-is is) in
-      let instructions : me.program ≡ program = some-is own in (
+      let context : context_of me ≡ r.context = ap (λ (x : ProcessRecord). x.context) (same_Some _ _ is) in
+      let instructions : me.program ≡ program = same_Some _ _ own in (
         me,
         refl,
         subst (λ (i : Program). next (in_context me i (context_of me)) ≡ calls_for (call_of call)) (sym instructions)
@@ -136,6 +134,6 @@ module _ (r : ProcessRecord) (program : Program) where
       → is_inside program r.context ≡ true → RegisterNext o
   fetched-register None is own comes = absurd cc
   fetched-register (Some me) is own comes =
-      let context : context_of me ≡ r.context = ap (λ (x : ProcessRecord). x.context) (some-is is) in
-      let instructions : me.program ≡ program = some-is own in
+      let context : context_of me ≡ r.context = ap (λ (x : ProcessRecord). x.context) (same_Some _ _ is) in
+      let instructions : me.program ≡ program = same_Some _ _ own in
       (me, refl, subst (λ (i : Program). is_inside i (context_of me) ≡ true) (sym instructions) (subst (λ (m : Context). is_inside program m ≡ true) (sym context) comes))

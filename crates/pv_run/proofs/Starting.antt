@@ -1,5 +1,5 @@
 -- The input of a run, check by check.
-use Rattle.std.proofs.Common.{◌≡◌, ◌∙◌, ap, sym, refl, ℕ, ◌-◌, take, drop, length, arith, Result, Ok, Err, IfErr, List, ◌⊎◌, inl, inr}
+use Rattle.std.proofs.Common.{◌≡◌, ◌∙◌, ap, sym, refl, ℕ, ◌-◌, take, drop, length, Result, Ok, Err, IfErr, List, ◌⊎◌, inl, inr}
 use Rattle.pv_model.specs.declared.fault.ManifestFault.{ManifestFault}
 use Rattle.pv_model.specs.declared.fault.ManifestFault.TheVariants.{Form, Size, Parent, Exists, Source, Room, Memory as ManifestMemory}
 use Rattle.pv_model.specs.declared.fault.ImageFault.{ImageFault}
@@ -24,9 +24,9 @@ use Rattle.pv_image_manifest.specs.declared.manifest.Manifest.{Manifest as Parse
 use Rattle.pv_laws_states.specs.States.{IsFirstTree}
 use Rattle.pv_script.specs.Reading.{RefusesSchedule}
 use Rattle.pv_tree.specs.Present.{IsAtRest}
+use Rattle.pv_streams.proofs.Sinks.{rest_of_slice}
 use Rattle.pv_run.specs.Images.{IsImageFault}
 use Rattle.pv_run.specs.Run.{RefusesStart, IsFaultOnTree, IsStartFault}
-use Rattle.std.proofs.lemmas.List.{take_all, length-drop}
 
 -- ---- the checks of a run on a tree: its schedule, and then the first program
 
@@ -124,14 +124,11 @@ unfolding read_schedule
 schedule_of_text text = refl
 
 -- the text after an index is the rest of the text
-pub rest-all : (text : Bytes) (n : ℕ) → take (length text - n) (drop n text) ≡ drop n text
-rest-all text n = take_all (length text - n) (drop n text) (omega (arith, length-drop n text))
-
 -- the run of a bundle is the run on its manifest's tree under the schedule text in the bundle
 pub bundle_on : (bytes : Bytes) (m : ParsedManifest) (at : ℕ) (t : Tree) → read_bundle bytes ≡ Ok (manifest_before m (lines_of (drop at bytes)))
     → tree_of (manifest_before m (lines_of (drop at bytes))) ≡ Ok t → started_on t (lines_of (take (length bytes - at) (drop at bytes))) ≡ bundle_started bytes
 bundle_on bytes m at t asked made =
-    ap (λ (text : Bytes). started_on t (lines_of text)) (rest-all bytes at) ∙ sym (on_tree bytes (manifest_before m (lines_of (drop at bytes))) asked t made)
+    ap (λ (text : Bytes). started_on t (lines_of text)) (rest_of_slice bytes at) ∙ sym (on_tree bytes (manifest_before m (lines_of (drop at bytes))) asked t made)
 
 -- ---- the checks of an image: its tree, and then the run on it
 

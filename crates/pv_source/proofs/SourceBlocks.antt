@@ -1,6 +1,6 @@
 -- The blocks of a source.
-use Rattle.std.proofs.Common.{◌≡◌, ◌∙◌, ap, ℕ, zero, suc, ◌+◌, ◌<◌, Bool, true, false, List, [], ◌∷◌, length, drop, Option, None, Some, refl, sym, inl, inr, min, arith}
-use Rattle.std.specs.Prelude.{codes, bytes_eq, not, nat_le, option_map}
+use Rattle.std.proofs.Common.{◌≡◌, ◌∙◌, ap, ℕ, zero, suc, ◌+◌, ◌<◌, true, false, List, [], ◌∷◌, length, drop, Option, None, Some, refl, sym, inl, inr, min, arith}
+use Rattle.std.specs.Prelude.{codes, bytes_eq, nat_le, option_map}
 use Rattle.std.proofs.lemmas.Bool.{cases_lt, le-leb, lt-leb}
 use Rattle.pv_model.specs.Bytes.{Bytes}
 use Rattle.pv_model.specs.Grammar.Lines.{lines_of}
@@ -12,14 +12,6 @@ use Rattle.pv_source.specs.ReadBlocks.{block_of, Reads}
 use Rattle.pv_model.specs.Source.Blocks.{Block, single, program, taken, schedule, lines_up_to, exec_by, exec_block, or_cut_off, blocks_at, blocks_from}
 use Rattle.pv_model.specs.Source.Words.{NumberedLine, NumberedWords, words_of}
 use Rattle.pv_source.proofs.SourceLines.{length-counted}
-
-pub not_true : (t : Bool) → not t ≡ true → t ≡ false
-not_true true is = cc
-not_true false is = refl
-
-pub not_false : (t : Bool) → not t ≡ false → t ≡ true
-not_false true is = refl
-not_false false is = cc
 
 -- lines that belong to the previous block are skipped
 pub blocks_skip : (lines : List NumberedLine) (k : ℕ) → blocks_from lines k ≡ blocks_from (drop k lines) 0

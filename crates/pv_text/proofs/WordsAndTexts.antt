@@ -2,7 +2,7 @@
 use Rattle.std.proofs.Common.{◌≡◌, ◌∙◌, ap, ℕ, zero, suc, ◌+◌, ◌-◌, ◌*◌, ◌≤◌, ◌<◌, Bool, true, false, not, cond, eqb, leb, min, [], ◌∷◌, ◌++◌, length, get_or, take, drop, Option, None, Some, refl, sym, inl, inr, arith, append_assoc, negsuc}
 use Rattle.std.specs.Prelude.{◌==◌, ◌&&◌, ◌||◌, nat_le, option_map}
 use Rattle.std.specs.List.{list_all, position_or_len}
-use Rattle.std.proofs.lemmas.Bool.{cases_lt, lt-leb, le-leb, ne_eqb, eq-eqb}
+use Rattle.std.proofs.lemmas.Bool.{cases_lt, lt-leb, le-leb, ne_eqb, eq-eqb, not-false}
 use Rattle.std.proofs.lemmas.List.{length-append, append-nil, drop_more, drop_all, take_all}
 use Rattle.std.proofs.lemmas.Bool.Decides.{eqb_tells}
 use Rattle.std.proofs.lemmas.List.Sums.{fails_before_first}
@@ -66,15 +66,11 @@ IsFront-plain (suc n) (b ∷ bs) within plain =
     ∙ ap (onto_text b) (IsFront-plain n bs (omega arith) (λ k below. plain (suc k) (omega arith)))
     ∙ sym (plain_step b bs (plain 0 (omega arith)))
 
-not_false : (b : Bool) → not b ≡ false → b ≡ true
-not_false true e = refl
-not_false false e = absurd cc
-
 -- this holds for the bytes before the first that does not represent itself
 pub IsFront-split : (bs : Bytes) (end : ℕ) → end ≡ position_or_len (λ b. not (is_plain b)) bs → IsFront (take end bs) (drop end bs) bs
 IsFront-split bs end is =
     IsFront-plain end bs (omega (arith, is, position_or_len-within (λ b. not (is_plain b)) bs))
-    (λ k below. not_false (is_plain (get_or bs k 0)) (fails_before_first (λ b. not (is_plain b)) bs k 0 (omega (arith, is))))
+    (λ k below. not-false (is_plain (get_or bs k 0)) (fails_before_first (λ b. not (is_plain b)) bs k 0 (omega (arith, is))))
 
 past_limit : (front : Bytes) (b : ℕ) (parsed : Parsed Bytes) → length front ≡ 1100 → if_short (onto_front front (onto_text b parsed)) ≡ None
 past_limit front b None full = refl

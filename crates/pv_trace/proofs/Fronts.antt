@@ -5,18 +5,10 @@ use Rattle.std.specs.List.{position, position_or_len, list_all}
 use Rattle.std.proofs.Math.Seq.{take-add}
 use Rattle.std.proofs.lemmas.Grind.{flat_map-append}
 use Rattle.std.proofs.lemmas.List.{drop-drop}
-use Rattle.std.proofs.lemmas.Bool.{cases_lt, lt-ltb, le-ltb}
+use Rattle.std.proofs.lemmas.Bool.{cases_lt, lt-ltb, le-ltb, not-true, not-false, and_parts}
 use Rattle.std.proofs.lemmas.List.Sums.{fails_before_first, passes_at_first, prefix_len-le-length}
 use Rattle.pv_model.specs.Bytes.{Bytes}
 use Rattle.pv_model.specs.Trace.{is_plain, hex_byte, quote_byte}
-
-is_true : (b : Bool) → not b ≡ false → b ≡ true
-is_true true is = refl
-is_true false is = absurd cc is
-
-is_false : (b : Bool) → not b ≡ true → b ≡ false
-is_false true is = absurd cc is
-is_false false is = refl
 
 -- bytes that represent themselves are quoted unchanged
 quoted_same : (bs : Bytes) (n : ℕ) → ((k : ℕ) → k < n → not (is_plain (get_or bs k 0)) ≡ false) → flat_map quote_byte (take n bs) ≡ take n bs
@@ -24,7 +16,7 @@ quoted_same [] zero plain = refl
 quoted_same [] (suc n) plain = refl
 quoted_same (b ∷ bs) zero plain = refl
 quoted_same (b ∷ bs) (suc n) plain =
-    ap₂ (λ (p : Bool) (rest : Bytes). cond p (b ∷ []) (codes "\\x" ++ hex_byte b) ++ rest) (is_true (is_plain b) (plain 0 (omega arith)))
+    ap₂ (λ (p : Bool) (rest : Bytes). cond p (b ∷ []) (codes "\\x" ++ hex_byte b) ++ rest) (not-false (is_plain b) (plain 0 (omega arith)))
     (quoted_same bs n (λ k less. plain (suc k) (omega (arith, less))))
 
 or_length : (n m : ℕ) → n ≤ m → unwrap_or (cond (ltb n m) (Some n) None) m ≡ n
@@ -48,17 +40,13 @@ module _ (bs : Bytes) (count : ℕ) (is : count ≡ unwrap_or (position (λ b. n
   front_same = quoted_same bs count (λ k less. fails_before_first (λ b. not (is_plain b)) bs k 0 (omega (arith, at_first, less)))
 
   pub front_ends : count < length bs → is_plain (get_or bs count 0) ≡ false
-  front_ends more = rw at_first (is_false _ (passes_at_first (λ b. not (is_plain b)) bs 0 (omega (arith, at_first, more))))
-
-both_are : (a b : Bool) → (a && b) ≡ true → (a ≡ true) × (b ≡ true)
-both_are true b is = (refl, is)
-both_are false b is = absurd cc is
+  front_ends more = rw at_first (not-true _ (passes_at_first (λ b. not (is_plain b)) bs 0 (omega (arith, at_first, more))))
 
 -- the same if the bytes are tested together
 all_same : (bs : Bytes) → list_all is_plain bs ≡ true → flat_map quote_byte bs ≡ bs
 all_same [] plain = refl
 all_same (b ∷ bs) plain =
-    let both : (is_plain b ≡ true) × (list_all is_plain bs ≡ true) = both_are (is_plain b) (list_all is_plain bs) plain in
+    let both : (is_plain b ≡ true) × (list_all is_plain bs ≡ true) = and_parts (is_plain b) (list_all is_plain bs) plain in
     ap₂ (λ (p : Bool) (rest : Bytes). cond p (b ∷ []) (codes "\\x" ++ hex_byte b) ++ rest) both.0 (all_same bs both.1)
 
 -- the rest of a text

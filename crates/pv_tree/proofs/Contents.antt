@@ -24,6 +24,7 @@ use Rattle.pv_laws_trees.proofs.Encoded.{bytes-with_node, bytes-overwrite, bytes
 use Rattle.pv_laws_trees.proofs.Numbered.{at_number-below, length-with_number}
 use Rattle.pv_laws_trees.proofs.Rooms.{too_long-at, length-within}
 use Rattle.pv_laws_trees.proofs.Trees.{sound, well_formed}
+use Rattle.pv_inodes.proofs.Bytes.{length-resize}
 use Rattle.pv_tree.specs.Changes.{overwritten, resized}
 use Rattle.pv_tree.specs.Rooms.{refusal}
 use Rattle.pv_tree.specs.Present.{stored, IsCounted, IsTied}
@@ -51,9 +52,6 @@ cut-file t f size x old is = ap (λ o. replaced t f o (resize (content_of o) siz
 
 length-overwrite : (old : Bytes) (at : ℕ) (new : Bytes) → length (overwrite old at new) ≡ (at + length new) + (length old - (at + length new))
 length-overwrite old at new = simp (length-append, length-take, length-append, length-replicate, length-drop) (omega arith)
-
-length-resize : (old : Bytes) (n : ℕ) → length (resize old n) ≡ n
-length-resize old n = simp (length-append, length-take, length-replicate) (omega arith)
 
 -- ---- other bytes in a file
 

@@ -2,7 +2,7 @@
 use Rattle.std.proofs.Common.{◌≡◌, ℕ, ◌*◌, ◌<◌, Bool, true, ◌&&◌, List, [], ◌∷◌, ◌++◌, length, take, drop, refl, ap, sym, ◌∙◌, inl, inr, arith}
 use Rattle.std.specs.Prelude.{slice_index}
 use Rattle.std.specs.List.{list_all, flat_map}
-use Rattle.std.proofs.lemmas.Bool.{cases_lt, and_parts}
+use Rattle.std.proofs.lemmas.Bool.{cases_lt, and_parts, and_from}
 use Rattle.std.proofs.lemmas.List.{get_or_past}
 use Rattle.std.proofs.lemmas.List.Folds.{list_all-append}
 use Rattle.std.proofs.lemmas.List.Elements.{All-drop, All-take}
@@ -23,11 +23,8 @@ bytes-within bytes each = bytes-all bytes (λ i. elim (cases_lt i (length bytes)
   | inr past ↦ let none : slice_index bytes i ≡ 0 = get_or_past bytes i 0 past in omega arith
 ])
 
-and_both : (a b : Bool) → a ≡ true → b ≡ true → (a && b) ≡ true
-and_both a b left right = ap (λ x. x && b) left ∙ right
-
 bytes_append : (xs ys : Bytes) → are_bytes xs ≡ true → are_bytes ys ≡ true → are_bytes (xs ++ ys) ≡ true
-bytes_append xs ys left right = list_all-append is_byte xs ys ∙ and_both (are_bytes xs) (are_bytes ys) left right
+bytes_append xs ys left right = list_all-append is_byte xs ys ∙ and_from (are_bytes xs) (are_bytes ys) left right
 
 append_parts : (xs ys : Bytes) → are_bytes (xs ++ ys) ≡ true → (are_bytes xs ≡ true) × (are_bytes ys ≡ true)
 append_parts xs ys all = and_parts (are_bytes xs) (are_bytes ys) (sym (list_all-append is_byte xs ys) ∙ all)
@@ -60,7 +57,7 @@ bytes_slots : (v : Version) (bytes : Bytes) (es : Entries) → AreSlots v bytes 
 bytes_slots v _ _ no_slot all = refl
 bytes_slots v _ _ (one_more slot rest name n others is more) all =
     let parts = append_parts slot rest all in
-    and_both (are_bytes name) (list_all (λ e. are_bytes e.0) others) (bytes_slot v slot name n is parts.0) (bytes_slots v rest others more parts.1)
+    and_from (are_bytes name) (list_all (λ e. are_bytes e.0) others) (bytes_slot v slot name n is parts.0) (bytes_slots v rest others more parts.1)
 
 bytes_node : (v : Version) (bytes : Bytes) (n : ℕ) (node : Node) → HasContent v bytes n node → are_bytes (content v bytes n) ≡ true → has_bytes node ≡ true
 bytes_node v bytes n (directory_node es) has all =

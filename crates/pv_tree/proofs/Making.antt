@@ -45,7 +45,7 @@ always (Err why) p = tt
 
 -- ---- the contents of a new node
 
-overwrite-none : (new : Bytes) → overwrite [] 0 new ≡ new
+pub overwrite-none : (new : Bytes) → overwrite [] 0 new ≡ new
 overwrite-none new = ap (λ r. new ++ r) (drop-none (0 + length new)) ∙ append-nil new
   where
     drop-none : (n : ℕ) → drop {A = ℕ} n [] ≡ []

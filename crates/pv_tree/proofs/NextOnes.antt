@@ -1,13 +1,13 @@
 -- From one name to the next, from directory to directory.
 use Rattle.std.proofs.Common.{◌≡◌, ℕ, ◌+◌, ◌<◌, ◌≤◌, true, false, length, Option, None, Some, refl, ap, sym, subst, ◌∙◌, ◌⊎◌, ⊎_elim, inl, inr, arith}
-use Rattle.std.proofs.lemmas.Bool.{cases_lt, false_from_ne_true}
+use Rattle.std.proofs.lemmas.Bool.{cases_lt, false_from_ne_true, cases_Bool}
 use Rattle.pv_model.specs.Bytes.{Bytes}
 use Rattle.pv_model.specs.Calls.Descriptors.{is_past}
 use Rattle.pv_model.specs.Tree.{Tree, find_entry, is_directory_at}
 use Rattle.pv_laws_trees.proofs.Changes.{has_entry-directory, directory-below}
 use Rattle.pv_dirs.specs.Listing.{IsNextNameOf}
 use Rattle.pv_tree.specs.NodeNames.{is_after, IsNextNameOfNode}
-use Rattle.pv_tree.proofs.Rising.{Named, after-cases, after-lower, after-same, bool_cases}
+use Rattle.pv_tree.proofs.Rising.{Named, after-cases, after-lower, after-same}
 
 -- the names that follow the last one: those of greater directories, and in this one those that follow a name
 pub record IsCut (last : Option Named) (first : ℕ) (following : Option Bytes) : Type 0 where
@@ -21,7 +21,7 @@ cut-none = record { low = λ x is. omega arith; here = λ name. refl; higher = �
 pub cut-some : (d : ℕ) (name : Bytes) → IsCut (Some (d, name)) d (Some name)
 cut-some d name = record {
   low = λ x is. ⊎_elim (λ less. omega arith) (λ same. omega (arith, same.0)) (after-cases (d, name) x is);
-  here = λ other. ⊎_elim (λ yes. after-same (d, name) (d, other) refl yes ∙ sym yes) (λ isnt. unless other isnt ∙ sym isnt) (bool_cases (is_past (Some name) other));
+  here = λ other. ⊎_elim (λ yes. after-same (d, name) (d, other) refl yes ∙ sym yes) (λ isnt. unless other isnt ∙ sym isnt) (cases_Bool (is_past (Some name) other));
   higher = λ x less. after-lower (d, name) x less;
 }
   where

@@ -50,10 +50,6 @@ after-lower l x less = or_left (nat_lt l.0 x.0) _ (lt-ltb l.0 x.0 less)
 pub after-same : (l x : Named) → l.0 ≡ x.0 → is_past (Some l.1) x.1 ≡ true → is_after (Some l) x ≡ true
 after-same l x same following = or_right (nat_lt l.0 x.0) _ (and_from (l.0 == x.0) _ (eq-eqb l.0 x.0 same) following)
 
-pub bool_cases : (b : Bool) → (b ≡ true) ⊎ (b ≡ false)
-bool_cases true = inl refl
-bool_cases false = inr refl
-
 -- a name that follows one after the last name also follows the last name
 pub after-more : (last : Option Named) (x y : Named) → is_after last x ≡ true → is_after (Some x) y ≡ true → is_after last y ≡ true
 after-more None x y is more = refl

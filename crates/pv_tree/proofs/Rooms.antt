@@ -3,7 +3,7 @@ use Rattle.std.proofs.Common.{◌≡◌, ◌≢◌, ◌↔◌, ℕ, zero, suc, �
 use Rattle.std.specs.Prelude.{OnOk, IfErr}
 use Rattle.std.specs.FinMap.Entries.{put, is_sorted}
 use Rattle.std.specs.List.{list_any}
-use Rattle.std.proofs.lemmas.Bool.{and_parts, and_from, or_parts, cases_eq, cases_lt, cases_Bool, lt-ltb, le-ltb, lt-leb, le-leb, leb-true}
+use Rattle.std.proofs.lemmas.Bool.{and_parts, and_from, or_parts, cases_eq, cases_lt, cases_Bool, lt-ltb, le-ltb, lt-leb, le-leb, leb-true, and_right, or_from}
 use Rattle.pv_inodes.specs.declared.space.Space.{Space}
 use Rattle.pv_inodes.specs.declared.space.Space.TheVariants.{Full, TooBig}
 use Rattle.pv_model.specs.declared.version.Version.{Version}
@@ -74,13 +74,9 @@ unfolding fits
 fits-from t numbers no_zero room =
     and_from _ _ (le-leb (length (present t.nodes)) t.inodes (present-few t.nodes t.inodes numbers no_zero)) (le-leb (total_need t) t.blocks room)
 
-and_false : (a b : Bool) → b ≡ false → (a && b) ≡ false
-and_false true b is = is
-and_false false b is = refl
-
 pub fits-lacks : (t : Tree) → LacksRoom t → fits t ≡ false
 unfolding fits
-fits-lacks t lacks = and_false (nat_le (length (present t.nodes)) t.inodes) _ (lt-leb (total_need t) t.blocks lacks)
+fits-lacks t lacks = and_right (nat_le (length (present t.nodes)) t.inodes) _ (lt-leb (total_need t) t.blocks lacks)
 
 pub fits-few : (t : Tree) → fits t ≡ true → length (present t.nodes) ≤ t.inodes
 unfolding fits
@@ -88,17 +84,14 @@ fits-few t is = leb-true (length (present t.nodes)) t.inodes (and_parts (nat_le 
 
 -- ---- whether a node is too long
 
-or_false : (a b : Bool) → a ≡ false → b ≡ false → (a || b) ≡ false
-or_false a b p q = ap₂ (λ x y. x || y) p q
-
 any-with_number : (test : Node → Bool) (xs : Numbered Node) (n : ℕ) (node : Node) → list_any test (present xs) ≡ false → test node ≡ false → list_any test (present (with_number xs n node)) ≡ false
-any-with_number test [] n node none no_one = or_false (test node) false no_one refl
-any-with_number test (None ∷ xs) zero node none no_one = or_false (test node) (list_any test (present xs)) no_one none
+any-with_number test [] n node none no_one = or_from (test node) false no_one refl
+any-with_number test (None ∷ xs) zero node none no_one = or_from (test node) (list_any test (present xs)) no_one none
 any-with_number test (None ∷ xs) (suc n) node none no_one = any-with_number test xs n node none no_one
-any-with_number test (Some x ∷ xs) zero node none no_one = or_false (test node) (list_any test (present xs)) no_one (or_parts (test x) (list_any test (present xs)) none).1
+any-with_number test (Some x ∷ xs) zero node none no_one = or_from (test node) (list_any test (present xs)) no_one (or_parts (test x) (list_any test (present xs)) none).1
 any-with_number test (Some x ∷ xs) (suc n) node none no_one =
     let parts = or_parts (test x) (list_any test (present xs)) none in
-    or_false (test x) (list_any test (present (with_number xs n node))) parts.0 (any-with_number test xs n node parts.1 no_one)
+    or_from (test x) (list_any test (present (with_number xs n node))) parts.0 (any-with_number test xs n node parts.1 no_one)
 
 pub short-with_node : (t : Tree) (n : ℕ) (node : Node) → is_too_long t ≡ false → node_length t.version node ≤ greatest_length t.version → is_too_long (with_node t n node) ≡ false
 unfolding is_too_long

@@ -1,11 +1,10 @@
 -- The number and the permissions of an entry, after an entry is replaced or appended.
-use Rattle.std.proofs.Common.{◌≡◌, ℕ, ◌+◌, ◌<◌, ◌≤◌, Bool, true, false, cond, not, nat_lt, bytes_eq, List, [], ◌∷◌, ◌++◌, length, slice_set, None, Some, ◌∙◌, sym, ap, refl, arith}
+use Rattle.std.proofs.Common.{◌≡◌, ℕ, ◌+◌, ◌<◌, ◌≤◌, Bool, true, false, cond, not, nat_lt, List, [], ◌∷◌, ◌++◌, length, slice_set, None, Some, ◌∙◌, sym, ap, refl, arith}
 use Rattle.std.proofs.lemmas.Bool.{eq-eqb, ltb-false, lt-ltb}
 use Rattle.std.proofs.lemmas.List.{get_or_push, get_or-set_same, length-set, length_push}
 use Rattle.std.proofs.lemmas.List.Folds.{position_or_len-set, position_or_len_push}
 use Rattle.std.proofs.lemmas.List.Quantifiers.{position-Some}
 use Rattle.std.proofs.lemmas.Option.{slice_get_read}
-use Rattle.std.proofs.lemmas.Slice.Eq.{bytes_eq-Decides}
 use Rattle.std.proofs.lemmas.List.Sums.{prefix_len-le-length}
 use Rattle.std.specs.List.{position_or_len}
 use Rattle.std.specs.Prelude.{position}
@@ -13,6 +12,7 @@ use Rattle.pv_model.specs.declared.perms.Perms.{Perms}
 use Rattle.pv_model.specs.declared.target.Target.{Target}
 use Rattle.pv_model.specs.declared.target.Target.TheVariants.{Directory, Name}
 use Rattle.pv_model.specs.Unveil.{Table, same_target, entry_for, permissions_at, permissions_of}
+use Rattle.pv_laws_trees.proofs.Entries.{bytes_eq-itself}
 
 not_within : (b : Bool) (n : ℕ) → cond b (Some n) None ≡ None → b ≡ false
 not_within true n none = cc
@@ -34,12 +34,9 @@ module _ {X : Type 0} (p : X → Bool) (xs : List X) (y : X) (passes : p y ≡ t
       let within : length xs < length xs + 1 = omega arith in
       rw (first, length_push, lt-ltb _ _ within) refl
 
-bytes_eq-same : (name : List ℕ) → bytes_eq name name ≡ true
-bytes_eq-same name = (bytes_eq-Decides name name).1 refl
-
-same_target-same : (target : Target) → same_target target target ≡ true
+pub same_target-same : (target : Target) → same_target target target ≡ true
 same_target-same (Directory d) = eq-eqb d d refl
-same_target-same (Name d name) = rw (eq-eqb d d refl, bytes_eq-same name) refl
+same_target-same (Name d name) = rw (eq-eqb d d refl, bytes_eq-itself name) refl
 
 module _ (table : Table) (target : Target) (permissions : Perms) where
   -- replacing the entry of a target

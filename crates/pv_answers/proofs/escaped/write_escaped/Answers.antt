@@ -1,15 +1,9 @@
-use Rattle.std.proofs.Common.{◌≡◌, ◌∙◌, ◌++◌, ℕ, take, drop, flat_map, ap, sym, refl, rules}
-use Rattle.pv_listing.proofs.Rests.{rest_after, rest_begins, components-split, rest_all, written_text}
+use Rattle.std.proofs.Common.{◌≡◌, ◌∙◌, ◌++◌, ℕ, take, drop, flat_map, refl, rules}
+use Rattle.pv_listing.proofs.Rests.{rest_after, rest_begins, components-split, plain-split, rest_all, written_text}
 use Rattle.pv_model.specs.Bytes.{Bytes}
 use Rattle.pv_model.specs.Trace.{quote_byte}
 use Rattle.pv_streams.proofs.Reporting.{on_err}
 use Rattle.pv_answers.proofs.escaped.write_escaped.Goals as goal
-
--- bytes that need no escape, and the others
-plain-split : (text front following : Bytes) (n : ℕ) → front ≡ take n text → following ≡ drop n text → flat_map quote_byte (take n text) ≡ take n text
-    → flat_map quote_byte text ≡ front ++ flat_map quote_byte following
-plain-split text front following n first then same =
-    components-split quote_byte text front following front n first then (first ∙ sym same ∙ ap (flat_map quote_byte) (sym first))
 
 -- a part, and the rest
 part-split : (text front following : Bytes) (n : ℕ) → front ≡ take n text → following ≡ drop n text

@@ -1,9 +1,10 @@
 use Rattle.std.proofs.Common.{◌≢◌, true, false, [], map, length, ap, sym, ◌∙◌}
+use Rattle.std.proofs.lemmas.List.{nil_from_length}
 use Rattle.pv_model.specs.Held.{live_processes}
 use Rattle.pv_model.specs.Tree.{Tree, names_of}
 use Rattle.pv_laws_access.proofs.Verdicts.{verdicts-exact}
 use Rattle.pv_audit.specs.Findings.{are_live}
-use Rattle.pv_audit.proofs.AllVerdicts.{empty-of, some-of, verdict-exposed, verdict-preserved}
+use Rattle.pv_audit.proofs.AllVerdicts.{some-of, verdict-exposed, verdict-preserved}
 use Rattle.pv_audit.proofs.FoundOnes.{noted-live}
 use Rattle.pv_audit.proofs.LiveOnes.{start, suspects-live}
 use Rattle.pv_audit.proofs.verdicts.verdict_of.Goals as goal
@@ -12,7 +13,7 @@ pub returns-then-names-eq0 : goal.returns-then-names-eq0
 returns-then-names-eq0 c =
     let s = c.args.parts.now in
     let f = c.args.node in
-    let none = empty-of (names_of s.tree f) (ap (λ (t : Tree). length (names_of t f)) (sym c.tree.ensures) ∙ sym c.names.ensures ∙ c.if-names-eq0.true) in
+    let none = nil_from_length (names_of s.tree f) (ap (λ (t : Tree). length (names_of t f)) (sym c.tree.ensures) ∙ sym c.names.ensures ∙ c.if-names-eq0.true) in
     sym ((verdicts-exact s f).none.1 none)
 
 pub first_leak-requires : goal.first_leak-requires

@@ -1,16 +1,16 @@
 use Rattle.std.proofs.Common.{subst}
+use Rattle.std.proofs.lemmas.Result.{on_ok_weaker}
 use Rattle.pv_image_write.specs.Written.{BeginsImage, WritesImage}
 use Rattle.pv_model.specs.Held.{named_tree}
 use Rattle.pv_model.specs.Tree.{Tree}
 use Rattle.pv_host_copy.proofs.Imports.{reports-tree, begins-tree}
-use Rattle.pv_host_copy.proofs.SkippedLines.{on_ok}
 use Rattle.pv_host_copy.proofs.image.write_store.Goals as goal
 
 pub returns-clause-whole : goal.returns-clause-whole
 returns-clause-whole g c =
     let before = g.W.Sink.written c.args.image.now in
     let after = g.W.Sink.written c.write_tree.new.image in
-    on_ok c.write_tree.result
+    on_ok_weaker c.write_tree.result
     (λ image. reports-tree c.args.store.now before after c.invariant.ensures.named (subst (λ (t : Tree). WritesImage (named_tree t) before after) c.tree.ensures.tree image))
     c.write_tree.ensures.whole
 

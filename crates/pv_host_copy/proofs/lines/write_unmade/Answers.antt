@@ -1,8 +1,8 @@
 use Rattle.std.proofs.Common.{◌++◌, codes}
+use Rattle.std.proofs.lemmas.Result.{on_ok_weaker}
 use Rattle.pv_model.specs.Listing.{listed_path}
 use Rattle.pv_model.specs.Trace.{quote}
 use Rattle.pv_streams.proofs.Reporting.{written_both}
-use Rattle.pv_host_copy.proofs.SkippedLines.{on_ok}
 use Rattle.pv_host_copy.proofs.lines.write_unmade.Goals as goal
 
 pub returns : goal.returns
@@ -12,6 +12,6 @@ returns g c =
     let named = g.W.Sink.written c.write_path.new.out in
     let after = g.W.Sink.written c.write_whole-2.new.sink in
     let path = quote (listed_path c.args.path.now) in
-    on_ok c.write_whole-2.result
+    on_ok_weaker c.write_whole-2.result
     (λ end. written_both (codes "pvsim: export: ") (path ++ codes ": write\n") before front after c.in_ok-write_whole.ensures.whole
     (written_both path (codes ": write\n") front named after c.in_ok-write_path.ensures.whole end)) c.write_whole-2.ensures.whole

@@ -1,18 +1,15 @@
-use Rattle.std.proofs.Common.{◌≡◌, ℕ, ◌+◌, ◌-◌, ◌≤◌, subst, arith}
+use Rattle.std.proofs.Common.{◌≡◌, subst}
 use Rattle.pv_model.specs.Bytes.{Bytes}
 use Rattle.pv_model.specs.Image.{inode_blocks}
 use Rattle.pv_streams.specs.Sinks.{and_all, WritesPrefix}
 use Rattle.pv_image_write.specs.Placed.{placed}
-use Rattle.pv_image_write.proofs.Writing.{image-as_written, length-with_table}
+use Rattle.pv_image_write.proofs.Writing.{image-as_written, length-with_table, whole-image}
 use Rattle.pv_image_write.proofs.image.write_bytes.Goals as goal
 
 pub write_contents-requires-clause-following : goal.write_contents-requires-clause-following
 unfolding placed
 write_contents-requires-clause-following g c =
     length-with_table (placed c.args.tree.now.tree c.args.version c.args.blocks c.args.inodes) c.requires.writable c.args.blocks c.in_ok-window.window.items c.in_ok-window.ensures.items
-
-whole-image : (blocks table : ℕ) → table + 1 ≤ blocks → blocks ≡ table + 1 + (blocks - (table + 1))
-whole-image blocks table fits = omega arith
 
 pub returns-clause-whole : goal.returns-clause-whole
 unfolding placed

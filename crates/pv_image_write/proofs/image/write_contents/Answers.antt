@@ -12,7 +12,7 @@ use Rattle.pv_image_write.specs.Placed.{placed, written_at}
 use Rattle.pv_image_write.specs.Encoding.{all_contents, padded}
 use Rattle.pv_image_write.proofs.PlacedTrees.{node-placed}
 use Rattle.pv_image_write.proofs.Windows.{put-all, put-cut, put-on}
-use Rattle.pv_image_write.proofs.Writing.{blocks-left, cut-node, node-room, put-node, put-none, put-zeros, written-node, as_written-room, zeros-room}
+use Rattle.pv_image_write.proofs.Writing.{blocks-left, cut-node, node-room, put-node, put-none, put-zeros, written-node, as_written-room, whole-image, zeros-room}
 use Rattle.pv_image_write.proofs.image.write_contents.Goals as goal
 
 -- the next node
@@ -21,9 +21,6 @@ next-node : (h : HeldTree) → IsPresent h → (v : Version) (blocks inodes : �
 next-node h s v blocks inodes more longer n =
     let u = placed h.tree v blocks inodes in
     sym (node-placed h s v blocks inodes more longer (n + 1)) ∙ ap (node_at u) (add-one n)
-
-whole-image : (blocks table : ℕ) → table + 1 ≤ blocks → blocks ≡ table + 1 + (blocks - (table + 1))
-whole-image blocks table fits = omega arith
 
 pub table_blocks-next-requires : goal.table_blocks-next-requires
 unfolding placed

@@ -1,16 +1,10 @@
-use Rattle.std.proofs.Common.{◌≡◌, ◌∙◌, ◌<◌, ◌++◌, ℕ, [], ◌∷◌, length, take, drop, flat_map, get_or, ap, sym, arith, rules}
+use Rattle.std.proofs.Common.{◌≡◌, ◌∙◌, ◌<◌, ◌++◌, [], ◌∷◌, length, take, drop, flat_map, get_or, ap, sym, arith, rules}
 use Rattle.std.proofs.lemmas.List.{append-nil, length-take-le}
 use Rattle.pv_model.specs.Bytes.{Bytes}
 use Rattle.pv_model.specs.Trace.{quote_byte}
 use Rattle.pv_streams.proofs.Reporting.{on_err}
-use Rattle.pv_listing.proofs.Rests.{rest_after, rest_begins, components-split, rest_all, written_text}
+use Rattle.pv_listing.proofs.Rests.{rest_after, rest_begins, components-split, plain-split, rest_all, written_text}
 use Rattle.pv_listing.proofs.path.write_bytes.Goals as goal
-
--- bytes that represent themselves, and then the others
-plain-split : (text front following : Bytes) (n : ℕ) → front ≡ take n text → following ≡ drop n text → flat_map quote_byte (take n text) ≡ take n text
-    → flat_map quote_byte text ≡ front ++ flat_map quote_byte following
-plain-split text front following n first then same =
-    components-split quote_byte text front following front n first then (first ∙ sym same ∙ ap (flat_map quote_byte) (sym first))
 
 one-byte : (xs : Bytes) → length xs ≡ 1 → quote_byte (get_or xs 0 0) ≡ flat_map quote_byte xs
 one-byte [] one = absurd (omega arith)

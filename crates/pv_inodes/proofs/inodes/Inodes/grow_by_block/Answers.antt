@@ -1,11 +1,12 @@
 use Rattle.std.proofs.Common.{◌≡◌, ◌+◌, length, ap, sym, ◌∙◌, arith}
 use Rattle.pv_model.specs.Effect.{resize}
+use Rattle.pv_inodes.proofs.Bytes.{length-resize}
 use Rattle.pv_inodes.specs.Files.{bytes_at}
 use Rattle.pv_inodes.specs.Layout.{owned_count, wanted}
 use Rattle.pv_inodes.proofs.InUse.{InUse, in_use}
 use Rattle.pv_inodes.proofs.Layouts.{greatest_length-most, wanted-most}
 use Rattle.pv_inodes.proofs.Least.{all_used-with_bytes}
-use Rattle.pv_inodes.proofs.Leaving.{Leaves, leaves_by_block, length-pushed, length-resize, wanted_next, room_enough}
+use Rattle.pv_inodes.proofs.Leaving.{Leaves, leaves_by_block, length-pushed, wanted_next, room_enough}
 use Rattle.pv_inodes.proofs.inodes.Inodes.grow_by_block.Goals as goal
 use Rattle.pv_inodes.proofs.inodes.Inodes.grow_by_block.Goals.{After-slot-slot, After-room-owned, After-set_size}
 

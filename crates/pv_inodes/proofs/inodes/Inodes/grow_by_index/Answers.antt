@@ -1,12 +1,13 @@
 use Rattle.std.proofs.Common.{◌≡◌, ◌≤◌, ◌+◌, suc, length, sym, ap, ◌∙◌, arith}
 use Rattle.pv_blocks.specs.BlockStore.{free_count}
 use Rattle.pv_model.specs.Effect.{resize}
+use Rattle.pv_inodes.proofs.Bytes.{length-resize}
 use Rattle.pv_inodes.specs.Files.{bytes_at}
 use Rattle.pv_inodes.specs.Layout.{most_owned, wanted}
 use Rattle.pv_inodes.proofs.InUse.{InUse, in_use}
 use Rattle.pv_inodes.proofs.Layouts.{greatest_length-most, index_pointers-few, wanted-most}
 use Rattle.pv_inodes.proofs.Least.{all_used-with_bytes}
-use Rattle.pv_inodes.proofs.Leaving.{Leaves, TakesIndex, takes_index, leaves_by_index, length-pushed, free_count-pushed, length-resize, wanted_next, room_enough}
+use Rattle.pv_inodes.proofs.Leaving.{Leaves, TakesIndex, takes_index, leaves_by_index, length-pushed, free_count-pushed, wanted_next, room_enough}
 use Rattle.pv_inodes.proofs.inodes.Inodes.grow_by_index.Goals as goal
 use Rattle.pv_inodes.proofs.inodes.Inodes.grow_by_index.Goals.{After-slot-slot, After-room-owned, After-push_block-index, After-set_size}
 
