@@ -1,5 +1,6 @@
 -- The walks that a call has begun end where `Ends` says.
-use Rattle.std.proofs.Common.{◌≡◌, ◌∙◌, ◌⊎◌, inl, inr, ℕ, zero, suc, ◌≤◌, Bool, true, false, not, if◌then◌else◌, List, [], ◌∷◌, slice_get, Option, None, Some, refl, sym, ap, subst, arith}
+use Rattle.std.proofs.Common.{◌≡◌, ◌∙◌, ◌⊎◌, inl, inr, ℕ, zero, suc, ◌≤◌, true, false, not, if◌then◌else◌, List, [], ◌∷◌, slice_get, Option, None, Some, refl, sym, ap, subst, arith}
+use Rattle.std.proofs.lemmas.Bool.{cases_Bool}
 use Rattle.std.specs.List.{AllByRecursion}
 use Rattle.pv_model.specs.declared.call.Call.{Call}
 use Rattle.pv_model.specs.declared.call.Call.TheVariants.{Exit, GetPid, GetPpid, Fork, Wait, Pledge, Unveil, Execve, Open, OpenAt, Close, Dup, Dup2, Read, Write, Lseek, Fstat, Ftruncate, Getdents, Fchdir, Chdir, Stat, Lstat, Readlink, Mkdir, Symlink, Link, Unlink, Rmdir, Rename}
@@ -98,10 +99,6 @@ module _ (s : State) (pid : ℕ) (me : Process) where
       let none : 1 ≤ 0 = subst (λ a. 1 ≤ walks_begun a) (open_unstarted s pid me start path f fine denied.0 denied.1) some in
       absurd (omega arith)
 
-which : (b : Bool) → (b ≡ true) ⊎ (b ≡ false)
-which true = inl refl
-which false = inr refl
-
 numbered : (P : Walk → Type 0) (ws : List Walk) (k : ℕ) (w : Walk) → AllByRecursion P ws → slice_get ws k ≡ Some w → P w
 numbered P [] k w each is = absurd (cc)
 numbered P (v ∷ ws) zero w each is = let e : v ≡ w = cc in subst P e each.0
@@ -122,7 +119,7 @@ module _ (program_of : Bytes → Option Program) (s : State) (pid : ℕ) (p : Pr
   each-started (OpenAt start path flags) some =
       let me = at_next_line p in
       let after = with_process s pid me in (
-        started after pid me start path flags (which (contradicts flags)) (start-cases after pid me start path)
+        started after pid me start path flags (cases_Bool (contradicts flags)) (start-cases after pid me start path)
             (opened-walks program_of after pid me start path flags (answer-walks program_of s pid p (OpenAt start path flags) at some)),
         tt,
       )

@@ -4,13 +4,14 @@ use Rattle.std.specs.List.{AllByRecursion, list_any}
 use Rattle.std.proofs.lemmas.Bool.{and_parts, and_from, le-leb, lt-leb}
 use Rattle.std.proofs.lemmas.Bool.Decides.{nat_tests}
 use Rattle.std.proofs.lemmas.List.{length-map, map-append}
+use Rattle.pv_laws_steps.proofs.HeldApart.{same-truth}
 use Rattle.pv_compare.specs.Pairs.{AreNumbered, AreStored, IsReached, PairsFound, found_in, is_visited, numbers_in, pair_in, pair_key, visited}
 use Rattle.pv_compare.specs.Plan.{pairs_at}
 use Rattle.pv_compare.specs.declared.pairs.PairNumbers.{PairNumbers}
 use Rattle.pv_explore.specs.Plan.{state_key}
 use Rattle.pv_explore.specs.Rows.{Grew, IsAmong, number_in}
 use Rattle.pv_explore.specs.Sides.{IsAddedTo, IsNumbered}
-use Rattle.pv_explore.proofs.Planned.{packed-test, same-known, same-tests}
+use Rattle.pv_explore.proofs.Planned.{packed-test, same-known}
 use Rattle.pv_explore.proofs.Rows.{among-later, number-later, same-number}
 use Rattle.pv_laws_answers.proofs.Lists.{each-append}
 use Rattle.pv_laws_trees.proofs.Entries.{bytes_eq-same, bytes_eq-itself}
@@ -73,7 +74,7 @@ module _ (firsts seconds : List Bytes) where
       let c = number_in firsts (state_key g.states.first) in
       let d = number_in seconds (state_key g.states.second) in
       packed-test (a ∷ b ∷ []) (c ∷ d ∷ [])
-      ∙ same-tests (bytes_eq (a ∷ b ∷ []) (c ∷ d ∷ [])) (same_pair g.states f.states)
+      ∙ same-truth (bytes_eq (a ∷ b ∷ []) (c ∷ d ∷ [])) (same_pair g.states f.states)
       (λ is.
       let both : a ∷ b ∷ [] ≡ c ∷ d ∷ [] = bytes_eq-same (a ∷ b ∷ []) (c ∷ d ∷ []) is in
       let low : a ≡ c = cc in

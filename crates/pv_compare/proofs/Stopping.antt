@@ -4,19 +4,13 @@ use Rattle.std.specs.List.{list_all}
 use Rattle.std.proofs.lemmas.Bool.{and_parts, and_from}
 use Rattle.std.proofs.lemmas.Bool.Decides.{nat_tests}
 use Rattle.std.proofs.lemmas.Grind.{flat_map-append}
-use Rattle.std.proofs.lemmas.List.{take_all}
+use Rattle.std.proofs.lemmas.List.{take_all, drop_all}
 use Rattle.std.proofs.lemmas.Option.{slice_get_cases}
 use Rattle.pv_model.specs.Answers.Search.{with_move, found_after, found_from, search}
 use Rattle.pv_explore.proofs.Planned.{all-last}
 use Rattle.pv_compare.specs.Stopping.{is_left_out, result_of_moves, result_at, result_from, result_of}
 
 -- ---- lists
-
-drop-past : {X : Type 0} (k : ℕ) (xs : List X) → length xs ≤ k → drop k xs ≡ []
-drop-past zero [] le = refl
-drop-past (suc k) [] le = refl
-drop-past zero (x ∷ xs) le = absurd (omega (arith, le))
-drop-past (suc k) (x ∷ xs) le = drop-past k xs (omega (arith, le))
 
 drop-here : {X : Type 0} (k : ℕ) (xs more : List X) (x : X) → slice_get xs k ≡ Some x → drop k (xs ++ more) ≡ x ∷ drop (suc k) (xs ++ more)
 drop-here k [] more x at = cc
@@ -153,7 +147,7 @@ module _ {F M R : Type 0} (moves_of : F → List M) (found_by : M → F) (is_kno
       → ended complete (length found) ≡ final_of found (flat_map moves_of (drop k found))
   at-end k found complete it past =
       ap (λ c. ended c (length found)) (it.complete_is ∙ ap (λ fs. list_all (leads_back found) (flat_map moves_of fs)) (take_all k found past))
-      ∙ ap (λ fs. final_of found (flat_map moves_of fs)) (sym (drop-past k found past))
+      ∙ ap (λ fs. final_of found (flat_map moves_of fs)) (sym (drop_all k found past))
 
   follows : (steps : ℕ) → Follows steps
   follows zero k found complete it enough = at-end k found complete it (let few = it.few in omega arith)

@@ -75,7 +75,7 @@ none-preserved : (p : ℕ → Bool) (q : ℕ) (es : Settings) → find nat_cmp q
 none-preserved p q es none =
     find-preserved p q es ∙ ap (λ o. cond (p q) o None) none ∙ elim (p q) as (λ b. cond {A = Option (List Setting)} b None None ≡ None) [ true ↦ refl | false ↦ refl ]
 
-is-none : {X : Type 0} (o : Option X) → is_none o ≡ true → o ≡ None
+pub is-none : {X : Type 0} (o : Option X) → is_none o ≡ true → o ≡ None
 is-none None is = refl
 is-none (Some x) is = cc
 

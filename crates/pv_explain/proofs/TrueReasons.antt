@@ -21,6 +21,7 @@ use Rattle.pv_model.specs.State.{OpenFile, Process, State}
 use Rattle.pv_model.specs.Tree.{is_directory_at}
 use Rattle.pv_model.specs.Walk.{is_absolute, resolve}
 use Rattle.pv_model.specs.Walks.{Walk, walks_of}
+use Rattle.pv_explain.proofs.ProcessOrigins.{is-none}
 use Rattle.pv_explain.specs.Errors.{Holds, IsPrefixEnd, PrefixEnd, Reason, no_descriptor, opened, unknown_keyword, unknown_permission, one_path, two_paths, in_words, argument_reason, arrives, condition, descriptor_reason, descriptor_used, end_after, file_reason, is_of_path, is_path_errno, is_valid_link, misfits, path_reason, prefix_end, reason_of, start_of, stop, unknown_byte, unknown_in, walk_prefix, walks_reason, words_reason}
 
 -- what a search finds is in the list, and passes the test
@@ -39,10 +40,6 @@ find-holds f (y ∷ ys) x is = by (f y) refl (find-holds f ys x)
 same-choice : {X : Type 0} (b : Bool) (x : X) → (if b then x else x) ≡ x
 same-choice true x = refl
 same-choice false x = refl
-
-none-of : {X : Type 0} (o : Option X) → is_none o ≡ true → o ≡ None
-none-of None is = refl
-none-of (Some x) is = cc is
 
 -- ---- where walks start
 
@@ -208,7 +205,7 @@ module _ (s : State) (p : Process) where
   keyword-of None word is = let bad : None ≡ Some word = is in absurd (cc bad)
   keyword-of (Some text) word is =
       let found = find-holds (λ w. is_none (promise_of w)) (keywords text) word is in
-      record { text = text; argument = refl; among = found.0; unknown = none-of (promise_of word) found.1 }
+      record { text = text; argument = refl; among = found.0; unknown = is-none (promise_of word) found.1 }
 
   module _ (e : Errno) (r : Reason) where
     keyword-holds : (a b o q : Option Bytes) → unknown_in a ≡ o → unknown_in b ≡ q → option_map unknown_keyword (option_or o q) ≡ Some r → Holds s p (Pledge a b) e r
@@ -224,7 +221,7 @@ module _ (s : State) (p : Process) where
     permission-holds path text (Some b) i is =
         let found = find-holds (λ x. is_none (permission_of x)) text b i in
         let same : unknown_permission b ≡ r = cc is in
-        subst (Holds s p (Unveil (Some path) (Some text)) e) same (path, text, refl, found.0, none-of (permission_of b) found.1)
+        subst (Holds s p (Unveil (Some path) (Some text)) e) same (path, text, refl, found.0, is-none (permission_of b) found.1)
     permission-holds path text None i is = let bad : None ≡ Some r = is in cc bad
 
     link-holds : (text path : Bytes) (b : Bool) → (if b then None else Some (words_reason (Symlink text path) e)) ≡ Some r → Holds s p (Symlink text path) e r

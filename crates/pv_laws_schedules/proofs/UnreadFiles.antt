@@ -1,7 +1,7 @@
 -- The files that are listed as unread.
-use Rattle.std.proofs.Common.{◌≡◌, ◌≢◌, ◌∙◌, sym, ap, subst, ℕ, Bool, true, false, not, ◌==◌, [], map, codes, Contains, Option, None, Some, is_some, option_map, option_and_then, ◌⊎◌, inl, inr, refl, arith}
+use Rattle.std.proofs.Common.{◌≡◌, ◌≢◌, ◌∙◌, sym, ap, subst, ℕ, true, false, not, ◌==◌, [], map, codes, Contains, Option, None, Some, is_some, option_map, option_and_then, ◌⊎◌, inl, inr, refl, arith}
 use Rattle.std.specs.List.{list_any}
-use Rattle.std.proofs.lemmas.Bool.{and_parts}
+use Rattle.std.proofs.lemmas.Bool.{and_parts, not-true}
 use Rattle.std.proofs.lemmas.Bool.Decides.{nat_tests}
 use Rattle.pv_model.specs.Answers.Access.{Access, reads, executes, accesses, file_read, files_read, is_unread, unread_files}
 use Rattle.pv_model.specs.Answers.Explore.{Found, Move, move, moves_of, states_found}
@@ -23,10 +23,6 @@ use Rattle.pv_laws_states.proofs.BySteps.{first-whole}
 use Rattle.pv_laws_schedules.specs.Access.{UnreadFilesAreReadByNone, UnreadFilesChangeNothing}
 use Rattle.pv_laws_schedules.proofs.ReadAccess.{among-filter_map, IsReadAccess, reads-accessed}
 use Rattle.pv_laws_schedules.proofs.Reached.{contains-among, own-move}
-
-not-true : (b : Bool) → not b ≡ true → b ≡ false
-not-true true is = cc
-not-true false is = refl
 
 module _ (program_of : Bytes → Option Program) (limit : ℕ) (s : State) (it : IsSearched program_of limit s) where
   -- an access of a step from a visited state that reads a file
