@@ -87,7 +87,7 @@ module _ (pid : ℕ) (some : pid ≢ 0) (q : Process) where
       let changed = record s { processes = map change s.processes } in
       let counts : counts_group changed ≡ counts_group s = ap (λ n. counts_part s.last_process n ∷ []) (length-map s.processes change) in
       let rest : map encoded_record changed.processes ++ map plain (tree_groups s) ≡ map to_own (map encoded_record s.processes ++ map plain (tree_groups s)) =
-          ap₂ (λ (a b : List Encoded). a ++ b) (records-change s.processes) (sym (plains-stay (tree_groups s))) ∙ sym (map-append to_own (map encoded_record s.processes) (map plain (tree_groups s))) in
+      ap₂ (λ (a b : List Encoded). a ++ b) (records-change s.processes) (sym (plains-stay (tree_groups s))) ∙ sym (map-append to_own (map encoded_record s.processes) (map plain (tree_groups s))) in
       ap₂ (λ (c : Encoded) cs. c ∷ cs) (ap plain counts ∙ sym (plain-stays (counts_group s))) rest
 
   pub encoded-with : (s : State) (p : Process) → IsValid s → process_at s pid ≡ Some p → encoded (with_process s pid q) ≡ map to_own (encoded s)
@@ -138,12 +138,12 @@ module _ (parts groups parts_now groups_now : List Bytes) (parts_grew : Grew par
       let step = inside-step s pid it.whole (sym it.inside_is) alive_there in
       let after_is : after ≡ with_process it.state pid step.following = it.after_is ∙ step.after in
       let now : numbered_encoded pid (find nat_cmp pid after.processes) ≡ encoded_record (pid, live step.following) =
-          ap (numbered_encoded pid) (ap (λ (t : State). find nat_cmp pid t.processes) after_is ∙ find-put_same pid (live step.following) it.state.processes) in
+      ap (numbered_encoded pid) (ap (λ (t : State). find nat_cmp pid t.processes) after_is ∙ find-put_same pid (live step.following) it.state.processes) in
       let there : AreCellsIn parts_now groups_now (encoded_record (pid, live step.following) ∷ []) (own ∷ []) =
-          subst (λ (c : Encoded). AreCellsIn parts_now groups_now (c ∷ []) (own ∷ [])) now one in
+      subst (λ (c : Encoded). AreCellsIn parts_now groups_now (c ∷ []) (own ∷ [])) now one in
       let before = cells-grew parts groups parts_now groups_now parts_grew groups_grew s cells it.cells_are in
       let encoded_is : encoded after ≡ map (own_encoded pid (encoded_record (pid, live step.following))) (encoded it.state) =
-          ap encoded after_is ∙ encoded-with pid (number-some s pid step.before it.whole step.at) step.following s step.before it.whole step.at in
+      ap encoded after_is ∙ encoded-with pid (number-some s pid step.before it.whole step.at) step.following s step.before it.whole step.at in
       of s after (encoded_record (pid, live step.following)) before there encoded_is
     where
       of : (s after : State) (e : Encoded) → AreCellsOf parts_now groups_now s cells → AreCellsIn parts_now groups_now (e ∷ []) (own ∷ []) → encoded after ≡ map (own_encoded pid e) (encoded s)
@@ -232,7 +232,7 @@ module _ (parts groups : List Bytes) where
       let s = it.state in
       let some : other ≢ 0 = by-some (process_at after other) refl there in
       let at_cells : option_map (cell_of (number_of parts groups)) (slice_get (encoded it.state) is_of.place) ≡ Some cell =
-          sym (slice_get-map (cell_of (number_of parts groups)) (encoded it.state) is_of.place) ∙ sym (ap (λ (cs : List Cell). slice_get cs is_of.place) it.cells_are.are) ∙ is_of.at in
+      sym (slice_get-map (cell_of (number_of parts groups)) (encoded it.state) is_of.place) ∙ sym (ap (λ (cs : List Cell). slice_get cs is_of.place) it.cells_are.are) ∙ is_of.at in
       let e = some-of (cell_of (number_of parts groups)) (slice_get (encoded it.state) is_of.place) cell at_cells in
       let owned : e.0.owner ≡ other = ap (λ (c : Cell). c.owner) e.2 ∙ is_of.owner in
       let of = of-encoded s other some is_of.place e.0 e.1 owned in
@@ -244,9 +244,11 @@ module _ (parts groups : List Bytes) where
       let group : numbered_encoded other (find nat_cmp other after.processes) ≡ e.0 = ap (numbered_encoded other) found ∙ of.is in
       record {
         are = ap (λ (c : Cell). c ∷ []) (sym e.2) ∙ ap (λ (c : Encoded). cell_of (number_of parts groups) c ∷ []) (sym group);
-        cached =
-            (subst (IsCachedBoth (number_of parts groups) (IsGroupVisited parts groups)) (sym group)
-            (all-at (IsCachedBoth (number_of parts groups) (IsGroupVisited parts groups)) (encoded it.state) is_of.place e.0 it.cells_are.cached e.1), tt);
+        cached = (
+          subst (IsCachedBoth (number_of parts groups) (IsGroupVisited parts groups)) (sym group)
+              (all-at (IsCachedBoth (number_of parts groups) (IsGroupVisited parts groups)) (encoded it.state) is_of.place e.0 it.cells_are.cached e.1),
+          tt,
+        );
       }
     where
       by-some : (o : Option Process) → process_at after other ≡ o → IsSome o → other ≢ 0

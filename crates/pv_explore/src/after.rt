@@ -137,7 +137,13 @@ fn joined(
 ) -> Result<Vec<Cell>, AllocError>
     ensures { IfOk result (λ cells. cells.items ≡ counts ∷ (processes.now ++ trees.now)) }
 {
-    let mut cells = Vec::with_capacity(alloc, processes.len().saturating_add(trees.len()).saturating_add(1))?;
+    let mut cells = Vec::with_capacity(
+        alloc,
+        processes
+            .len()
+            .saturating_add(trees.len())
+            .saturating_add(1),
+    )?;
     cells.push(counts)?;
     cells.extend_from_slice(processes)?;
     cells.extend_from_slice(trees)?;

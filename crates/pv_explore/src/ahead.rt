@@ -3,8 +3,8 @@ ghost use Rattle.std.specs.Prelude.{IfOk};
 ghost use Rattle.pv_explore.specs.VisitedStates.{AreCellsOf, AreCachedSteps};
 ghost use Rattle.pv_explore.specs.Rows.{Grew};
 
-use crate::observer::Observer;
 use crate::after::cells_after;
+use crate::observer::Observer;
 use crate::position::{ObservedStep, Position};
 use pv_model::StepFault;
 use pv_step_cache::tables::Keys;

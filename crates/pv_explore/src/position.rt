@@ -29,8 +29,8 @@ use crate::witness::Count;
 use pv_answers::{Fragment, Line, Plain};
 use pv_calls_state::Parts;
 use pv_explain::{make_step, write_made};
-use pv_model::{CallRef, StepFault};
 use pv_model::limits::LAST_PROCESS;
+use pv_model::{CallRef, StepFault};
 use pv_procs::{Fetched, Processes};
 use pv_script::CallTexts;
 use pv_session::{Session, Stop};
@@ -308,11 +308,7 @@ impl Position {
     /// # Errors
     ///
     /// `NoMemory`, if there is no memory.
-    pub(crate) fn encoded_process(
-        &self,
-        alloc: Global,
-        pid: u32,
-    ) -> Result<EncodedGroup, StepFault>
+    pub(crate) fn encoded_process(&self, alloc: Global, pid: u32) -> Result<EncodedGroup, StepFault>
         ensures { IfOk result (λ group. encoded_of group ≡ numbered_encoded pid (find nat_cmp pid self.now.processes)) }
     {
         Ok(encoded_process(alloc, self.session.parts().processes(), pid)?)

@@ -115,11 +115,7 @@ pub fn encoded_counts(alloc: Global, parts: &Parts, last: u32) -> Result<Encoded
     requires { last ≡ parts.now.last_process }
     ensures { IfOk result (λ group. encoded_of group ≡ plain (counts_group parts.now)) }
 {
-    Ok(EncodedGroup::Plain(group_of_counts(
-        alloc,
-        parts.processes(),
-        last,
-    )?))
+    Ok(EncodedGroup::Plain(group_of_counts(alloc, parts.processes(), last)?))
 }
 
 /// Returns the groups of a state's open files and tree.

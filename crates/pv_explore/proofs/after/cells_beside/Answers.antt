@@ -36,16 +36,16 @@ returns-clause-cells c =
     let processes = c.in_ok-processes.processes.items in
     let trees = c.in_ok-trees-2.trees.items in
     let counts_there =
-        subst (λ (e : Encoded). AreCellsIn c.learn_cell.new.parts c.learn_cell.new.groups (e ∷ []) (c.in_ok-counts-2.counts ∷ [])) c.in_ok-counts.ensures c.in_ok-counts-2.ensures.cell in
+    subst (λ (e : Encoded). AreCellsIn c.learn_cell.new.parts c.learn_cell.new.groups (e ∷ []) (c.in_ok-counts-2.counts ∷ [])) c.in_ok-counts.ensures c.in_ok-counts-2.ensures.cell in
     let first =
-        cells-in_grew c.learn_cell.new.parts c.learn_cell.new.groups parts groups c.learn_cells.ensures.parts_grew c.learn_cells.ensures.groups_grew (plain (counts_group c.args.position.now) ∷ []) (counts ∷ []) counts_there in
+    cells-in_grew c.learn_cell.new.parts c.learn_cell.new.groups parts groups c.learn_cells.ensures.parts_grew c.learn_cells.ensures.groups_grew (plain (counts_group c.args.position.now) ∷ []) (counts ∷ []) counts_there in
     let second =
-        cells-in_grew c.process_cells.new.parts c.process_cells.new.groups parts groups
-        (grew-then c.process_cells.new.parts c.learn_cell.new.parts c.learn_cells.new.parts c.learn_cell.ensures.parts_grew c.learn_cells.ensures.parts_grew)
-        (grew-then c.process_cells.new.groups c.learn_cell.new.groups c.learn_cells.new.groups c.learn_cell.ensures.groups_grew c.learn_cells.ensures.groups_grew)
-        (map encoded_record c.args.position.now.processes) processes c.in_ok-processes.ensures.cells in
+    cells-in_grew c.process_cells.new.parts c.process_cells.new.groups parts groups
+    (grew-then c.process_cells.new.parts c.learn_cell.new.parts c.learn_cells.new.parts c.learn_cell.ensures.parts_grew c.learn_cells.ensures.parts_grew)
+    (grew-then c.process_cells.new.groups c.learn_cell.new.groups c.learn_cells.new.groups c.learn_cell.ensures.groups_grew c.learn_cells.ensures.groups_grew)
+    (map encoded_record c.args.position.now.processes) processes c.in_ok-processes.ensures.cells in
     let third =
-        subst (λ (es : List Encoded). AreCellsIn c.learn_cells.new.parts c.learn_cells.new.groups es c.in_ok-trees-2.trees.items) (ap encoded_all c.deref.ensures.value ∙ c.in_ok-trees.ensures) c.in_ok-trees-2.ensures.cells in
+    subst (λ (es : List Encoded). AreCellsIn c.learn_cells.new.parts c.learn_cells.new.groups es c.in_ok-trees-2.trees.items) (ap encoded_all c.deref.ensures.value ∙ c.in_ok-trees.ensures) c.in_ok-trees-2.ensures.cells in
     let is = c.in_ok-joined.ensures ∙ ap₂ (λ (a b : List Cell). counts ∷ (a ++ b)) c.deref-2.ensures.value c.deref-3.ensures.value in
     subst (λ (cs : List Cell). AreCellsOf c.learn_cells.new.parts c.learn_cells.new.groups c.args.position.now cs) (sym is)
     (cells-together parts groups s counts processes trees first second third)
