@@ -1,0 +1,5 @@
+use Rattle.pv_laws_classes.proofs.Steps.{renumbered-steps}
+use Rattle.pv_laws_classes.proofs.renumbering.renumbered_steps_answer_alike.Goals as goal
+
+pub returns : goal.returns
+returns c = renumbered-steps
