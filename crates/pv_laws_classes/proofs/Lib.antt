@@ -4,7 +4,7 @@
 --   open file of a descriptor).
 -- - The effects of calls: PlainCalls (no open file), DescriptorCalls (processes and descriptors), FileCalls (contents
 --   and offsets), OpenCalls (a new open file).
--- - Steps: steps and runs.
+-- - Steps: steps and runs. ExampleRuns: examples by computation.
 pub mod Lists
 pub mod Files
 pub mod States
@@ -15,3 +15,4 @@ pub mod DescriptorCalls
 pub mod FileCalls
 pub mod OpenCalls
 pub mod Steps
+pub mod ExampleRuns

@@ -1,1 +1,2 @@
 pub mod Renumbering
+pub mod Examples
