@@ -1,5 +1,5 @@
 -- Attempts and answers in two states that are related by a renumbering of open files.
-use Rattle.std.proofs.Common.{◌≡◌, ℕ, pos, negsuc, Bool, true, false, cond, not, refl, ap, sym, subst, ◌∙◌}
+use Rattle.std.proofs.Common.{◌≡◌, ℕ, pos, negsuc, Bool, true, false, cond, not, refl, ap, sym, subst}
 use Rattle.pv_model.specs.declared.errno.Errno.{Errno}
 use Rattle.pv_model.specs.declared.errno.Errno.TheVariants.{EFBIG, ENOSPC}
 use Rattle.pv_model.specs.declared.outcome.Cause.{Cause}
@@ -12,7 +12,7 @@ use Rattle.pv_model.specs.Held.{collect}
 use Rattle.pv_model.specs.Room.{is_too_long, fits}
 use Rattle.pv_model.specs.State.{Process, State}
 use Rattle.pv_laws_classes.specs.Renumbering.{renumbered_process}
-use Rattle.pv_laws_classes.proofs.States.{AreRelated, Ignores, collect-related, tree-related, update-related, end-related}
+use Rattle.pv_laws_classes.proofs.States.{AreRelated, collect-related, tree-related, update-related, end-related}
 
 -- ---- attempts
 

@@ -1,6 +1,6 @@
 -- Calls on processes and descriptors: fork, wait, execve, close, dup, dup2, fstat, fchdir.
-use Rattle.std.proofs.Common.{◌≡◌, ℕ, suc, ℤ, pos, negsuc, Bool, true, false, not, ◌||◌, ◌==◌, nat_le, nat_lt, List, [], ◌∷◌, length, map, Option, None, Some, option_map, refl, ap, sym, subst, ◌∙◌}
-use Rattle.std.specs.FinMap.Entries.{put, where_key}
+use Rattle.std.proofs.Common.{◌≡◌, ℕ, suc, ℤ, pos, negsuc, Bool, true, false, cond, not, ◌||◌, ◌==◌, nat_le, nat_lt, List, [], ◌∷◌, length, Option, None, Some, option_map, refl, ap, sym, subst, ◌∙◌}
+use Rattle.std.specs.FinMap.Entries.{where_key}
 use Rattle.std.specs.Ordering.{nat_cmp}
 use Rattle.pv_model.specs.declared.call.Call.{Call}
 use Rattle.pv_model.specs.declared.call.Call.TheVariants as TheCall
@@ -9,17 +9,17 @@ use Rattle.pv_model.specs.declared.outcome.Cause.TheVariants.{Plain}
 use Rattle.pv_model.specs.Answer.{effect}
 use Rattle.pv_model.specs.Attempt.{Attempt, ◌>>=◌, ◌>>◌, refuse_if, demand}
 use Rattle.pv_model.specs.Bytes.{Bytes, is_empty}
-use Rattle.pv_model.specs.Calls.Descriptors.{without_descriptor, with_descriptor, with_duplicate, is_number, within, close, dup, dup2, fstat, fchdir, directory_of}
-use Rattle.pv_model.specs.Calls.Processes.{child, fork, children, statuses, reap, wait, descriptor_after_exec, with_program, execve}
+use Rattle.pv_model.specs.Calls.Descriptors.{without_descriptor, with_duplicate, is_number, within, close, dup, dup2, fstat, fchdir, directory_of}
+use Rattle.pv_model.specs.Calls.Processes.{child, fork, children, statuses, reap, wait, with_program, execve}
 use Rattle.pv_model.specs.Effect.{Effect, descriptor_at, returns, answers, answers_bytes, status}
 use Rattle.pv_model.specs.Numbered.{Numbered, with_number, least_free}
-use Rattle.pv_model.specs.State.{OpenFile, Descriptor, Program, Process, ProcessRecord, live, State, with_process}
+use Rattle.pv_model.specs.State.{OpenFile, Descriptor, Program, Process, live, State, with_process}
 use Rattle.pv_laws_states.proofs.Rests
 use Rattle.pv_laws_classes.specs.Renumbering.{renumbered_descriptor, renumbered_descriptors, renumbered_process, renumbered_processes}
-use Rattle.pv_laws_classes.proofs.Attempts.{AreBoth, both-after, both-bind, both-then, both-cond, both-done, both-refused, both-room}
+use Rattle.pv_laws_classes.proofs.Attempts.{AreBoth, both-after, both-bind, both-then, both-done, both-refused}
 use Rattle.pv_laws_classes.proofs.Lists.{length-renumbered, put-renumbered, where-renumbered, children-renumbered, descriptor-put, descriptor-gone, descriptor-free, descriptor-exec, Uses, uses-with, uses-without, uses-exec, uses-put, uses-where}
 use Rattle.pv_laws_classes.proofs.Opened.{descriptor-same, by-descriptor, by-any, directory-same}
-use Rattle.pv_laws_classes.proofs.PlainCalls.{tree-both, own-both}
+use Rattle.pv_laws_classes.proofs.PlainCalls.{own-both}
 use Rattle.pv_laws_classes.proofs.States.{IsPresent, renumbered, Fits, AreRelated, related}
 
 abbrev pub is_on_descriptors : Call → Bool
@@ -142,8 +142,8 @@ module _ (f : ℕ → ℕ) (gs : Numbered OpenFile) (s : State) (pid : ℕ) (me 
   duplicated d n v there = by (is_number d n)
     where
       by : (b : Bool)
-          → AreRelated (Rattle.std.proofs.Common.cond b s (with_process s pid (record me { descriptors = with_number me.descriptors n (record v { close_on_exec = false }) })))
-          (Rattle.std.proofs.Common.cond b u (with_process u pid (record you { descriptors = with_number you.descriptors n (record (renumbered_descriptor f v) { close_on_exec = false }) })))
+          → AreRelated (cond b s (with_process s pid (record me { descriptors = with_number me.descriptors n (record v { close_on_exec = false }) })))
+          (cond b u (with_process u pid (record you { descriptors = with_number you.descriptors n (record (renumbered_descriptor f v) { close_on_exec = false }) })))
       by true = related f gs s fits
       by false = put-both n (record v { close_on_exec = false }) there
 

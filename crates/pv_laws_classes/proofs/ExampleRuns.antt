@@ -1,5 +1,5 @@
 -- The steps of worked runs, by computation.
-use Rattle.std.proofs.Common.{◌≡◌, ◌≢◌, ℕ, zero, suc, Bool, true, false, replicate, pos, List, [], ◌∷◌, Option, None, Some, is_some, refl, ap, sym, ◌∙◌}
+use Rattle.std.proofs.Common.{◌≡◌, ◌≢◌, ℕ, zero, suc, true, false, replicate, pos, List, [], ◌∷◌, Option, None, Some, is_some, refl, ap, sym, ◌∙◌}
 use Rattle.pv_model.specs.declared.open_flags.Mode.TheVariants.{ReadWrite}
 use Rattle.pv_model.specs.Numbered.{at_number}
 use Rattle.pv_model.specs.OnLiterals.{machine_on_literals}

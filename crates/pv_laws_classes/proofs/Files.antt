@@ -1,6 +1,6 @@
 -- Open files under two numberings.
-use Rattle.std.proofs.Common.{◌≡◌, ◌≢◌, ℕ, zero, suc, ◌<◌, ◌≤◌, Bool, true, false, ◌==◌, if◌then◌else◌, nat_le, List, [], ◌∷◌, map, length, Option, None, Some, is_some, refl, ap, sym, subst, ◌∙◌, ⊎_elim, arith, suc-le-suc, le_of_suc-le-suc, zero-le}
-use Rattle.std.proofs.lemmas.Bool.{cases_eq, eq-eqb, ne_eqb, le-leb, leb-true}
+use Rattle.std.proofs.Common.{◌≡◌, ◌≢◌, ℕ, zero, suc, ◌<◌, ◌≤◌, true, false, ◌==◌, if◌then◌else◌, nat_le, List, [], ◌∷◌, map, length, Option, None, Some, is_some, refl, ap, sym, subst, ◌∙◌, ⊎_elim, arith, suc-le-suc, le_of_suc-le-suc, zero-le}
+use Rattle.std.proofs.lemmas.Bool.{leb-false, cases_eq, eq-eqb, ne_eqb, le-leb, leb-true}
 use Rattle.pv_model.specs.Held.{among}
 use Rattle.pv_model.specs.Numbered.{Numbered, at_number, with_number, without_number, least_free, present, keep}
 use Rattle.pv_model.specs.State.{OpenFile}
@@ -85,7 +85,7 @@ module _ (f : ℕ → ℕ) (fs gs : Numbered OpenFile) (matches : Matches f fs g
           let full = full-present gs (omega (arith, matches.following, leb-true 128 (least_free gs) is)) in
           le-leb 128 (least_free fs) (omega (arith, matches.before, matches.following, present-full fs (omega (arith, matches.before, matches.following, most, full))))
 
-  -- open files with a property are among both
+  -- the same nodes have open files
   pub nodes-match : (n : ℕ) → among (map (λ (x : OpenFile). x.node) (present gs)) n ≡ among (map (λ (x : OpenFile). x.node) (present fs)) n
   nodes-match n =
       same-truth (among (map (λ (x : OpenFile). x.node) (present gs)) n) (among (map (λ (x : OpenFile). x.node) (present fs)) n)
@@ -220,13 +220,10 @@ module _ (f : ℕ → ℕ) (fs gs : Numbered OpenFile) (matches : Matches f fs g
         (had.0, with_number-other_within fs a new had.0 within_fs apart ∙ had.1, renumbering-away had.0 apart ∙ had.2))
         (cases_eq m b)
 
-    below : (n : ℕ) → nat_le 128 n ≡ false → n < 128
-    below n is = Rattle.std.proofs.lemmas.Bool.leb-false 128 n is
-
     pub new-matches : Matches renumbering (with_number fs a new) (with_number gs b new)
     new-matches = record {
-      before = length-with_number fs a new (omega (arith, below a room, matches.before)) ∙ matches.before;
-      following = length-with_number gs b new (omega (arith, below b (full-matches ∙ room), matches.following)) ∙ matches.following;
+      before = length-with_number fs a new (omega (arith, leb-false 128 a room, matches.before)) ∙ matches.before;
+      following = length-with_number gs b new (omega (arith, leb-false 128 b (full-matches ∙ room), matches.following)) ∙ matches.following;
       injective = injective-new;
       same = same-new;
       onto = onto-new;

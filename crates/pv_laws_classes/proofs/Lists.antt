@@ -1,5 +1,5 @@
 -- Lists of processes whose descriptors are renumbered, and operations on both.
-use Rattle.std.proofs.Common.{◌≡◌, ℕ, zero, suc, Bool, true, false, cond, not, ◌||◌, ◌==◌, List, [], ◌∷◌, ◌++◌, map, filter, length, Option, None, Some, is_some, option_map, refl, ap, ap₂, sym, subst, ◌∙◌, ⊎_elim}
+use Rattle.std.proofs.Common.{◌≡◌, ℕ, zero, suc, Bool, true, false, cond, not, ◌==◌, List, [], ◌∷◌, ◌++◌, map, filter, length, Option, None, Some, option_map, refl, ap, ap₂, sym, subst, ◌∙◌, ⊎_elim}
 use Rattle.std.specs.FinMap.Entries.{by_order, find, put, where_key}
 use Rattle.std.specs.Ordering.{nat_cmp, eq_by_cmp}
 use Rattle.std.specs.declared.cmp.Ordering.{Ordering}
@@ -8,10 +8,10 @@ use Rattle.std.proofs.lemmas.Bool.{eq-eqb, eqb-true, or_left, or_right, or_cases
 use Rattle.std.proofs.lemmas.List.{map-append}
 use Rattle.std.proofs.lemmas.List.Folds.{list_any-append}
 use Rattle.pv_model.specs.Bytes.{is_empty}
-use Rattle.pv_model.specs.Calls.Processes.{parent_of, with_parent, adopt, is_unclaimed, statuses, descriptor_after_exec}
+use Rattle.pv_model.specs.Calls.Processes.{parent_of, adopt, is_unclaimed, statuses, descriptor_after_exec}
 use Rattle.pv_model.specs.Held.{among, used_files, held_by_process}
 use Rattle.pv_model.specs.Numbered.{Numbered, at_number, with_number, without_number, least_free, present}
-use Rattle.pv_model.specs.State.{Descriptor, Process, ProcessRecord, live, ended_record, live_process}
+use Rattle.pv_model.specs.State.{Descriptor, ProcessRecord, live, ended_record, live_process}
 use Rattle.pv_laws_states.proofs.Members.{all_of}
 use Rattle.pv_laws_classes.specs.Renumbering.{renumbered_descriptor, renumbered_descriptors, renumbered_process, renumbered_record, renumbered_processes}
 

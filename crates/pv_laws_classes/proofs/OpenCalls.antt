@@ -1,8 +1,7 @@
 -- Calls that make an open file: open, openat.
-use Rattle.std.proofs.Common.{◌≡◌, ◌≢◌, ℕ, Bool, true, false, if◌then◌else◌, nat_le, List, Option, None, Some, is_some, refl, ap, sym, subst, ◌∙◌, ⊎_elim}
+use Rattle.std.proofs.Common.{◌≡◌, ◌≢◌, ℕ, Bool, true, false, if◌then◌else◌, nat_le, List, Option, None, Some, is_some, refl, ap, sym, subst, ◌∙◌}
 use Rattle.std.specs.FinMap.Entries.{put}
 use Rattle.std.specs.Ordering.{nat_cmp}
-use Rattle.std.proofs.lemmas.Bool.{cases_eq}
 use Rattle.pv_model.specs.declared.call.Call.{Call}
 use Rattle.pv_model.specs.declared.call.Call.TheVariants as TheCall
 use Rattle.pv_model.specs.declared.call.Start.{Start}
@@ -22,9 +21,9 @@ use Rattle.pv_model.specs.Tree.{Tree}
 use Rattle.pv_model.specs.Walk.{is_absolute}
 use Rattle.pv_laws_trees.proofs.Numbered.{with_number-same_within, with_number-other_within, least_free-within, least_free-free}
 use Rattle.pv_laws_states.proofs.Rests
-use Rattle.pv_laws_classes.specs.Renumbering.{renumbered_descriptor, renumbered_descriptors, renumbered_process, renumbered_processes}
-use Rattle.pv_laws_classes.proofs.Attempts.{AreBoth, both-after, both-bind, both-then, both-cond, both-done, both-refused, both-room}
-use Rattle.pv_laws_classes.proofs.Files.{Matches, full-matches, renumbering, renumbering-new, renumbering-old, new-matches}
+use Rattle.pv_laws_classes.specs.Renumbering.{renumbered_descriptors, renumbered_process, renumbered_processes}
+use Rattle.pv_laws_classes.proofs.Attempts.{AreBoth, both-after, both-bind, both-then, both-refused, both-room}
+use Rattle.pv_laws_classes.proofs.Files.{full-matches, renumbering, renumbering-new, renumbering-old, new-matches}
 use Rattle.pv_laws_classes.proofs.Lists.{descriptor-put, descriptor-free, Uses, uses-with, uses-put, uses-weaker, each-weaker, agree-descriptors, agree-processes, put-renumbered}
 use Rattle.pv_laws_classes.proofs.Opened.{directory-same, directory-file}
 use Rattle.pv_laws_classes.proofs.States.{IsPresent, renumbered, Fits, AreRelated}

@@ -1,14 +1,13 @@
 -- The open file of a descriptor, in two states that are related by a renumbering of open files.
-use Rattle.std.proofs.Common.{◌≡◌, ℕ, ℤ, pos, negsuc, Bool, true, false, cond, not, if◌then◌else◌, Option, None, Some, option_map, refl, ap, sym, subst, ◌∙◌}
-use Rattle.pv_model.specs.declared.errno.Errno.TheVariants.{EBADF, ENOTDIR}
+use Rattle.std.proofs.Common.{◌≡◌, ℕ, ℤ, pos, negsuc, Bool, true, false, if◌then◌else◌, Option, None, Some, option_map, refl, ap, sym, subst, ◌∙◌}
+use Rattle.pv_model.specs.declared.errno.Errno.TheVariants.{EBADF}
 use Rattle.pv_model.specs.declared.open_flags.Mode.{Mode}
 use Rattle.pv_model.specs.declared.outcome.Cause.TheVariants.{Plain}
-use Rattle.pv_model.specs.Attempt.{Attempt, ◌>>=◌, ◌>>◌, give, refuse_if, demand}
+use Rattle.pv_model.specs.Attempt.{Attempt, ◌>>=◌, demand}
 use Rattle.pv_model.specs.Calls.Descriptors.{if_mode, directory_of}
 use Rattle.pv_model.specs.Effect.{Effect, descriptor_at, open_file_of, open_file, directory_of_file}
 use Rattle.pv_model.specs.Numbered.{Numbered, at_number}
 use Rattle.pv_model.specs.State.{OpenFile, Descriptor, Process, State}
-use Rattle.pv_model.specs.Tree.{is_directory_at}
 use Rattle.pv_laws_states.proofs.Rests
 use Rattle.pv_laws_classes.specs.Renumbering.{renumbered_descriptor, renumbered_process}
 use Rattle.pv_laws_classes.proofs.Attempts.{AreBoth, both-after, both-refused}

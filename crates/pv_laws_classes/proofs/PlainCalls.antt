@@ -40,7 +40,7 @@ module _ (f : ℕ → ℕ) (gs : Numbered OpenFile) (s : State) (pid : ℕ) (me 
   abbrev you : Process
   you = renumbered_process f me
 
-  -- the tree changes, or the caller in its other parts
+  -- the next state has another tree, or another caller with the same descriptors
   pub tree-both : (t : Tree) → AreRelated (record s { tree = t }) (record u { tree = t })
   tree-both t = related f gs (record s { tree = t }) (record { matches = fits.matches; opens = fits.opens })
 

@@ -1,11 +1,11 @@
 -- States that are related by a renumbering of open files, and operations on both.
-use Rattle.std.proofs.Common.{◌≡◌, ℕ, suc, Bool, true, false, ◌||◌, ◌==◌, if◌then◌else◌, List, [], ◌∷◌, ◌++◌, map, not, Option, None, Some, is_some, option_map, refl, ap, sym, subst, ◌∙◌}
+use Rattle.std.proofs.Common.{◌≡◌, ℕ, true, ◌||◌, ◌==◌, if◌then◌else◌, List, ◌++◌, map, not, Option, None, Some, is_some, option_map, refl, ap, sym, subst, ◌∙◌}
 use Rattle.std.specs.FinMap.Entries.{find, put}
 use Rattle.std.specs.Ordering.{nat_cmp}
 use Rattle.std.proofs.lemmas.List.Folds.{list_any-append}
 use Rattle.pv_model.specs.Answer.{update_live, update}
 use Rattle.pv_model.specs.Calls.Processes.{adopt, is_unclaimed, adopter, adopt_orphans, end_process}
-use Rattle.pv_model.specs.Held.{among, used_files, held_by_process, collect}
+use Rattle.pv_model.specs.Held.{among, held_by_process, collect}
 use Rattle.pv_model.specs.Numbered.{Numbered, at_number, present, keep}
 use Rattle.pv_model.specs.State.{OpenFile, Descriptor, Process, ProcessRecord, live, ended_record, State, live_process, process_at, with_process}
 use Rattle.pv_model.specs.Tree.{Tree, root, named_numbers}
@@ -15,7 +15,7 @@ use Rattle.pv_laws_trees.proofs.Numbered.{keep-agree, keep-passes}
 use Rattle.pv_laws_states.specs.Held.{used}
 use Rattle.pv_laws_states.proofs.Collect.{held_after}
 use Rattle.pv_laws_states.proofs.Members.{all_of, present-at, among-used}
-use Rattle.pv_laws_classes.specs.Renumbering.{renumbered_descriptors, renumbered_process, renumbered_record, renumbered_processes}
+use Rattle.pv_laws_classes.specs.Renumbering.{renumbered_process, renumbered_processes}
 use Rattle.pv_laws_classes.proofs.Files.{Matches, nodes-match, keep-matches}
 use Rattle.pv_laws_classes.proofs.Lists.{find-renumbered, put-renumbered, live-renumbered, adopted-renumbered, claimed, used-renumbered, held-renumbered, Uses, EachUses, among-uses, of-uses, uses-of, uses-put, uses-filter, uses-adopt}
 

@@ -8,26 +8,26 @@ use Rattle.pv_model.specs.declared.instruction.Instruction.TheVariants as Line
 use Rattle.pv_model.specs.declared.outcome.Cause.TheVariants.{Promise as ByPromise}
 use Rattle.pv_model.specs.declared.outcome.Outcome.TheVariants.{Killed}
 use Rattle.pv_model.specs.declared.promise.Promise.{Promise}
-use Rattle.pv_model.specs.Answer.{Answered, answer, answer_of, answer_where, answer_by_attempt, answer_without_promise, at_next_line, effect}
+use Rattle.pv_model.specs.Answer.{answer, answer_of, answer_where, answer_by_attempt, answer_without_promise, at_next_line, effect}
 use Rattle.pv_model.specs.Attempt.{refused}
 use Rattle.pv_model.specs.Bytes.{Bytes}
 use Rattle.pv_model.specs.Calls.Processes.{end_process}
-use Rattle.pv_model.specs.Held.{among, collect}
+use Rattle.pv_model.specs.Held.{collect}
 use Rattle.pv_model.specs.Needs.{needs}
 use Rattle.pv_model.specs.Numbered.{Numbered, at_number}
 use Rattle.pv_model.specs.Program.{Next, inside, calls_for, jump_if, is_zero, is_negative, register, perform, next_by, next}
 use Rattle.pv_model.specs.Promises.{missing_promise, is_lenient}
-use Rattle.pv_model.specs.State.{OpenFile, Program, Process, State, process_at, with_process}
+use Rattle.pv_model.specs.State.{OpenFile, Program, Process, State, process_at}
 use Rattle.pv_model.specs.Step.{Stepped, Run, step, step_of, step_by, run}
 use Rattle.pv_model.specs.Trace.{Line as TraceLine, buffer_of}
 use Rattle.pv_laws_states.specs.States.{IsValid}
 use Rattle.pv_laws_states.proofs.Members.{used-among}
 use Rattle.pv_laws_states.proofs.Outcomes.{at_call}
 use Rattle.pv_laws_steps.proofs.Reported.{lines-reported}
-use Rattle.pv_laws_classes.specs.Renumbering.{renumbered_process, Renumbered, StepsAnswerAlike, RenumberedStepsAnswerAlike, RunsAnswerAlike, RenumberedRunsAnswerAlike}
+use Rattle.pv_laws_classes.specs.Renumbering.{renumbered_process, Renumbered, RenumberedStepsAnswerAlike, RenumberedRunsAnswerAlike}
 use Rattle.pv_laws_classes.proofs.Attempts.{AreBoth, both-refused, AreAnswered, attempt-both}
-use Rattle.pv_laws_classes.proofs.DescriptorCalls.{descriptor-calls}
-use Rattle.pv_laws_classes.proofs.FileCalls.{file-calls}
+use Rattle.pv_laws_classes.proofs.DescriptorCalls.{is_on_descriptors, descriptor-calls}
+use Rattle.pv_laws_classes.proofs.FileCalls.{is_on_files, file-calls}
 use Rattle.pv_laws_classes.proofs.Files.{some-value}
 use Rattle.pv_laws_classes.proofs.Lists.{Uses, uses-of}
 use Rattle.pv_laws_classes.proofs.OpenCalls.{open-calls}
@@ -40,10 +40,10 @@ module _ (f : ℕ → ℕ) (gs : Numbered OpenFile) (s : State) (pid : ℕ) (me 
   abbrev Does : Call → Type 0
   Does call = AreBoth (effect program_of s pid me call) (effect program_of (renumbered f gs s) pid (renumbered_process f me) call)
 
-  on-descriptors : (call : Call) → Rattle.pv_laws_classes.proofs.DescriptorCalls.is_on_descriptors call ≡ true → Does call
+  on-descriptors : (call : Call) → is_on_descriptors call ≡ true → Does call
   on-descriptors call is = descriptor-calls f gs s pid me fits mine program_of call is
 
-  on-files : (call : Call) → Rattle.pv_laws_classes.proofs.FileCalls.is_on_files call ≡ true → Does call
+  on-files : (call : Call) → is_on_files call ≡ true → Does call
   on-files call is = file-calls f gs s pid me fits mine program_of call is
 
   calls-both : (call : Call) → Does call
