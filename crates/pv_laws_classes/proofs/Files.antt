@@ -97,20 +97,20 @@ module _ (f : ℕ → ℕ) (fs gs : Numbered OpenFile) (matches : Matches f fs g
       let found = present-at (λ (x : OpenFile). x.node) fs n is in
       subst (λ m. among (map (λ (x : OpenFile). x.node) (present gs)) m ≡ true) found.3 (among-present (λ (x : OpenFile). x.node) gs (f found.0) found.1 (matches.same found.0 found.1 found.2)))
 
-  -- only the open files that are used are kept
+  -- only the open files that are used remain
   pub keep-matches : (us : List ℕ) → ((n : ℕ) → among us n ≡ true → is_some (at_number fs n) ≡ true) → Matches f (keep (among us) fs) (keep (among (map f us)) gs)
   keep-matches us opens = record {
     before = length-keep (among us) fs ∙ matches.before;
     following = length-keep (among (map f us)) gs ∙ matches.following;
     injective = λ m n x y at_m at_n. matches.injective m n x y (keep-some (among us) fs m x at_m).1 (keep-some (among us) fs n y at_n).1;
     same = λ n x at.
-        let kept = keep-some (among us) fs n x at in
-        keep-passes (among (map f us)) gs (f n) (among-map f us n kept.0) ∙ matches.same n x kept.1;
+        let remains = keep-some (among us) fs n x at in
+        keep-passes (among (map f us)) gs (f n) (among-map f us n remains.0) ∙ matches.same n x remains.1;
     onto = λ m x at.
-        let kept = keep-some (among (map f us)) gs m x at in
-        let own = map-among f us m kept.0 in
+        let remains = keep-some (among (map f us)) gs m x at in
+        let own = map-among f us m remains.0 in
         let old = some-value (at_number fs own.0) (opens own.0 own.1) in
-        let both : Some old.0 ≡ Some x = sym (matches.same own.0 old.0 old.1) ∙ ap (at_number gs) own.2 ∙ kept.1 in
+        let both : Some old.0 ≡ Some x = sym (matches.same own.0 old.0 old.1) ∙ ap (at_number gs) own.2 ∙ remains.1 in
         (own.0, keep-passes (among us) fs own.0 own.1 ∙ old.1 ∙ both, own.2);
   }
 
