@@ -104,13 +104,13 @@ module _ (f : ℕ → ℕ) (fs gs : Numbered OpenFile) (matches : Matches f fs g
     following = length-keep (among (map f us)) gs ∙ matches.following;
     injective = λ m n x y at_m at_n. matches.injective m n x y (keep-some (among us) fs m x at_m).1 (keep-some (among us) fs n y at_n).1;
     same = λ n x at.
-        let remains = keep-some (among us) fs n x at in
-        keep-passes (among (map f us)) gs (f n) (among-map f us n remains.0) ∙ matches.same n x remains.1;
+        let remaining = keep-some (among us) fs n x at in
+        keep-passes (among (map f us)) gs (f n) (among-map f us n remaining.0) ∙ matches.same n x remaining.1;
     onto = λ m x at.
-        let remains = keep-some (among (map f us)) gs m x at in
-        let own = map-among f us m remains.0 in
+        let remaining = keep-some (among (map f us)) gs m x at in
+        let own = map-among f us m remaining.0 in
         let old = some-value (at_number fs own.0) (opens own.0 own.1) in
-        let both : Some old.0 ≡ Some x = sym (matches.same own.0 old.0 old.1) ∙ ap (at_number gs) own.2 ∙ remains.1 in
+        let both : Some old.0 ≡ Some x = sym (matches.same own.0 old.0 old.1) ∙ ap (at_number gs) own.2 ∙ remaining.1 in
         (own.0, keep-passes (among us) fs own.0 own.1 ∙ old.1 ∙ both, own.2);
   }
 

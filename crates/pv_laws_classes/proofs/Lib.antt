@@ -4,7 +4,24 @@
 --   open file of a descriptor).
 -- - The effects of calls: PlainCalls (no open file), DescriptorCalls (processes and descriptors), FileCalls (contents
 --   and offsets), OpenCalls (a new open file).
--- - Steps: steps and runs. ExampleRuns: examples by computation.
+-- - Steps: steps and runs. Forms: the equivalence and the canonical form.
+-- - The search, for any function that gives the class of a state: Classes (such functions: the identity and the canonical
+--   form), Searching (step by step), Orders (lists in an order, and witnesses), Visited (the visited states and reported
+--   steps), BothSearches (two complete searches), Fewer (the number of visited states).
+-- - ClassLaws: its laws. AlikeAccesses, FirstObserved: accesses, and observations of steps.
+-- - ExampleRuns, ClassExampleRuns: examples by computation.
+--
+-- Lemmas on combined steps.
+-- - Registers (steps on registers, and steps of another process that they pass), Turns (the normal form of a schedule),
+--   Combined (schedules of combined steps), Lengths (the least length of a schedule). TogetherExampleRuns: examples by
+--   computation.
+--
+-- Lemmas on states that are equal but for dead variables.
+-- - LiveLists (lists of processes that are the same but for registers and buffers), LiveStates (operations on such
+--   states), LiveValues (registers and buffers that agree), LiveNext (the next step of a process), LiveAttempts,
+--   LiveAnswers and LiveCounts (attempts, answers, lines), LiveCalls (the effects of calls).
+-- - LiveSteps: steps and runs. LiveTables and LiveExact: live variables by iteration. LiveClasses and LiveCleared: the
+--   equivalence, and states with zero in dead variables. LiveExampleRuns: examples by computation.
 pub mod Lists
 pub mod Files
 pub mod States
@@ -15,4 +32,34 @@ pub mod DescriptorCalls
 pub mod FileCalls
 pub mod OpenCalls
 pub mod Steps
+pub mod Forms
+pub mod Classes
+pub mod Searching
+pub mod Orders
+pub mod Visited
+pub mod BothSearches
+pub mod Fewer
+pub mod ClassLaws
+pub mod AlikeAccesses
+pub mod FirstObserved
 pub mod ExampleRuns
+pub mod ClassExampleRuns
+pub mod Registers
+pub mod Turns
+pub mod Combined
+pub mod Lengths
+pub mod TogetherExampleRuns
+pub mod LiveLists
+pub mod LiveValues
+pub mod LiveNext
+pub mod LiveStates
+pub mod LiveAttempts
+pub mod LiveCalls
+pub mod LiveAnswers
+pub mod LiveCounts
+pub mod LiveSteps
+pub mod LiveTables
+pub mod LiveExact
+pub mod LiveExampleRuns
+pub mod LiveClasses
+pub mod LiveCleared

@@ -101,8 +101,8 @@ module _ (f : ℕ → ℕ) (gs : Numbered OpenFile) (x : State) (fits : Fits f g
   opens : (n : ℕ) → among (used x) n ≡ true → IsPresent x.files n
   opens = of-uses (IsPresent x.files) x.processes fits.opens
 
-  stays-present : Matches f (keep (among (used x)) x.files) (keep (among (map f (used x))) gs)
-  stays-present = keep-matches f x.files gs fits.matches (used x) opens
+  remaining : Matches f (keep (among (used x)) x.files) (keep (among (map f (used x))) gs)
+  remaining = keep-matches f x.files gs fits.matches (used x) opens
 
   -- the used open files of both
   used-is : used y ≡ map f (used x)
@@ -111,7 +111,7 @@ module _ (f : ℕ → ℕ) (gs : Numbered OpenFile) (x : State) (fits : Fits f g
   held-is : (n : ℕ) → among (all_of held_by_process x.processes ++ map (λ (o : OpenFile). o.node) (present (keep (among (map f (used x))) gs))) n ≡ among (held_after x) n
   held-is n =
       list_any-append (λ m. m == n) (all_of held_by_process x.processes) (map (λ (o : OpenFile). o.node) (present (keep (among (map f (used x))) gs)))
-      ∙ ap (λ b. among (all_of held_by_process x.processes) n || b) (nodes-match f (keep (among (used x)) x.files) (keep (among (map f (used x))) gs) stays-present n)
+      ∙ ap (λ b. among (all_of held_by_process x.processes) n || b) (nodes-match f (keep (among (used x)) x.files) (keep (among (map f (used x))) gs) remaining n)
       ∙ sym (list_any-append (λ m. m == n) (all_of held_by_process x.processes) (map (λ (o : OpenFile). o.node) (present (keep (among (used x)) x.files))))
 
   collected : collect y ≡ renumbered f (keep (among (map f (used x))) gs) (collect x)
@@ -124,7 +124,7 @@ module _ (f : ℕ → ℕ) (gs : Numbered OpenFile) (x : State) (fits : Fits f g
   fits-collect : Fits f (keep (among (map f (used x))) gs) (collect x)
   unfolding collect
   fits-collect = record {
-    matches = stays-present;
+    matches = remaining;
     opens = uses-of (IsPresent (keep (among (used x)) x.files)) x.processes (λ n is. ap is_some (keep-passes (among (used x)) x.files n is) ∙ opens n is);
   }
 

@@ -67,7 +67,7 @@ module _ (f : ℕ → ℕ) (gs : Numbered OpenFile) (s : State) (pid : ℕ) (me 
 -- ---- the next step of a process
 
 module _ (f : ℕ → ℕ) where
-  abbrev renumbered_next : Next → Next
+  abbrev pub renumbered_next : Next → Next
   renumbered_next (inside q) = inside (renumbered_process f q)
   renumbered_next (calls_for call) = calls_for call
 
@@ -82,7 +82,7 @@ module _ (f : ℕ → ℕ) where
   perform-renumbered p (Line.JumpIfNegative r line) = ap inside (jump-renumbered (is_negative (register p r)) p line)
   perform-renumbered p i = refl
 
-  next-renumbered : (p : Process) → next (renumbered_process f p) ≡ renumbered_next (next p)
+  pub next-renumbered : (p : Process) → next (renumbered_process f p) ≡ renumbered_next (next p)
   next-renumbered p = by (slice_get p.program (p.line - 1))
     where
       by : (o : Option Instruction) → next_by (renumbered_process f p) o ≡ renumbered_next (next_by p o)
@@ -233,7 +233,7 @@ run-related program_of (pid ∷ pids) s t is =
 
 -- ---- the laws
 
-related-of : (f : ℕ → ℕ) (s t : State) → IsValid s → IsValid t → Renumbered f s t → AreRelated s t
+pub related-of : (f : ℕ → ℕ) (s t : State) → IsValid s → IsValid t → Renumbered f s t → AreRelated s t
 related-of f s t whole whole_t is = record {
   f = f;
   files = t.files;

@@ -1,2 +1,9 @@
 pub mod Renumbering
 pub mod Examples
+pub mod Canonical
+pub mod Search
+pub mod ClassExamples
+pub mod Together
+pub mod TogetherExamples
+pub mod Liveness
+pub mod LivenessExamples

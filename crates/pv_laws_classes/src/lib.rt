@@ -1,11 +1,24 @@
-//! Laws of states that a search may identify.
+//! Laws of states that a search may identify, and of steps that it may combine.
 //!
-//! Two states that are equal up to a renumbering of open files have steps with equal outcomes and lines, and the steps
-//! lead to such states. Each law is a function with an empty body whose contract is the statement, defined in `specs/`.
+//! Two states that are equal up to a renumbering of open files, or but for dead registers and bytes of buffers, have
+//! steps with equal outcomes and lines, and the steps lead to such states. The steps of a process on registers can be
+//! combined with its next other step. Each law is a function with an empty body whose contract is the statement, defined
+//! in `specs/`.
 //!
-//! - `renumbering`: the law for steps, and for runs.
-//! - `examples`: worked runs, and a counterexample for a map of numbers that is not injective.
+//! - `renumbering`: the law for open files, for steps and for runs.
+//! - `canonical`: the equivalence, and the canonical form of a state.
+//! - `search`: the search that visits one state of each class, and what it has in common with the search of all states.
+//! - `liveness`: the law for dead registers and bytes, for steps and for runs, and tests that compute which are live.
+//! - `together`: the normal form of a schedule, and combined steps.
+//! - `examples`: worked runs and searches, and counterexamples: a map of numbers that is not injective, and live registers
+//!   and bytes.
+//! - `together_examples`: worked runs, and a read, which cannot be combined with the next step.
 #![tactic(auto)]
 
+pub mod canonical;
 pub mod examples;
+pub mod liveness;
 pub mod renumbering;
+pub mod search;
+pub mod together;
+pub mod together_examples;

@@ -1,0 +1,135 @@
+-- Lists in an order, and the order of witnesses.
+use Rattle.std.proofs.Common.{◌≡◌, ◌≢◌, ◌∙◌, sym, ap, ap₂, subst, ℕ, suc, ◌≤◌, Bool, true, false, cond, List, [], ◌∷◌, ◌++◌, length, length-append, flat_map, filter, Option, ◌⊎◌, inl, inr, refl, arith, zero-le}
+use Rattle.std.specs.List.{AllByRecursion}
+use Rattle.pv_model.specs.Answers.Explore.{Found, Move, moves_of}
+use Rattle.pv_model.specs.Bytes.{Bytes}
+use Rattle.pv_model.specs.State.{Program}
+use Rattle.pv_laws_answers.specs.Witnesses.{IsLess, IsBefore, IsNoLater, EachToLater}
+use Rattle.pv_laws_answers.proofs.Lists.{Among, among-left, among-right, among-either, each-among, each-from_among, each-append, flat-among, filter-among}
+use Rattle.pv_laws_answers.proofs.Marks.{among-between}
+use Rattle.pv_laws_answers.proofs.Searching.{Ascending}
+use Rattle.pv_laws_answers.proofs.Witnesses.{before-one_more, before-last, before-then}
+
+-- ---- a relation from each element to each later one
+
+pub to_later-append : {X : Type 0} (R : X → X → Type 0) (xs ys : List X) → EachToLater R xs → EachToLater R ys → ((x : X) → Among x xs → (y : X) → Among y ys → R x y) → EachToLater R (xs ++ ys)
+to_later-append R [] ys a b c = b
+to_later-append R (x ∷ xs) ys a b c =
+    (each-append (R x) xs ys a.0 (each-from_among (R x) ys (λ y h. c x (inl refl) y h)), to_later-append R xs ys a.1 b (λ z h. c z (inr h)))
+
+pub to_later-weaker : {X : Type 0} (R Q : X → X → Type 0) (xs : List X) → ((x y : X) → Among x xs → Among y xs → R x y → Q x y) → EachToLater R xs → EachToLater Q xs
+to_later-weaker R Q [] f a = tt
+to_later-weaker R Q (x ∷ xs) f a =
+    (each-from_among (Q x) xs (λ y h. f x y (inl refl) (inr h) (each-among (R x) xs a.0 y h)), to_later-weaker R Q xs (λ y z h k. f y z (inr h) (inr k)) a.1)
+
+pub to_later-filter : {X : Type 0} (R : X → X → Type 0) (test : X → Bool) (xs : List X) → EachToLater R xs → EachToLater R (filter test xs)
+to_later-filter R test [] a = tt
+to_later-filter {X} R test (x ∷ xs) a = by (test x) (to_later-filter R test xs a.1)
+  where
+    by : (b : Bool) → EachToLater R (filter test xs) → EachToLater R (cond b (x ∷ filter test xs) (filter test xs))
+    by true rest = (each-from_among (R x) (filter test xs) (λ y h. each-among (R x) xs a.0 y (filter-among test y xs h).0), rest)
+    by false rest = rest
+
+-- two lists in a strict order that have the same elements are equal
+module _ {X : Type 0} (R : X → X → Type 0) (irreflexive : (x : X) → R x x → ⊥) (transitive : (x y z : X) → R x y → R y z → R x z) where
+  -- the first elements are equal
+  same-first : (x y : X) (xs ys : List X) → AllByRecursion (R x) xs → AllByRecursion (R y) ys → Among x (y ∷ ys) → Among y (x ∷ xs) → x ≡ y
+  same-first x y xs ys a b (inl e) k = e
+  same-first x y xs ys a b (inr h) (inl e) = sym e
+  same-first x y xs ys a b (inr h) (inr k) = absurd (irreflexive x (transitive x y x (each-among (R x) xs a y k) (each-among (R y) ys b x h)))
+
+  -- an element of the rest is in the other rest
+  in-rest : (x y : X) (xs ys : List X) → x ≡ y → AllByRecursion (R x) xs → (z : X) → Among z xs → Among z (y ∷ ys) → Among z ys
+  in-rest x y xs ys same a z h (inl e) = absurd (irreflexive x (subst (R x) (e ∙ sym same) (each-among (R x) xs a z h)))
+  in-rest x y xs ys same a z h (inr k) = k
+
+  pub sorted-same : (xs ys : List X) → EachToLater R xs → EachToLater R ys → ((z : X) → Among z xs → Among z ys) → ((z : X) → Among z ys → Among z xs) → xs ≡ ys
+  sorted-same [] [] a b there back = refl
+  sorted-same [] (y ∷ ys) a b there back = absurd (back y (inl refl))
+  sorted-same (x ∷ xs) [] a b there back = absurd (there x (inl refl))
+  sorted-same (x ∷ xs) (y ∷ ys) a b there back =
+      let same = same-first x y xs ys a.0 b.0 (there x (inl refl)) (back y (inl refl)) in
+      ap₂ (λ z (zs : List X). z ∷ zs) same
+      (sorted-same xs ys a.1 b.1 (λ z h. in-rest x y xs ys same a.0 z h (there z (inr h))) (λ z h. in-rest y x ys xs (sym same) b.0 z h (back z (inr h))))
+
+-- a list of different elements is no longer than a list that has an image of each, if different elements have different
+-- images
+pub no-longer : {X Y : Type 0} (Q : X → Y → Type 0) (xs : List X) (ys : List Y) → ((x : X) → Among x xs → (y : Y) × Among y ys × Q x y)
+    → EachToLater (λ x z. (y : Y) → Q x y → Q z y → ⊥) xs → length xs ≤ length ys
+no-longer Q [] ys images apart = zero-le
+no-longer {X} {Y} Q (x ∷ xs) ys images apart =
+    let first = images x (inl refl) in
+    let parts = among-between first.0 ys first.1 in
+    let rest = no-longer Q xs (parts.0 ++ parts.1)
+    (λ z h.
+    let own = images z (inr h) in
+    (own.0, other first.0 parts.0 parts.1 own.0 (λ same. each-among (λ z. (y : Y) → Q x y → Q z y → ⊥) xs apart.0 z h first.0 first.2 (subst (Q z) same own.2)) (subst (Among own.0) parts.2 own.1), own.2))
+    apart.1 in
+    let all = ap length parts.2 in omega (arith, rest, all, length-append parts.0 parts.1, length-append parts.0 (first.0 ∷ parts.1))
+  where
+    other : (y : Y) (before after : List Y) (z : Y) → z ≢ y → Among z (before ++ y ∷ after) → Among z (before ++ after)
+    other y before after z apart h = by (among-either z before (y ∷ after) h)
+      where
+        by : Among z before ⊎ Among z (y ∷ after) → Among z (before ++ after)
+        by (inl k) = among-left z before after k
+        by (inr (inl e)) = absurd (apart e)
+        by (inr (inr k)) = among-right z before after k
+
+-- ---- witnesses
+
+less-itself : (w : List ℕ) → IsLess w w → ⊥
+less-itself [] h = h
+less-itself (x ∷ xs) (inl h) = absurd (omega (arith, h))
+less-itself (x ∷ xs) (inr h) = less-itself xs h.1
+
+pub before-itself : (w : List ℕ) → IsBefore w w → ⊥
+before-itself w (inl h) = absurd (omega (arith, h))
+before-itself w (inr h) = less-itself w h.1
+
+pub no_later-both : (a b : List ℕ) → IsNoLater a b → IsNoLater b a → a ≡ b
+no_later-both a b (inl e) k = e
+no_later-both a b (inr h) (inl e) = sym e
+no_later-both a b (inr h) (inr k) = absurd (before-itself a (before-then a b a h k))
+
+-- a list has one last element
+pub same-last : (xs ys : List ℕ) (x y : ℕ) → xs ++ x ∷ [] ≡ ys ++ y ∷ [] → (xs ≡ ys) × (x ≡ y)
+same-last [] [] x y same = let last : x ≡ y = cc same in (refl, last)
+same-last [] (z ∷ ys) x y same = absurd (omega (arith, ap length same, length-append ys (y ∷ [])))
+same-last (z ∷ xs) [] x y same = absurd (omega (arith, ap length same, length-append xs (x ∷ [])))
+same-last (z ∷ xs) (u ∷ ys) x y same =
+    let first : z ≡ u = cc same in
+    let tail : xs ++ x ∷ [] ≡ ys ++ y ∷ [] = cc same in
+    let rest = same-last xs ys x y tail in
+    (ap₂ (λ v (vs : List ℕ). v ∷ vs) first rest.0, rest.1)
+
+-- ---- the steps of a search are in the order of their witnesses
+
+abbrev pub Earlier : Move → Move → Type 0
+Earlier m n = IsBefore m.witness n.witness
+
+ascending-from : (w : List ℕ) (low : ℕ) (ms : List Move) → Ascending w low ms → (m : Move) → Among m ms → (m.witness ≡ w ++ m.pid ∷ []) × (low ≤ m.pid)
+ascending-from w low [] a m h = absurd h
+ascending-from w low (n ∷ ms) a m (inl e) = subst (λ (k : Move). (k.witness ≡ w ++ k.pid ∷ []) × (low ≤ k.pid)) (sym e) (a.0, a.1)
+ascending-from w low (n ∷ ms) a m (inr h) = let r = ascending-from w (suc n.pid) ms a.2 m h in (r.0, omega (arith, r.1, a.1))
+
+ascending-earlier : (w : List ℕ) (low : ℕ) (ms : List Move) → Ascending w low ms → EachToLater Earlier ms
+ascending-earlier w low [] a = tt
+ascending-earlier w low (m ∷ ms) a = (
+  each-from_among (Earlier m) ms (λ n h.
+      let r = ascending-from w (suc m.pid) ms a.2 n h in
+      subst (λ (v : List ℕ). IsBefore v n.witness) (sym a.0) (subst (λ (v : List ℕ). IsBefore (w ++ m.pid ∷ []) v) (sym r.0) (before-last m.pid n.pid r.1 w))),
+  ascending-earlier w (suc m.pid) ms a.2,
+)
+
+pub moves-earlier : (program_of : Bytes → Option Program) (fs : List Found) → AllByRecursion (λ f. Ascending f.witness 0 (moves_of program_of f)) fs → EachToLater (λ f g. IsBefore f.witness g.witness) fs
+    → EachToLater Earlier (flat_map (moves_of program_of) fs)
+moves-earlier program_of [] a r = tt
+moves-earlier program_of (f ∷ fs) a r =
+    to_later-append Earlier (moves_of program_of f) (flat_map (moves_of program_of) fs) (ascending-earlier f.witness 0 (moves_of program_of f) a.0) (moves-earlier program_of fs a.1 r.1)
+    (λ m h n k.
+    let from = flat-among (moves_of program_of) n fs k in
+    let here = ascending-from f.witness 0 (moves_of program_of f) a.0 m h in
+    let there = ascending-from from.0.witness 0 (moves_of program_of from.0) (each-among (λ g. Ascending g.witness 0 (moves_of program_of g)) fs a.1 from.0 from.1) n from.2 in
+    let before = each-among (λ g. IsBefore f.witness g.witness) fs r.0 from.0 from.1 in
+    subst (λ (v : List ℕ). IsBefore v n.witness) (sym here.0)
+    (subst (λ (v : List ℕ). IsBefore (f.witness ++ m.pid ∷ []) v) (sym there.0) (before-one_more m.pid n.pid f.witness from.0.witness before)))

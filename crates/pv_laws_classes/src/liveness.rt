@@ -1,0 +1,48 @@
+//! Laws of states that are equal but for dead variables: registers and bytes of the buffer that a process sets before it
+//! reads them.
+
+ghost use Rattle.pv_laws_classes.specs.Liveness.{ReadIsClosed, ClosedTestsAcceptRead, ComputedIsClosed, ComputedIsRead, AlikeStatesFormClasses, ClearedStatesRepresent, UnreadVariablesAlterNothing, RejectedVariablesAlterNothing};
+
+/// The variables that some path of the program reads before setting them satisfy the conditions for live variables.
+pub fn read_variables_are_closed()
+    ensures { ReadIsClosed }
+{}
+
+/// Every test that satisfies these conditions accepts all of them.
+pub fn closed_tests_accept_read_variables()
+    ensures { ClosedTestsAcceptRead }
+{}
+
+/// The test that iterates over the lines of a program, as many times as there are lines, satisfies the conditions. So
+/// does the coarser test with the same registers and a bound of bytes for each line.
+pub fn computed_variables_are_closed()
+    ensures { ComputedIsClosed }
+{}
+
+/// In a valid program, the iteration accepts no other variables than those that some path reads before setting them.
+pub fn computed_variables_are_read()
+    ensures { ComputedIsRead }
+{}
+
+/// To be equal but for dead variables is an equivalence of states.
+pub fn alike_states_form_classes()
+    ensures { AlikeStatesFormClasses }
+{}
+
+/// The state with zero in the registers and bytes that a test rejects represents its class: it is in the class, and equal
+/// for all states of the class and for no others.
+pub fn cleared_states_represent()
+    ensures { ClearedStatesRepresent }
+{}
+
+/// A register, or a byte of the buffer, that no path of the program from this line reads before setting it does not
+/// distinguish a state from a valid one: the steps have the same outcome and lines and lead to such states, and runs have
+/// the same lines.
+pub fn unread_variables_alter_nothing()
+    ensures { UnreadVariablesAlterNothing }
+{}
+
+/// The same holds for the variables that a test rejects, for every test that satisfies the conditions.
+pub fn rejected_variables_alter_nothing()
+    ensures { RejectedVariablesAlterNothing }
+{}
