@@ -1,64 +1,22 @@
 -- Attempts and answers in two states that are related by a renumbering of open files.
-use Rattle.std.proofs.Common.{◌≡◌, ℕ, pos, negsuc, Bool, true, false, cond, not, refl, ap, sym, subst}
-use Rattle.pv_model.specs.declared.errno.Errno.{Errno}
-use Rattle.pv_model.specs.declared.errno.Errno.TheVariants.{EFBIG, ENOSPC}
-use Rattle.pv_model.specs.declared.outcome.Cause.{Cause}
+use Rattle.std.proofs.Common.{◌≡◌, ℕ, pos, negsuc, refl, ap, sym, subst}
 use Rattle.pv_model.specs.Answer.{Answered, answer_by_reply, answer_by_attempt, with_front, update}
-use Rattle.pv_model.specs.Attempt.{Attempt, done, refused, after_walks, ◌>>=◌, ◌>>◌, give, refuse_if}
+use Rattle.pv_model.specs.Attempt.{Attempt, done, refused, ◌>>=◌}
 use Rattle.pv_model.specs.Calls.Processes.{with_result, end_process}
 use Rattle.pv_model.specs.Effect.{Effect, Reply, returns, returns_bytes, ends, waits, answers, with_room}
 use Rattle.pv_model.specs.Errno.{errno_number}
 use Rattle.pv_model.specs.Held.{collect}
-use Rattle.pv_model.specs.Room.{is_too_long, fits}
 use Rattle.pv_model.specs.State.{Process, State}
 use Rattle.pv_laws_classes.specs.Renumbering.{renumbered_process}
+use Rattle.pv_laws_classes.proofs.Both as Both
+use Rattle.pv_laws_classes.proofs.Both.{AreBoth}
 use Rattle.pv_laws_classes.proofs.States.{AreRelated, collect-related, tree-related, update-related, end-related}
 
 -- ---- attempts
 
-abbrev AreBothBy : Attempt Effect → Attempt Effect → Type 0
-AreBothBy (done w (x, r)) b = (y : State) × (b ≡ done w (y, r)) × AreRelated x y
-AreBothBy (refused w e c) b = b ≡ refused w e c
-
--- both are refused alike, or both have the same reply and lead to related states
-pub record AreBoth (a b : Attempt Effect) : Type 0 where
-  pub by : AreBothBy a b
-
-pub both-after : (m : ℕ) (a b : Attempt Effect) → AreBoth a b → AreBoth (after_walks m a) (after_walks m b)
-both-after m (done w (x, r)) b is = record { by = (is.by.0, ap (after_walks m) is.by.1, is.by.2) }
-both-after m (refused w e c) b is = record { by = ap (after_walks m) is.by }
-
-pub both-bind : {B : Type 0} (a : Attempt B) (g h : B → Attempt Effect) → ((v : B) → AreBoth (g v) (h v)) → AreBoth (a >>= g) (a >>= h)
-both-bind (done w v) g h is = both-after w (g v) (h v) (is v)
-both-bind (refused w e c) g h is = record { by = refl }
-
-pub both-then : {B : Type 0} (a : Attempt B) (g h : Attempt Effect) → AreBoth g h → AreBoth (a >> g) (a >> h)
-both-then (done w v) g h is = both-after w g h is
-both-then (refused w e c) g h is = record { by = refl }
-
-pub both-cond : (b : Bool) (x y v w : Attempt Effect) → AreBoth x v → AreBoth y w → AreBoth (cond b x y) (cond b v w)
-both-cond true x y v w is other = is
-both-cond false x y v w is other = other
-
-pub both-done : (n : ℕ) (r : Reply) (x y : State) → AreRelated x y → AreBoth (done n (x, r)) (done n (y, r))
-both-done n r x y is = record { by = (y, refl, is) }
-
-pub both-refused : (n : ℕ) (e : Errno) (c : Cause) → AreBoth (refused n e c) (refused n e c)
-both-refused n e c = record { by = refl }
-
 -- a check for room has the same result in related states
-pub both-room : (x y : State) (n : ℕ) → AreRelated x y → AreBoth (with_room x >>= (λ roomy. answers roomy n)) (with_room y >>= (λ roomy. answers roomy n))
-both-room x y n is =
-    let tree = tree-related (collect x) (collect y) (collect-related x y is) in
-    subst (λ l. AreBoth (with_room x >>= (λ roomy. answers roomy n)) ((refuse_if EFBIG l >> (refuse_if ENOSPC (not (fits (collect y).tree)) >> give y)) >>= (λ roomy. answers roomy n))) (sym (ap is_too_long tree))
-    (subst (λ m. AreBoth (with_room x >>= (λ roomy. answers roomy n)) ((refuse_if EFBIG (is_too_long (collect x).tree) >> (refuse_if ENOSPC (not m) >> give y)) >>= (λ roomy. answers roomy n))) (sym (ap fits tree))
-    (by (is_too_long (collect x).tree) (fits (collect x).tree)))
-  where
-    by : (long fit : Bool) → AreBoth ((refuse_if EFBIG long >> (refuse_if ENOSPC (not fit) >> give x)) >>= (λ roomy. answers roomy n))
-        ((refuse_if EFBIG long >> (refuse_if ENOSPC (not fit) >> give y)) >>= (λ roomy. answers roomy n))
-    by true fit = record { by = refl }
-    by false true = record { by = (y, refl, is) }
-    by false false = record { by = refl }
+pub both-room : (x y : State) (n : ℕ) → AreRelated x y → AreBoth AreRelated (with_room x >>= (λ roomy. answers roomy n)) (with_room y >>= (λ roomy. answers roomy n))
+both-room = Both.both-room AreRelated (λ x y is. tree-related (collect x) (collect y) (collect-related x y is))
 
 -- ---- answers
 
@@ -89,7 +47,7 @@ module _ (pid : ℕ) (f : ℕ → ℕ) (me : Process) (before before' s s' : Sta
   }
   reply-both walks waits x y is = record { after = from; outcome = refl; walks = refl }
 
-  pub attempt-both : (a b : Attempt Effect) → AreBoth a b → AreAnswered (answer_by_attempt before s pid me a) (answer_by_attempt before' s' pid (renumbered_process f me) b)
+  pub attempt-both : (a b : Attempt Effect) → AreBoth AreRelated a b → AreAnswered (answer_by_attempt before s pid me a) (answer_by_attempt before' s' pid (renumbered_process f me) b)
   attempt-both (done w (x, r)) b is =
       subst (λ z. AreAnswered (answer_by_attempt before s pid me (done w (x, r))) (answer_by_attempt before' s' pid (renumbered_process f me) z)) (sym is.by.1) (reply-both w r x is.by.0 is.by.2)
   attempt-both (refused w e c) b is =

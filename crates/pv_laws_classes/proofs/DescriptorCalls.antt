@@ -16,7 +16,7 @@ use Rattle.pv_model.specs.Numbered.{Numbered, with_number, least_free}
 use Rattle.pv_model.specs.State.{OpenFile, Descriptor, Program, Process, live, State, with_process}
 use Rattle.pv_laws_states.proofs.Rests
 use Rattle.pv_laws_classes.specs.Renumbering.{renumbered_descriptor, renumbered_descriptors, renumbered_process, renumbered_processes}
-use Rattle.pv_laws_classes.proofs.Attempts.{AreBoth, both-after, both-bind, both-then, both-done, both-refused}
+use Rattle.pv_laws_classes.proofs.Both.{AreBoth, both-after, both-bind, both-then, both-done, both-refused}
 use Rattle.pv_laws_classes.proofs.Lists.{length-renumbered, put-renumbered, where-renumbered, children-renumbered, descriptor-put, descriptor-gone, descriptor-free, descriptor-exec, Uses, uses-with, uses-without, uses-exec, uses-put, uses-where}
 use Rattle.pv_laws_classes.proofs.Opened.{descriptor-same, by-descriptor, by-any, directory-same}
 use Rattle.pv_laws_classes.proofs.PlainCalls.{own-both}
@@ -41,7 +41,7 @@ module _ (f : ℕ → ℕ) (gs : Numbered OpenFile) (s : State) (pid : ℕ) (me 
   you = renumbered_process f me
 
   abbrev B : Attempt Effect → Attempt Effect → Type 0
-  B = AreBoth
+  B = AreBoth AreRelated
 
   -- the caller has these descriptors
   holding : (ds es : Numbered Descriptor) → Uses (IsPresent s.files) ds → es ≡ renumbered_descriptors f ds
@@ -72,7 +72,7 @@ module _ (f : ℕ → ℕ) (gs : Numbered OpenFile) (s : State) (pid : ℕ) (me 
   fork-both : B (fork s pid me) (fork u pid you)
   fork-both =
       subst (λ n. B (fork s pid me) (refuse_if EAGAIN (nat_le 32 n || nat_lt 99999 number) >> answers (forked u you) number)) (sym (length-renumbered f s.processes))
-      (both-then (refuse_if EAGAIN (nat_le 32 (length s.processes) || nat_lt 99999 number)) (answers (forked s me) number) (answers (forked u you) number) (both-done 0 (returns number) (forked s me) (forked u you) forked-both))
+      (both-then AreRelated (refuse_if EAGAIN (nat_le 32 (length s.processes) || nat_lt 99999 number)) (answers (forked s me) number) (answers (forked u you) number) (both-done AreRelated 0 (returns number) (forked s me) (forked u you) forked-both))
 
   reaped : (test : ℕ → Bool) → AreRelated (record s { processes = where_key nat_cmp test s.processes }) (record u { processes = where_key nat_cmp test (renumbered_processes f s.processes) })
   reaped test = record {
@@ -83,14 +83,14 @@ module _ (f : ℕ → ℕ) (gs : Numbered OpenFile) (s : State) (pid : ℕ) (me 
   }
 
   reap-both : (ss : List (ℕ × ℕ)) → B (reap s pid me ss) (reap u pid you ss)
-  reap-both [] = both-done 0 _ s u (related f gs s fits)
-  reap-both ((n, status) ∷ rs) = both-done 0 _ _ _ (reaped (λ j. not (j == n)))
+  reap-both [] = both-done AreRelated 0 _ s u (related f gs s fits)
+  reap-both ((n, status) ∷ rs) = both-done AreRelated 0 _ _ _ (reaped (λ j. not (j == n)))
 
   wait-both : B (wait s pid me) (wait u pid you)
   wait-both =
       let both = children-renumbered f pid s.processes in
       subst (λ b. B (wait s pid me) (refuse_if ECHILD b >> reap u pid you (statuses (children u pid you)))) (sym both.1)
-      (both-then (refuse_if ECHILD (is_empty (children s pid me))) (reap s pid me (statuses (children s pid me))) (reap u pid you (statuses (children u pid you)))
+      (both-then AreRelated (refuse_if ECHILD (is_empty (children s pid me))) (reap s pid me (statuses (children s pid me))) (reap u pid you (statuses (children u pid you)))
       (subst (λ ss. B (reap s pid me (statuses (children s pid me))) (reap u pid you ss)) (sym both.0) (reap-both (statuses (children s pid me)))))
 
   begun : (program : Program) → AreRelated (with_process s pid (with_program s pid me program)) (with_process u pid (with_program u pid you program))
@@ -103,7 +103,7 @@ module _ (f : ℕ → ℕ) (gs : Numbered OpenFile) (s : State) (pid : ℕ) (me 
   }
 
   execve-both : (program_of : Bytes → Option Program) (path : Bytes) → B (execve s pid me program_of path) (execve u pid you program_of path)
-  execve-both program_of path = search (both-bind, both-then, both-done, begun) depth 20
+  execve-both program_of path = search (both-bind AreRelated, both-then AreRelated, both-done AreRelated, begun) depth 20
 
   -- ---- descriptors
 
@@ -121,8 +121,8 @@ module _ (f : ℕ → ℕ) (gs : Numbered OpenFile) (s : State) (pid : ℕ) (me 
       there = answers (with_process u pid (record you { descriptors = without_descriptor you.descriptors d })) 0
 
       by : (o : Option Descriptor) → B (demand EBADF o >> here) (demand EBADF (option_map (renumbered_descriptor f) o) >> there)
-      by None = both-refused 0 EBADF Plain
-      by (Some v) = both-after 0 here there (both-done 0 _ _ _ (closed d))
+      by None = both-refused AreRelated 0 EBADF Plain
+      by (Some v) = both-after AreRelated 0 here there (both-done AreRelated 0 _ _ _ (closed d))
 
   put-both : (n : ℕ) (v : Descriptor) → IsPresent s.files v.file
       → AreRelated (with_process s pid (record me { descriptors = with_number me.descriptors n v })) (with_process u pid (record you { descriptors = with_number you.descriptors n (renumbered_descriptor f v) }))
@@ -132,8 +132,8 @@ module _ (f : ℕ → ℕ) (gs : Numbered OpenFile) (s : State) (pid : ℕ) (me 
   dup-rest v there =
       let made : ℕ → Attempt Effect = λ n. refuse_if EMFILE (nat_le 16 n) >> answers (with_process u pid (record you { descriptors = with_number you.descriptors n (record { file = f v.file; close_on_exec = false }) })) n in
       subst (λ n. B (Rests.dup_1 s pid me v) (made n)) (sym (descriptor-free f me.descriptors))
-      (both-then (refuse_if EMFILE (nat_le 16 (least_free me.descriptors))) _ _
-      (both-done 0 _ _ _ (put-both (least_free me.descriptors) (record { file = v.file; close_on_exec = false }) there)))
+      (both-then AreRelated (refuse_if EMFILE (nat_le 16 (least_free me.descriptors))) _ _
+      (both-done AreRelated 0 _ _ _ (put-both (least_free me.descriptors) (record { file = v.file; close_on_exec = false }) there)))
 
   dup-both : (d : ℤ) → B (dup s pid me d) (dup u pid you d)
   dup-both d = by-descriptor f gs s pid me fits mine d (Rests.dup_1 s pid me) (Rests.dup_1 u pid you) dup-rest
@@ -150,19 +150,19 @@ module _ (f : ℕ → ℕ) (gs : Numbered OpenFile) (s : State) (pid : ℕ) (me 
   dup2-both : (d e : ℤ) → B (dup2 s pid me d e) (dup2 u pid you d e)
   dup2-both d e =
       by-descriptor f gs s pid me fits mine d (Rests.dup2_1 s pid me d e) (Rests.dup2_1 u pid you d e)
-      (λ v there. both-bind (demand EBADF (within 15 e)) _ _ (λ n. both-done 0 _ _ _ (duplicated d n v there)))
+      (λ v there. both-bind AreRelated (demand EBADF (within 15 e)) _ _ (λ n. both-done AreRelated 0 _ _ _ (duplicated d n v there)))
 
   -- ---- the node of a descriptor
 
   fstat-both : (d : ℤ) → B (fstat s pid me d) (fstat u pid you d)
   fstat-both d =
       by-any f gs s pid me fits mine d (λ v. answers_bytes s 0 (status s.tree v.1.node)) (λ v. answers_bytes u 0 (status u.tree v.1.node))
-      (λ k x at. both-done 0 _ s u (related f gs s fits))
+      (λ k x at. both-done AreRelated 0 _ s u (related f gs s fits))
 
   fchdir-both : (d : ℤ) → B (fchdir s pid me d) (fchdir u pid you d)
   fchdir-both d =
       subst (λ a. B (fchdir s pid me d) (a >>= (λ n. answers (with_process u pid (record you { directory = n })) 0))) (sym (directory-same f gs s pid me fits mine d))
-      (both-bind (directory_of s pid me d) _ _ (λ n. both-done 0 _ _ _ (own-both f gs s pid me fits mine (record me { directory = n }) refl)))
+      (both-bind AreRelated (directory_of s pid me d) _ _ (λ n. both-done AreRelated 0 _ _ _ (own-both f gs s pid me fits mine (record me { directory = n }) refl)))
 
   pub descriptor-calls : (program_of : Bytes → Option Program) (call : Call) → is_on_descriptors call ≡ true → B (effect program_of s pid me call) (effect program_of u pid you call)
   unfolding effect

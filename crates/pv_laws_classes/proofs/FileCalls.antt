@@ -15,7 +15,8 @@ use Rattle.pv_model.specs.Tree.{Tree}
 use Rattle.pv_laws_trees.proofs.Numbered.{at_number-below, with_number-same, with_number-other}
 use Rattle.pv_laws_states.proofs.Rests
 use Rattle.pv_laws_classes.specs.Renumbering.{renumbered_process}
-use Rattle.pv_laws_classes.proofs.Attempts.{AreBoth, both-bind, both-then, both-cond, both-done, both-refused, both-room}
+use Rattle.pv_laws_classes.proofs.Both.{AreBoth, both-bind, both-then, both-cond, both-done, both-refused}
+use Rattle.pv_laws_classes.proofs.Attempts.{both-room}
 use Rattle.pv_laws_classes.proofs.Files.{put-matches}
 use Rattle.pv_laws_classes.proofs.Lists.{Uses, each-weaker}
 use Rattle.pv_laws_classes.proofs.Opened.{by-any, by-mode}
@@ -38,7 +39,7 @@ module _ (f : ℕ → ℕ) (gs : Numbered OpenFile) (s : State) (pid : ℕ) (me 
   you = renumbered_process f me
 
   abbrev B : Attempt Effect → Attempt Effect → Type 0
-  B = AreBoth
+  B = AreBoth AreRelated
 
   left : (t : Tree) → AreRelated (record s { tree = t }) (record u { tree = t })
   left t = tree-both f gs s pid me fits mine t
@@ -82,7 +83,7 @@ module _ (f : ℕ → ℕ) (gs : Numbered OpenFile) (s : State) (pid : ℕ) (me 
     written (suc n) = put-both _ _
 
     write-rest : (n : ℤ) → B (Rests.write_1 s pid me n (k, old)) (Rests.write_1 u pid you n (f k, old))
-    write-rest n = search (both-bind, both-then, both-room, written) depth 20
+    write-rest n = search (both-bind AreRelated, both-then AreRelated, both-room, written) depth 20
 
     ftruncate-rest : (n : ℤ) → B (Rests.ftruncate_1 s pid me n (k, old)) (Rests.ftruncate_1 u pid you n (f k, old))
     ftruncate-rest n = search parts depth 20

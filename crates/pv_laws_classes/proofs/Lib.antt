@@ -1,7 +1,7 @@
 -- Lemmas on states that are equal up to a renumbering of open files.
 -- - Lists (lists of processes whose descriptors are renumbered), Files (open files under two numberings, and the
---   pigeonhole principle for them), States (operations on related states), Attempts (attempts and answers), Opened (the
---   open file of a descriptor).
+--   pigeonhole principle for them), States (operations on related states), Both (attempts in two states under any
+--   relation), Attempts (attempts and answers), Opened (the open file of a descriptor).
 -- - The effects of calls: PlainCalls (no open file), DescriptorCalls (processes and descriptors), FileCalls (contents
 --   and offsets), OpenCalls (a new open file).
 -- - Steps: steps and runs. Forms: the equivalence and the canonical form.
@@ -25,6 +25,7 @@
 pub mod Lists
 pub mod Files
 pub mod States
+pub mod Both
 pub mod Attempts
 pub mod Opened
 pub mod PlainCalls

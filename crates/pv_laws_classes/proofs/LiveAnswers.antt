@@ -14,7 +14,7 @@ use Rattle.pv_model.specs.State.{Process, State, process_at}
 use Rattle.pv_model.specs.Trace.{buffer_of}
 use Rattle.pv_laws_states.proofs.Processes.{process_at-same}
 use Rattle.pv_laws_classes.specs.Liveness.{Live, with_values, AgreeOnLive}
-use Rattle.pv_laws_classes.proofs.LiveAttempts.{AreBoth}
+use Rattle.pv_laws_classes.proofs.Both.{AreBoth}
 use Rattle.pv_laws_classes.proofs.LiveCalls.{Awaits}
 use Rattle.pv_laws_classes.proofs.LiveLists.{AreLive}
 use Rattle.pv_laws_classes.proofs.LiveStates.{Related, collect-related, process-related, update-related, end-related}
@@ -96,7 +96,7 @@ module _ (is_live : Live) (pid : ℕ) where
     }
     reply-both walks waits x y is = record { after = from; outcome = refl; walks = refl; gives = tt }
 
-    pub attempt-both : (a b : Attempt Effect) → AreBoth (Awaits is_live pid) a b → AreAnswered (answer_by_attempt before s pid me a) (answer_by_attempt before' s' pid (with_values rs bs me) b)
+    pub attempt-both : (a b : Attempt Effect) → AreBoth (Related (Awaits is_live pid)) a b → AreAnswered (answer_by_attempt before s pid me a) (answer_by_attempt before' s' pid (with_values rs bs me) b)
     attempt-both (done w (x, r)) b is =
         subst (λ z. AreAnswered (answer_by_attempt before s pid me (done w (x, r))) (answer_by_attempt before' s' pid (with_values rs bs me) z)) (sym is.by.1) (reply-both w r x is.by.0 is.by.2)
     attempt-both (refused w e c) b is =

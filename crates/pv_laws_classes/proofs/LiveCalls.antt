@@ -23,7 +23,8 @@ use Rattle.pv_laws_states.proofs.Ending.{sorted-filtered}
 use Rattle.pv_laws_states.proofs.Rests
 use Rattle.pv_laws_states.proofs.Whole.{sorted-put_number}
 use Rattle.pv_laws_classes.specs.Liveness.{Live, with_values, AgreeOnLive, SameButValues}
-use Rattle.pv_laws_classes.proofs.LiveAttempts.{AreBoth, both-after, both-bind, both-then, both-cond, state-cond, both-done, both-refused, both-room}
+use Rattle.pv_laws_classes.proofs.Both.{AreBoth, both-after, both-bind, both-then, both-cond, both-done, both-refused}
+use Rattle.pv_laws_classes.proofs.LiveAttempts.{state-cond, both-room}
 use Rattle.pv_laws_classes.proofs.LiveLists.{length-same, children-same, where-same, put-live}
 use Rattle.pv_laws_classes.proofs.LiveStates.{Related}
 use Rattle.pv_laws_classes.proofs.LiveValues.{Agrees, AwaitResult, result-agrees}
@@ -50,7 +51,7 @@ module _ (is_live : Live) (s : State) (pid : ℕ) (me : Process) (rs : List ℤ)
   R = Awaits is_live pid
 
   abbrev B : Attempt Effect → Attempt Effect → Type 0
-  B = AreBoth R
+  B = AreBoth (Related R)
 
   left-both : (t : Tree) (fs : Numbered OpenFile) → Related R (record s { tree = t; files = fs }) (record u { tree = t; files = fs })
   left-both t fs = record { processes = ps; same = refl; sorted = sorted; each = each }
@@ -92,20 +93,20 @@ module _ (is_live : Live) (s : State) (pid : ℕ) (me : Process) (rs : List ℤ)
   fork-both : B (fork s pid me) (fork u pid you)
   fork-both =
       subst (λ n. B (fork s pid me) (refuse_if EAGAIN (nat_le 32 n || nat_lt 99999 number) >> answers (forked u you) number)) (sym (length-same R s.processes ps each))
-      (both-then R (refuse_if EAGAIN (nat_le 32 (length s.processes) || nat_lt 99999 number)) (answers (forked s me) number) (answers (forked u you) number) (both-done R 0 (returns number) (forked s me) (forked u you) forked-both))
+      (both-then (Related R) (refuse_if EAGAIN (nat_le 32 (length s.processes) || nat_lt 99999 number)) (answers (forked s me) number) (answers (forked u you) number) (both-done (Related R) 0 (returns number) (forked s me) (forked u you) forked-both))
 
   reaped : (test : ℕ → Bool) → Related R (record s { processes = where_key nat_cmp test s.processes }) (record u { processes = where_key nat_cmp test ps })
   reaped test = record { processes = where_key nat_cmp test ps; same = refl; sorted = sorted-filtered (λ r. test r.0) s.processes sorted; each = where-same R test s.processes ps each }
 
   reap-both : (ss : List (ℕ × ℕ)) → B (reap s pid me ss) (reap u pid you ss)
-  reap-both [] = both-done R 0 _ s u (left-both s.tree s.files)
-  reap-both ((n, status) ∷ rest) = both-done R 0 _ _ _ (reaped (λ j. not (j == n)))
+  reap-both [] = both-done (Related R) 0 _ s u (left-both s.tree s.files)
+  reap-both ((n, status) ∷ rest) = both-done (Related R) 0 _ _ _ (reaped (λ j. not (j == n)))
 
   wait-both : B (wait s pid me) (wait u pid you)
   wait-both =
       let both = children-same R pid s.processes ps each in
       subst (λ b. B (wait s pid me) (refuse_if ECHILD b >> reap u pid you (statuses (children u pid you)))) (sym both.1)
-      (both-then R (refuse_if ECHILD (is_empty (children s pid me))) (reap s pid me (statuses (children s pid me))) (reap u pid you (statuses (children u pid you)))
+      (both-then (Related R) (refuse_if ECHILD (is_empty (children s pid me))) (reap s pid me (statuses (children s pid me))) (reap u pid you (statuses (children u pid you)))
       (subst (λ ss. B (reap s pid me (statuses (children s pid me))) (reap u pid you ss)) (sym both.0) (reap-both (statuses (children s pid me)))))
 
   begun : (program : Program) → Related R (with_process s pid (with_program s pid me program)) (with_process u pid (with_program u pid you program))
@@ -134,9 +135,9 @@ module _ (is_live : Live) (s : State) (pid : ℕ) (me : Process) (rs : List ℤ)
 
   opened : (flags : OpenFlags) (name : Option (ℕ × Bytes)) (node : Option ℕ) (n : ℕ)
       → B (open_node s pid me flags name node >>= (λ after. with_room after >>= (λ roomy. answers roomy n))) (open_node u pid you flags name node >>= (λ after. with_room after >>= (λ roomy. answers roomy n)))
-  opened flags name (Some m) n = both-after R 0 _ _ (both-room R _ _ n (own-both _ _ _ refl))
-  opened flags (Some (d, name)) None n = both-after R 0 _ _ (both-room R _ _ n (own-both _ _ _ refl))
-  opened flags None None n = both-refused R 0 _ _
+  opened flags name (Some m) n = both-after (Related R) 0 _ _ (both-room R _ _ n (own-both _ _ _ refl))
+  opened flags (Some (d, name)) None n = both-after (Related R) 0 _ _ (both-room R _ _ n (own-both _ _ _ refl))
+  opened flags None None n = both-refused (Related R) 0 _ _
 
   -- ---- write
 
@@ -146,16 +147,16 @@ module _ (is_live : Live) (s : State) (pid : ℕ) (me : Process) (rs : List ℤ)
       subst (λ (xs : Bytes). Related R (after_write s pid me j file (suc n)) (with_bytes_written u pid you j file (write_place u pid you file) xs)) (sym same) (left-both _ _)
 
   write-both : (d n : ℤ) → ((k : ℕ) → n ≡ pos k → k ≤ BUFFER → take k bs ≡ take k me.buffer) → B (write s pid me d n) (write u pid you d n)
-  write-both d n same = both-bind R _ _ _ (λ v. by n same v.0 v.1)
+  write-both d n same = both-bind (Related R) _ _ _ (λ v. by n same v.0 v.1)
     where
       of : (m : ℕ) (b : Bool) → (b ≡ true → take m bs ≡ take m me.buffer) → (j : ℕ) (file : OpenFile)
           → B (demand EINVAL (cond b (Some m) None) >>= Rests.write_2 s pid me j file) (demand EINVAL (cond b (Some m) None) >>= Rests.write_2 u pid you j file)
-      of m true taken j file = both-after R 0 _ _ (both-then R (refuse_if _ (is_past_greatest s.tree (write_end s pid me file m))) _ _ (both-room R _ _ m (written j file m (taken refl))))
-      of m false taken j file = both-refused R 0 EINVAL Plain
+      of m true taken j file = both-after (Related R) 0 _ _ (both-then (Related R) (refuse_if _ (is_past_greatest s.tree (write_end s pid me file m))) _ _ (both-room R _ _ m (written j file m (taken refl))))
+      of m false taken j file = both-refused (Related R) 0 EINVAL Plain
 
       by : (n : ℤ) → ((k : ℕ) → n ≡ pos k → k ≤ BUFFER → take k bs ≡ take k me.buffer) → (j : ℕ) (file : OpenFile) → B (Rests.write_1 s pid me n (j, file)) (Rests.write_1 u pid you n (j, file))
       by (pos m) same j file = of m (nat_le m 4096) (λ within. same m refl (leb-true m 4096 within)) j file
-      by (negsuc m) same j file = both-refused R 0 EINVAL Plain
+      by (negsuc m) same j file = both-refused (Related R) 0 EINVAL Plain
 
   -- ---- all calls
 

@@ -21,7 +21,7 @@ use Rattle.pv_model.specs.Trace.{Line as TraceLine}
 use Rattle.pv_laws_states.specs.States.{IsValid}
 use Rattle.pv_laws_classes.specs.Liveness.{Live, IsClosed, IsRead, here, later, by_test, with_values, AgreeOnLive, AlikeButDead, ReadIsClosed, ClosedTestsAcceptRead, StepsIgnoreDead, RunsIgnoreDead, UnreadVariablesAlterNothing, RejectedVariablesAlterNothing}
 use Rattle.pv_laws_classes.proofs.LiveAnswers.{Agree, agree-parent, AreAnswered, attempt-both}
-use Rattle.pv_laws_classes.proofs.LiveAttempts.{AreBoth, both-refused}
+use Rattle.pv_laws_classes.proofs.Both.{AreBoth, both-refused}
 use Rattle.pv_laws_classes.proofs.LiveCalls.{Awaits, awaits-all, WritesAlike, calls-both}
 use Rattle.pv_laws_classes.proofs.LiveCounts.{write-count, TakesAlike, lines-alike}
 use Rattle.pv_laws_classes.proofs.LiveLists.{AreLive}
@@ -56,13 +56,13 @@ module _ (program_of : Bytes → Option Program) (is_live : Live) (closed : IsCl
       called = with-related (Agree is_live) (Awaits is_live pid) pid (λ n q cs ds other is. awaits-all is_live pid n q cs ds is) s t now rs bs (mine, λ other. absurd (other refl)) both
 
       effects-both : (call : Call) → WritesAlike is_live x pid now rs bs called.processes called.sorted called.each mine call
-          → AreBoth (Awaits is_live pid) (effect program_of x pid now call) (effect program_of y pid (at_next_line you) call)
+          → AreBoth (Related (Awaits is_live pid)) (effect program_of x pid now call) (effect program_of y pid (at_next_line you) call)
       effects-both call writes =
-          subst (λ z. AreBoth (Awaits is_live pid) (effect program_of x pid now call) (effect program_of z pid (at_next_line you) call)) (sym called.same)
+          subst (λ z. AreBoth (Related (Awaits is_live pid)) (effect program_of x pid now call) (effect program_of z pid (at_next_line you) call)) (sym called.same)
           (calls-both is_live x pid now rs bs called.processes called.sorted called.each mine program_of call writes)
 
       refused-both : (a : Promise) → AreAnswered is_live pid (answer_by_attempt s x pid now (refused 0 ENOSYS (ByPromise a))) (answer_by_attempt t y pid (at_next_line you) (refused 0 ENOSYS (ByPromise a)))
-      refused-both a = attempt-both is_live pid now rs bs s t x y both called _ _ (both-refused (Awaits is_live pid) 0 ENOSYS (ByPromise a))
+      refused-both a = attempt-both is_live pid now rs bs s t x y both called _ _ (both-refused (Related (Awaits is_live pid)) 0 ENOSYS (ByPromise a))
 
       missing-both : (a : Promise) → AreAnswered is_live pid (answer_without_promise s x pid now a) (answer_without_promise t y pid (at_next_line you) a)
       missing-both a = by (is_lenient p.promises)

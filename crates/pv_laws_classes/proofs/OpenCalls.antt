@@ -22,7 +22,8 @@ use Rattle.pv_model.specs.Walk.{is_absolute}
 use Rattle.pv_laws_trees.proofs.Numbered.{with_number-same_within, with_number-other_within, least_free-within, least_free-free}
 use Rattle.pv_laws_states.proofs.Rests
 use Rattle.pv_laws_classes.specs.Renumbering.{renumbered_descriptors, renumbered_process, renumbered_processes}
-use Rattle.pv_laws_classes.proofs.Attempts.{AreBoth, both-after, both-bind, both-then, both-refused, both-room}
+use Rattle.pv_laws_classes.proofs.Both.{AreBoth, both-after, both-bind, both-then, both-refused}
+use Rattle.pv_laws_classes.proofs.Attempts.{both-room}
 use Rattle.pv_laws_classes.proofs.Files.{full-matches, renumbering, renumbering-new, renumbering-old, new-matches}
 use Rattle.pv_laws_classes.proofs.Lists.{descriptor-put, descriptor-free, Uses, uses-with, uses-put, uses-weaker, each-weaker, agree-descriptors, agree-processes, put-renumbered}
 use Rattle.pv_laws_classes.proofs.Opened.{directory-same, directory-file}
@@ -41,7 +42,7 @@ module _ (f : ℕ → ℕ) (gs : Numbered OpenFile) (s : State) (pid : ℕ) (me 
   you = renumbered_process f me
 
   abbrev B : Attempt Effect → Attempt Effect → Type 0
-  B = AreBoth
+  B = AreBoth AreRelated
 
   abbrev a : ℕ
   a = least_free s.files
@@ -124,17 +125,17 @@ module _ (f : ℕ → ℕ) (gs : Numbered OpenFile) (s : State) (pid : ℕ) (me 
 
     node-both : (flags : OpenFlags) (name : Option (ℕ × Bytes)) (node : Option ℕ)
         → B (open_node s pid me flags name node >>= Rests.open_7 s pid me) (open_node u pid you flags name node >>= Rests.open_7 u pid you)
-    node-both flags name (Some n) = both-after 0 _ _ (rest-both _ _ (opened-both flags n _))
-    node-both flags (Some p) None = both-after 0 _ _ (rest-both _ _ (opened-both flags _ _))
-    node-both flags None None = both-refused 0 _ _
+    node-both flags name (Some n) = both-after AreRelated 0 _ _ (rest-both _ _ (opened-both flags n _))
+    node-both flags (Some p) None = both-after AreRelated 0 _ _ (rest-both _ _ (opened-both flags _ _))
+    node-both flags None None = both-refused AreRelated 0 _ _
 
     walked-both : (path : Bytes) (flags : OpenFlags) (directory : ℕ) → B (Rests.open_c s pid me path flags directory) (Rests.open_c u pid you path flags directory)
-    walked-both path flags directory = search (both-bind, both-then, node-both) depth 40
+    walked-both path flags directory = search (both-bind AreRelated, both-then AreRelated, node-both) depth 40
 
   -- a check that refuses if the table of open files is full
   room-checked : (test : Bool) (e : Errno) (G H : Attempt Effect) → (test ≡ false → B G H) → B (refuse_if e test >> G) (refuse_if e test >> H)
-  room-checked true e G H is = both-refused 0 e Plain
-  room-checked false e G H is = both-after 0 G H (is refl)
+  room-checked true e G H is = both-refused AreRelated 0 e Plain
+  room-checked false e G H is = both-after AreRelated 0 G H (is refl)
 
   check-same : (start : Start) (path : Bytes) → check_start u pid you start path ≡ check_start s pid me start path
   check-same WorkingDirectory path = refl
@@ -151,12 +152,12 @@ module _ (f : ℕ → ℕ) (gs : Numbered OpenFile) (s : State) (pid : ℕ) (me 
       let l : ℕ = least_free me.descriptors in
       let rest : ℕ → Bool → ℕ → Attempt Effect = λ m full directory. refuse_if EMFILE (nat_le 16 m) >> (refuse_if ENFILE full >> Rests.open_c u pid you path flags directory) in
       let one : Attempt Effect = refuse_if EMFILE (nat_le 16 l) >> (refuse_if ENFILE (nat_le 128 a) >> Rests.open_c s pid me path flags from) in
-      both-then (refuse_if EINVAL (contradicts flags)) (c >> one) (check_start u pid you start path >> rest (least_free you.descriptors) (nat_le 128 b) (start_directory u you start path))
+      both-then AreRelated (refuse_if EINVAL (contradicts flags)) (c >> one) (check_start u pid you start path >> rest (least_free you.descriptors) (nat_le 128 b) (start_directory u you start path))
       (subst (λ x. B (c >> one) (x >> rest (least_free you.descriptors) (nat_le 128 b) (start_directory u you start path))) (sym (check-same start path))
       (subst (λ m. B (c >> one) (c >> rest m (nat_le 128 b) (start_directory u you start path))) (sym (descriptor-free f me.descriptors))
       (subst (λ full. B (c >> one) (c >> rest l full (start_directory u you start path))) (sym (full-matches f s.files gs fits.matches))
       (subst (λ directory. B (c >> one) (c >> rest l (nat_le 128 a) directory)) (sym (start-same start path))
-      (both-then c one (rest l (nat_le 128 a) from) (both-then (refuse_if EMFILE (nat_le 16 l)) _ _
+      (both-then AreRelated c one (rest l (nat_le 128 a) from) (both-then AreRelated (refuse_if EMFILE (nat_le 16 l)) _ _
       (room-checked (nat_le 128 a) ENFILE (Rests.open_c s pid me path flags from) (Rests.open_c u pid you path flags from) (λ room. walked-both room path flags from))))))))
 
   pub open-calls : (program_of : Bytes → Option Program) (call : Call) → is_open call ≡ true → B (effect program_of s pid me call) (effect program_of u pid you call)

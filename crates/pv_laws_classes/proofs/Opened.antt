@@ -10,10 +10,10 @@ use Rattle.pv_model.specs.Numbered.{Numbered, at_number}
 use Rattle.pv_model.specs.State.{OpenFile, Descriptor, Process, State}
 use Rattle.pv_laws_states.proofs.Rests
 use Rattle.pv_laws_classes.specs.Renumbering.{renumbered_descriptor, renumbered_process}
-use Rattle.pv_laws_classes.proofs.Attempts.{AreBoth, both-after, both-refused}
+use Rattle.pv_laws_classes.proofs.Both.{AreBoth, both-after, both-refused}
 use Rattle.pv_laws_classes.proofs.Files.{some-value}
 use Rattle.pv_laws_classes.proofs.Lists.{descriptor-at, Uses, uses-at}
-use Rattle.pv_laws_classes.proofs.States.{IsPresent, renumbered, Fits}
+use Rattle.pv_laws_classes.proofs.States.{AreRelated, IsPresent, renumbered, Fits}
 
 module _ (f : ℕ → ℕ) (gs : Numbered OpenFile) (s : State) (pid : ℕ) (me : Process) (fits : Fits f gs s) (mine : Uses (IsPresent s.files) me.descriptors) where
   abbrev u : State
@@ -36,13 +36,13 @@ module _ (f : ℕ → ℕ) (gs : Numbered OpenFile) (s : State) (pid : ℕ) (me 
   descriptor-opens (negsuc d) v is = cc is
 
   -- a call that continues with the descriptor
-  pub by-descriptor : (d : ℤ) (G H : Descriptor → Attempt Effect) → ((v : Descriptor) → IsPresent s.files v.file → AreBoth (G v) (H (renumbered_descriptor f v)))
-      → AreBoth (demand EBADF (descriptor_at me d) >>= G) (demand EBADF (descriptor_at you d) >>= H)
-  by-descriptor d G H is = subst (λ o. AreBoth (demand EBADF (descriptor_at me d) >>= G) (demand EBADF o >>= H)) (sym (descriptor-same d)) (by (descriptor_at me d) refl)
+  pub by-descriptor : (d : ℤ) (G H : Descriptor → Attempt Effect) → ((v : Descriptor) → IsPresent s.files v.file → AreBoth AreRelated (G v) (H (renumbered_descriptor f v)))
+      → AreBoth AreRelated (demand EBADF (descriptor_at me d) >>= G) (demand EBADF (descriptor_at you d) >>= H)
+  by-descriptor d G H is = subst (λ o. AreBoth AreRelated (demand EBADF (descriptor_at me d) >>= G) (demand EBADF o >>= H)) (sym (descriptor-same d)) (by (descriptor_at me d) refl)
     where
-      by : (o : Option Descriptor) → descriptor_at me d ≡ o → AreBoth (demand EBADF o >>= G) (demand EBADF (option_map (renumbered_descriptor f) o) >>= H)
-      by None none = both-refused 0 EBADF Plain
-      by (Some v) some = both-after 0 (G v) (H (renumbered_descriptor f v)) (is v (descriptor-opens d v some))
+      by : (o : Option Descriptor) → descriptor_at me d ≡ o → AreBoth AreRelated (demand EBADF o >>= G) (demand EBADF (option_map (renumbered_descriptor f) o) >>= H)
+      by None none = both-refused AreRelated 0 EBADF Plain
+      by (Some v) some = both-after AreRelated 0 (G v) (H (renumbered_descriptor f v)) (is v (descriptor-opens d v some))
 
   -- ---- open files
 
@@ -70,25 +70,25 @@ module _ (f : ℕ → ℕ) (gs : Numbered OpenFile) (s : State) (pid : ℕ) (me 
       by (Some v) is = of v.file (at_number s.files v.file) refl is
 
   -- a call that continues with the open file
-  pub by-any : (d : ℤ) (G H : ℕ × OpenFile → Attempt Effect) → ((k : ℕ) (x : OpenFile) → at_number s.files k ≡ Some x → AreBoth (G (k, x)) (H (f k, x)))
-      → AreBoth (demand EBADF (open_file s me d) >>= G) (demand EBADF (open_file u you d) >>= H)
-  by-any d G H is = subst (λ o. AreBoth (demand EBADF (open_file s me d) >>= G) (demand EBADF o >>= H)) (sym (opened-same d)) (by (open_file s me d) refl)
+  pub by-any : (d : ℤ) (G H : ℕ × OpenFile → Attempt Effect) → ((k : ℕ) (x : OpenFile) → at_number s.files k ≡ Some x → AreBoth AreRelated (G (k, x)) (H (f k, x)))
+      → AreBoth AreRelated (demand EBADF (open_file s me d) >>= G) (demand EBADF (open_file u you d) >>= H)
+  by-any d G H is = subst (λ o. AreBoth AreRelated (demand EBADF (open_file s me d) >>= G) (demand EBADF o >>= H)) (sym (opened-same d)) (by (open_file s me d) refl)
     where
-      by : (o : Option (ℕ × OpenFile)) → open_file s me d ≡ o → AreBoth (demand EBADF o >>= G) (demand EBADF (option_map shifted o) >>= H)
-      by None none = both-refused 0 EBADF Plain
-      by (Some (k, x)) some = both-after 0 (G (k, x)) (H (f k, x)) (is k x (opened-there d k x some))
+      by : (o : Option (ℕ × OpenFile)) → open_file s me d ≡ o → AreBoth AreRelated (demand EBADF o >>= G) (demand EBADF (option_map shifted o) >>= H)
+      by None none = both-refused AreRelated 0 EBADF Plain
+      by (Some (k, x)) some = both-after AreRelated 0 (G (k, x)) (H (f k, x)) (is k x (opened-there d k x some))
 
   -- a call that continues with the open file if its mode passes a test
-  pub by-mode : (test : Mode → Bool) (d : ℤ) (G H : ℕ × OpenFile → Attempt Effect) → ((k : ℕ) (x : OpenFile) → at_number s.files k ≡ Some x → AreBoth (G (k, x)) (H (f k, x)))
-      → AreBoth (demand EBADF (if_mode test (open_file s me d)) >>= G) (demand EBADF (if_mode test (open_file u you d)) >>= H)
-  by-mode test d G H is = subst (λ o. AreBoth (demand EBADF (if_mode test (open_file s me d)) >>= G) (demand EBADF (if_mode test o) >>= H)) (sym (opened-same d)) (by (open_file s me d) refl)
+  pub by-mode : (test : Mode → Bool) (d : ℤ) (G H : ℕ × OpenFile → Attempt Effect) → ((k : ℕ) (x : OpenFile) → at_number s.files k ≡ Some x → AreBoth AreRelated (G (k, x)) (H (f k, x)))
+      → AreBoth AreRelated (demand EBADF (if_mode test (open_file s me d)) >>= G) (demand EBADF (if_mode test (open_file u you d)) >>= H)
+  by-mode test d G H is = subst (λ o. AreBoth AreRelated (demand EBADF (if_mode test (open_file s me d)) >>= G) (demand EBADF (if_mode test o) >>= H)) (sym (opened-same d)) (by (open_file s me d) refl)
     where
-      of : (b : Bool) (k : ℕ) (x : OpenFile) → at_number s.files k ≡ Some x → AreBoth (demand EBADF (if b then Some (k, x) else None) >>= G) (demand EBADF (if b then Some (f k, x) else None) >>= H)
-      of true k x at = both-after 0 (G (k, x)) (H (f k, x)) (is k x at)
-      of false k x at = both-refused 0 EBADF Plain
+      of : (b : Bool) (k : ℕ) (x : OpenFile) → at_number s.files k ≡ Some x → AreBoth AreRelated (demand EBADF (if b then Some (k, x) else None) >>= G) (demand EBADF (if b then Some (f k, x) else None) >>= H)
+      of true k x at = both-after AreRelated 0 (G (k, x)) (H (f k, x)) (is k x at)
+      of false k x at = both-refused AreRelated 0 EBADF Plain
 
-      by : (o : Option (ℕ × OpenFile)) → open_file s me d ≡ o → AreBoth (demand EBADF (if_mode test o) >>= G) (demand EBADF (if_mode test (option_map shifted o)) >>= H)
-      by None none = both-refused 0 EBADF Plain
+      by : (o : Option (ℕ × OpenFile)) → open_file s me d ≡ o → AreBoth AreRelated (demand EBADF (if_mode test o) >>= G) (demand EBADF (if_mode test (option_map shifted o)) >>= H)
+      by None none = both-refused AreRelated 0 EBADF Plain
       by (Some (k, x)) some = of (test x.mode) k x (opened-there d k x some)
 
   -- ---- directories

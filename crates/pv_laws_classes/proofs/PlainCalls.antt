@@ -11,7 +11,8 @@ use Rattle.pv_model.specs.Numbered.{Numbered}
 use Rattle.pv_model.specs.State.{OpenFile, Program, Process, live, State}
 use Rattle.pv_model.specs.Tree.{Tree}
 use Rattle.pv_laws_classes.specs.Renumbering.{renumbered_process, renumbered_processes}
-use Rattle.pv_laws_classes.proofs.Attempts.{AreBoth, both-bind, both-then, both-cond, both-done, both-refused, both-room}
+use Rattle.pv_laws_classes.proofs.Both.{AreBoth, both-bind, both-then, both-cond, both-done, both-refused}
+use Rattle.pv_laws_classes.proofs.Attempts.{both-room}
 use Rattle.pv_laws_classes.proofs.Lists.{Uses, put-renumbered, uses-put}
 use Rattle.pv_laws_classes.proofs.States.{IsPresent, renumbered, Fits, AreRelated, related}
 
@@ -55,13 +56,13 @@ module _ (f : ℕ → ℕ) (gs : Numbered OpenFile) (s : State) (pid : ℕ) (me 
 
   ruleset parts = (both-bind, both-then, both-cond, both-done, both-refused, both-room, tree-both, own-both, refl)
 
-  unveil-both : (path permissions : Option Bytes) → AreBoth (unveil s pid me path permissions) (unveil u pid you path permissions)
+  unveil-both : (path permissions : Option Bytes) → AreBoth AreRelated (unveil s pid me path permissions) (unveil u pid you path permissions)
   unveil-both None None = search parts depth 20
   unveil-both None (Some text) = search parts depth 20
   unveil-both (Some path) None = search parts depth 20
   unveil-both (Some path) (Some text) = search parts depth 20
 
-  pub plain-calls : (program_of : Bytes → Option Program) (call : Call) → is_plain call ≡ true → AreBoth (effect program_of s pid me call) (effect program_of u pid you call)
+  pub plain-calls : (program_of : Bytes → Option Program) (call : Call) → is_plain call ≡ true → AreBoth AreRelated (effect program_of s pid me call) (effect program_of u pid you call)
   unfolding effect
   plain-calls program_of (TheCall.Exit code) is = search parts depth 20
   plain-calls program_of TheCall.GetPid is = search parts depth 20

@@ -25,7 +25,8 @@ use Rattle.pv_laws_states.proofs.Members.{used-among}
 use Rattle.pv_laws_states.proofs.Outcomes.{at_call}
 use Rattle.pv_laws_steps.proofs.Reported.{lines-reported}
 use Rattle.pv_laws_classes.specs.Renumbering.{renumbered_process, Renumbered, RenumberedStepsAnswerAlike, RenumberedRunsAnswerAlike}
-use Rattle.pv_laws_classes.proofs.Attempts.{AreBoth, both-refused, AreAnswered, attempt-both}
+use Rattle.pv_laws_classes.proofs.Both.{AreBoth, both-refused}
+use Rattle.pv_laws_classes.proofs.Attempts.{AreAnswered, attempt-both}
 use Rattle.pv_laws_classes.proofs.DescriptorCalls.{is_on_descriptors, descriptor-calls}
 use Rattle.pv_laws_classes.proofs.FileCalls.{is_on_files, file-calls}
 use Rattle.pv_laws_classes.proofs.Files.{some-value}
@@ -38,7 +39,7 @@ use Rattle.pv_laws_classes.proofs.States.{IsPresent, renumbered, Fits, AreRelate
 
 module _ (f : ℕ → ℕ) (gs : Numbered OpenFile) (s : State) (pid : ℕ) (me : Process) (fits : Fits f gs s) (mine : Uses (IsPresent s.files) me.descriptors) (program_of : Bytes → Option Program) where
   abbrev Does : Call → Type 0
-  Does call = AreBoth (effect program_of s pid me call) (effect program_of (renumbered f gs s) pid (renumbered_process f me) call)
+  Does call = AreBoth AreRelated (effect program_of s pid me call) (effect program_of (renumbered f gs s) pid (renumbered_process f me) call)
 
   on-descriptors : (call : Call) → is_on_descriptors call ≡ true → Does call
   on-descriptors call is = descriptor-calls f gs s pid me fits mine program_of call is
@@ -166,7 +167,7 @@ module _ (program_of : Bytes → Option Program) (f : ℕ → ℕ) (gs : Numbere
           reported : AreAnswered (answer_by_attempt s x pid now (refused 0 ENOSYS (ByPromise a))) (answer_by_attempt t (at_call t pid r) pid (renumbered_process f now) (refused 0 ENOSYS (ByPromise a)))
           reported =
               subst (λ z. AreAnswered (answer_by_attempt s x pid now (refused 0 ENOSYS (ByPromise a))) (answer_by_attempt t z pid (renumbered_process f now) (refused 0 ENOSYS (ByPromise a)))) (sym x-same)
-              (attempt-both pid f now s t x (renumbered f gs x) (related f gs s fits) (related f gs x x-fits) _ _ (both-refused 0 ENOSYS (ByPromise a)))
+              (attempt-both pid f now s t x (renumbered f gs x) (related f gs s fits) (related f gs x x-fits) _ _ (both-refused AreRelated 0 ENOSYS (ByPromise a)))
 
           by : (b : Bool)
               → AreAnswered (if b then answer_by_attempt s x pid now (refused 0 ENOSYS (ByPromise a)) else record { after = collect (end_process s pid now 6); outcome = Killed a; walks = 0 })
