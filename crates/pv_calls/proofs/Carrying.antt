@@ -1,5 +1,5 @@
 -- From the result of a call, by its promises, to its answer.
-use Rattle.std.proofs.Common.{◌≡◌, ◌∙◌, ap, sym, subst, refl, ℕ, negsuc, Bool, true, false, Option, None, Some, Result, Ok, Err}
+use Rattle.std.proofs.Common.{◌≡◌, ◌∙◌, ap, sym, subst, refl, ℕ, negsuc, Bool, true, false, List, Option, None, Some, Result, Ok, Err}
 use Rattle.std.specs.Prelude.{IsSome, IfErr, IfOk, option_map}
 use Rattle.pv_model.specs.declared.call.Call.{Call}
 use Rattle.pv_model.specs.declared.errno.Errno.TheVariants.{ENOSYS}
@@ -24,6 +24,7 @@ use Rattle.pv_promises.specs.declared.pledge.Decision.TheVariants.{Allowed, Kill
 use Rattle.pv_calls_plain.specs.declared.answer.Answer.{Answer}
 use Rattle.pv_calls.specs.Calls.{IsCarriedOut, IsBlocked, continues}
 use Rattle.pv_calls.specs.Loading.{Loads, LoadsProgram}
+use Rattle.pv_calls_path.specs.Caller.{IsCaller}
 use Rattle.pv_calls_plain.specs.declared.answer.Refused.{Refused}
 use Rattle.pv_calls_plain.specs.Performed.{answered, IsAnswered}
 use Rattle.pv_laws_states.specs.States.{IsValid}
@@ -32,7 +33,7 @@ use Rattle.pv_laws_states.proofs.Replies.{whole-at_call}
 use Rattle.pv_laws_states.proofs.Collect.{tree-collect, held_after}
 use Rattle.pv_model.specs.Bytes.{Bytes}
 use Rattle.pv_model.specs.Errno.{errno_number}
-use Rattle.pv_model.specs.Tree.{find_entry, IsWellFormed}
+use Rattle.pv_model.specs.Tree.{Tree, find_entry, IsWellFormed}
 use Rattle.pv_procs.specs.declared.record.ProcessRecord.{ProcessRecord}
 use Rattle.pv_procs.specs.Parts.{record_of}
 use Rattle.pv_promises.specs.declared.pledge.Decision.{Decision}
@@ -92,17 +93,24 @@ end-next_line s pid me status = refl
 
 -- ---- after the next line
 
--- a process that has advanced is live, and its state is valid
+-- a process that has advanced is live, its state is valid, and a lookup that agreed with the tree still does
 pub next-live : (s s1 : State) (pid : ℕ) → s1 ≡ update s pid at_next_line → IsSome (process_at s pid) → IsSome (process_at s1 pid)
 next-live s s1 pid is live =
     let me = some-at (process_at s pid) live in
     subst (λ x. IsSome (process_at x pid)) (sym (is ∙ update-is s pid at_next_line me.0 me.1))
     (subst IsSome (sym (process_at-same s pid (at_next_line me.0))) refl)
 
-pub next-whole : (s s1 : State) (pid : ℕ) → s1 ≡ update s pid at_next_line → IsSome (process_at s pid) → IsValid s → IsValid s1
+next-whole : (s s1 : State) (pid : ℕ) → s1 ≡ update s pid at_next_line → IsSome (process_at s pid) → IsValid s → IsValid s1
 next-whole s s1 pid is live whole =
     let me = some-at (process_at s pid) live in
     subst IsValid (sym (is ∙ update-is s pid at_next_line me.0 me.1)) (whole-at_call s pid me.0 whole me.1)
+
+pub next-caller : (Agrees : (ℕ → List ℕ → Option ℕ) → Type 0) (s s1 : State) (pid : ℕ) → s1 ≡ update s pid at_next_line → IsCaller Agrees s pid → IsCaller Agrees s1 pid
+next-caller Agrees s s1 pid is caller = record {
+  whole = next-whole s s1 pid is caller.live caller.whole;
+  live = next-live s s1 pid is caller.live;
+  agrees = subst (λ (t : Tree). Agrees (find_entry t)) (sym (ap (λ (x : State). x.tree) is ∙ tree-update s pid at_next_line)) caller.agrees;
+}
 
 -- the effect for a process that has advanced is the result of the call
 pub carried-on : (s s1 : State) (pid : ℕ) (call : Call) (new : State) (a : Answer) → s1 ≡ update s pid at_next_line

@@ -16,6 +16,10 @@ abbrev pub Loads : State → Process → Call → Type 0
 Loads s me (Execve path) = LeadsToProgram s me path
 Loads s me call = ⊥
 
+-- the same for a process that is given by its number, if it is live
+abbrev pub LoadsIfLive : State → ℕ → Call → Type 0
+LoadsIfLive s pid call = (me : Process) → process_at s pid ≡ Some me → Loads s me call
+
 -- the call of a live process is allowed by its promises, and is an execve that leads to an executable file that its
 -- table allows
 pub record LoadsProgram (s : State) (pid : ℕ) (call : Call) : Type 0 where

@@ -1,15 +1,16 @@
 //! Calls, from the pledge check to the answer.
-ghost use Rattle.std.specs.Prelude.{◌≡◌, IfErr, IfOk, OnErr, IsTrue, IsSome, Some, true, false};
+ghost use Rattle.std.specs.Prelude.{◌≡◌, IfErr, IfOk, OnErr, IsTrue, IsSome, true, false};
 ghost use Rattle.pv_calls.specs.Calls.{IsBlocked, IsCarriedOut, IsReply, continues, is_execve};
-ghost use Rattle.pv_calls.specs.Loading.{Loads, LoadsProgram};
+ghost use Rattle.pv_calls.specs.Loading.{LoadsIfLive, LoadsProgram};
 ghost use Rattle.pv_laws_states.specs.States.{IsValid, is_call};
 ghost use Rattle.pv_model.specs.declared.call.Call.TheVariants.{Execve, Exit};
 ghost use Rattle.pv_model.specs.Answer.{answer, effect};
 ghost use Rattle.pv_model.specs.CallRef.{call_of};
 ghost use Rattle.pv_model.specs.Grammar.Programs.{program_of};
-ghost use Rattle.pv_model.specs.State.{Process, process_at};
+ghost use Rattle.pv_model.specs.State.{process_at};
 ghost use Rattle.pv_model.specs.Tree.{find_entry};
 ghost use Rattle.pv_calls_plain.specs.Performed.{answered, IsAnswered};
+ghost use Rattle.pv_calls_path.specs.Caller.{IsCaller};
 
 use Reply::{Performed, Reported};
 use pv_calls_path::chdir::chdir;
@@ -43,7 +44,8 @@ pub(crate) enum Reply {
 fn exit(parts: &mut Parts, pid: u32, code: i32) -> Answer
     requires whole { IsValid parts.old }
     requires live { IsSome (process_at parts.old pid) }
-    ensures performed { IsAnswered (λ s me. effect program_of s pid me (Exit code)) parts.old pid parts.new result }
+    ensures performed { IsAnswered (λ s me. effect program_of s pid me (Exit code))
+        parts.old pid parts.new result }
 {
     parts.end(pid, exit_status(code));
     Answer {
@@ -56,13 +58,12 @@ fn exit(parts: &mut Parts, pid: u32, code: i32) -> Answer
 // nor for a wait(2) that would block.
 #[inline(always)]
 fn dispatch<L: Lookup + Drop>(system: &mut System<L>, pid: u32, call: CallRef<'_>) -> Reply
-    requires whole { IsValid system.old.parts }
-    requires live { IsSome (process_at system.old.parts pid) }
+    requires caller { IsCaller (L.agrees system.old.lookup) system.old.parts pid }
     requires call { IsTrue (is_call (call_of call)) }
     requires no_execve { is_execve (call_of call) ≡ false }
     requires continues { continues system.old.parts pid (call_of call) }
-    requires agrees { L.agrees system.old.lookup (find_entry system.old.parts.tree) }
-    ensures replied { IsReply (λ s me. effect program_of s pid me (call_of call.entry)) system.old.parts pid system.new.parts result }
+    ensures replied { IsReply (λ s me. effect program_of s pid me (call_of call.entry))
+        system.old.parts pid system.new.parts result }
     ensures agrees { L.agrees system.new.lookup (find_entry system.new.parts.tree) }
 {
     match call {
@@ -108,13 +109,12 @@ fn dispatch<L: Lookup + Drop>(system: &mut System<L>, pid: u32, call: CallRef<'_
 // Makes such a call and reports its result to the process.
 #[inline(always)]
 fn perform<L: Lookup + Drop>(system: &mut System<L>, pid: u32, call: CallRef<'_>) -> Answer
-    requires whole { IsValid system.old.parts }
-    requires live { IsSome (process_at system.old.parts pid) }
+    requires caller { IsCaller (L.agrees system.old.lookup) system.old.parts pid }
     requires call { IsTrue (is_call (call_of call)) }
     requires no_execve { is_execve (call_of call) ≡ false }
     requires continues { continues system.old.parts pid (call_of call) }
-    requires agrees { L.agrees system.old.lookup (find_entry system.old.parts.tree) }
-    ensures performed { IsAnswered (λ s me. effect program_of s pid me (call_of call.entry)) system.old.parts pid system.new.parts result }
+    ensures performed { IsAnswered (λ s me. effect program_of s pid me (call_of call.entry))
+        system.old.parts pid system.new.parts result }
     ensures agrees { L.agrees system.new.lookup (find_entry system.new.parts.tree) }
 {
     match dispatch(system, pid, call) {
@@ -130,14 +130,13 @@ fn execute<L: Lookup + Drop>(
     pid: u32,
     path: &Text,
 ) -> Result<Answer, StepFault>
-    requires whole { IsValid system.old.parts }
-    requires live { IsSome (process_at system.old.parts pid) }
+    requires caller { IsCaller (L.agrees system.old.lookup) system.old.parts pid }
     requires call { IsTrue (is_call (Execve path.now)) }
-    requires agrees { L.agrees system.old.lookup (find_entry system.old.parts.tree) }
-    ensures carried { IfOk result (λ a. IsCarriedOut system.old.parts pid (Execve path.now) system.new.parts a) }
+    ensures carried { IfOk result (λ a. IsCarriedOut system.old.parts pid (Execve path.now)
+        system.new.parts a) }
     ensures agrees { L.agrees system.new.lookup (find_entry system.new.parts.tree) }
     ensures unchanged { OnErr result (system.new.parts ≡ system.old.parts) }
-    ensures memory { IfErr result (λ _. (me : Process) → process_at system.old.parts pid ≡ Some me → Loads system.old.parts me (Execve path.now)) }
+    ensures memory { IfErr result (λ _. LoadsIfLive system.old.parts pid (Execve path.now)) }
 {
     match execve(alloc, system, pid, path) {
         Ok(reported) => Ok(report(&mut system.parts, pid, Ok(reported))),
@@ -169,14 +168,13 @@ fn carry_on<L: Lookup + Drop>(
     pid: u32,
     call: CallRef<'_>,
 ) -> Result<Answer, StepFault>
-    requires whole { IsValid system.old.parts }
-    requires live { IsSome (process_at system.old.parts pid) }
+    requires caller { IsCaller (L.agrees system.old.lookup) system.old.parts pid }
     requires call { IsTrue (is_call (call_of call)) }
-    requires agrees { L.agrees system.old.lookup (find_entry system.old.parts.tree) }
-    ensures carried { IfOk result (λ a. IsCarriedOut system.old.parts pid (call_of call.entry) system.new.parts a) }
+    ensures carried { IfOk result (λ a. IsCarriedOut system.old.parts pid (call_of call.entry)
+        system.new.parts a) }
     ensures agrees { L.agrees system.new.lookup (find_entry system.new.parts.tree) }
     ensures unchanged { OnErr result (system.new.parts ≡ system.old.parts) }
-    ensures memory { IfErr result (λ _. (me : Process) → process_at system.old.parts pid ≡ Some me → Loads system.old.parts me (call_of call.entry)) }
+    ensures memory { IfErr result (λ _. LoadsIfLive system.old.parts pid (call_of call.entry)) }
 {
     if let CallRef::Execve(path) = call {
         return execute(alloc, system, pid, path);
@@ -209,7 +207,8 @@ pub(crate) fn carry_out<L: Lookup + Drop>(
     requires whole { IsValid system.old.parts }
     requires call { IsTrue (is_call (call_of call)) }
     requires agrees { L.agrees system.old.lookup (find_entry system.old.parts.tree) }
-    ensures answered { IfOk result (λ a. answer program_of system.old.parts pid (call_of call.entry) ≡ answered system.new.parts a) }
+    ensures answered { IfOk result (λ a. answer program_of system.old.parts pid (call_of call.entry)
+        ≡ answered system.new.parts a) }
     ensures agrees { L.agrees system.new.lookup (find_entry system.new.parts.tree) }
     ensures unchanged { OnErr result (system.new.parts ≡ system.old.parts) }
     ensures memory { IfErr result (λ _. LoadsProgram system.old.parts pid (call_of call.entry)) }

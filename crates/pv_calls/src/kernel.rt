@@ -63,7 +63,8 @@ impl Kernel<CachedLookup> {
     pub fn boot(alloc: Global, store: Store) -> Result<Kernel<CachedLookup>, BootFault>
         requires { IsFirstTree store }
         ensures booted { IfOk result (λ k. (booted store ≡ Ok k.state) × (k.walks ≡ 0)) }
-        ensures refused { IfErr result (λ fault. (fault ≡ BootFault.Memory) ⊎ (booted store ≡ Err fault)) }
+        ensures refused { IfErr result
+            (λ fault. (fault ≡ BootFault.Memory) ⊎ (booted store ≡ Err fault)) }
     {
         let lookup = CachedLookup::new(alloc)?;
         Kernel::boot_with(alloc, store, lookup)
@@ -100,7 +101,8 @@ impl<L: Lookup + Drop> Kernel<L> {
         requires first { IsFirstTree store }
         requires agrees { L.agrees lookup (find_entry store) }
         ensures booted { IfOk result (λ k. (booted store ≡ Ok k.state) × (k.walks ≡ 0)) }
-        ensures refused { IfErr result (λ fault. (fault ≡ BootFault.Memory) ⊎ (booted store ≡ Err fault)) }
+        ensures refused { IfErr result
+            (λ fault. (fault ≡ BootFault.Memory) ⊎ (booted store ≡ Err fault)) }
     {
         let program = match init(alloc, store.tree()) {
             Ok(program) => program,
@@ -165,7 +167,9 @@ impl<L: Lookup + Drop> Kernel<L> {
     /// failed with `ENOEXEC`. The state is then unchanged.
     pub fn call(&mut self, alloc: Global, pid: u32, call: CallRef<'_>) -> Result<Outcome, StepFault>
         requires { IsTrue (is_call (call_of call)) }
-        ensures answered { IfOk result (λ outcome. answer program_of self.old.state pid (call_of call.entry) ≡ record { after = self.new.state; outcome = outcome; walks = self.new.walks }) }
+        ensures answered { IfOk result
+            (λ outcome. answer program_of self.old.state pid (call_of call.entry)
+            ≡ record { after = self.new.state; outcome = outcome; walks = self.new.walks }) }
         ensures refused { OnErr result (self.new ≡ self.old) }
         ensures memory { IfErr result (λ _. LoadsProgram self.old.state pid (call_of call.entry)) }
     {
@@ -203,7 +207,8 @@ impl<L: Lookup + Drop> Kernel<L> {
     /// not allocate.
     pub fn leak(&self, pid: u32, node: u16) -> Option<Why>
         requires { IsSome (process_at self.now.state pid) }
-        ensures { (p : Process) → process_at self.now.state pid ≡ Some p → result ≡ first_of (leaks self.now.state p node) }
+        ensures { (p : Process) → process_at self.now.state pid ≡ Some p
+            → result ≡ first_of (leaks self.now.state p node) }
     {
         leak(&self.system.parts, pid, node)
     }
@@ -212,7 +217,8 @@ impl<L: Lookup + Drop> Kernel<L> {
     /// can never get one. Does not allocate.
     pub fn frozen_to(&self, pid: u32, node: u16) -> bool
         requires { IsSome (process_at self.now.state pid) }
-        ensures { (p : Process) → process_at self.now.state pid ≡ Some p → result ≡ is_frozen_to self.now.state p node }
+        ensures { (p : Process) → process_at self.now.state pid ≡ Some p
+            → result ≡ is_frozen_to self.now.state p node }
     {
         frozen_to(&self.system.parts, pid, node)
     }

@@ -9,5 +9,6 @@ ghost use Rattle.pv_model.specs.State.{State};
 /// States that a call that has a program to load answers 0, or `ENOEXEC` if the file does not parse as a program. Out
 /// of memory can thus only replace these two answers of execve(2).
 pub fn loading_answers()
-    ensures { (s : State) (pid : ℕ) (call : Call) → LoadsProgram s pid call → IsOfLoading (answer program_of s pid call).outcome }
+    ensures { (s : State) (pid : ℕ) (call : Call) → LoadsProgram s pid call
+        → IsOfLoading (answer program_of s pid call).outcome }
 {}

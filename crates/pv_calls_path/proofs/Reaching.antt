@@ -1,5 +1,5 @@
 -- A walk with its unveil check, as the code makes it.
-use Rattle.std.proofs.Common.{◌≡◌, ◌∙◌, ℕ, true, if◌then◌else◌, Option, Some, Ok, Err, option_map, refl, sym, ap, subst}
+use Rattle.std.proofs.Common.{◌≡◌, ◌∙◌, ℕ, ◌≤◌, true, if◌then◌else◌, Option, Some, Ok, Err, option_map, refl, sym, ap, subst, arith}
 use Rattle.pv_calls_path.specs.Reached.{IsFound, IsMissed, IsMissedByBoth, IsReached, IsStopped}
 use Rattle.pv_calls_plain.specs.declared.answer.Refused.{Refused}
 use Rattle.pv_laws_states.specs.States.{IsValid, is_text, IsFinePlace}
@@ -53,6 +53,10 @@ module _ (s : State) (start : ℕ) (follow : Follow) (path : Bytes) where
   -- the place is valid
   pub found_fine : IsValid s → is_directory_at s.tree start ≡ true → is_text path ≡ true → (place : Place) → resolve s.tree follow start path ≡ Ok place → IsFinePlace s.tree place
   found_fine whole directory text place found = resolve-fine s.tree whole.tree follow start path place directory text found
+
+-- a walk begins at most one
+pub walks-few : (path : Bytes) (walks : ℕ) → walks ≡ (if begins_walk path then 1 else 0) → walks ≤ 1
+walks-few path walks begins = grind arith
 
 -- the table refuses the place
 pub judged_stop : (s : State) (me : Process) (start : ℕ) (w : Walk) (place : Place) (j : Judgement) (e : Errno) (cause : Cause)

@@ -1,5 +1,5 @@
 -- The place to which a walk leads after its unveil check, or its refusal.
-use Rattle.std.specs.Prelude.{◌≡◌, ℕ, is_some}
+use Rattle.std.specs.Prelude.{◌≡◌, ℕ, ◌≤◌, Some, IsSome, is_some}
 use Rattle.pv_laws_states.specs.States.{IsFinePlace}
 use Rattle.pv_model.specs.declared.errno.Errno.TheVariants.{EEXIST, ENOENT}
 use Rattle.pv_model.specs.declared.follow.Follow.{Follow}
@@ -8,7 +8,8 @@ use Rattle.pv_model.specs.declared.place.Place.{Place}
 use Rattle.pv_model.specs.Attempt.{Attempt, done, refused, after_walks, demand, give, refuse_if, ◌>>=◌, ◌>>◌}
 use Rattle.pv_model.specs.Bytes.{Bytes}
 use Rattle.pv_model.specs.Effect.{Effect, walk_from, judge_for, name_of, node_of}
-use Rattle.pv_model.specs.State.{Process, State}
+use Rattle.pv_model.specs.State.{Process, State, process_at}
+use Rattle.pv_model.specs.Tree.{node_at}
 use Rattle.pv_model.specs.Walks.{Walk}
 use Rattle.pv_calls_plain.specs.declared.answer.Refused.{Refused}
 
@@ -21,6 +22,16 @@ pub record IsReached (s : State) (me : Process) (start : ℕ) (w : Walk) (place 
 -- a walk is refused, and so is every computation that starts with it
 abbrev pub IsLost : State → ℕ → Follow → Bytes → Refused → Type 0
 IsLost s start follow path r = (next : Place → Attempt Effect) → (walk_from s start follow path >>= next) ≡ refused r.walks r.errno r.cause
+
+-- a path leads from a directory to a valid place, before the unveil check
+pub record Leads (s : State) (start : ℕ) (follow : Follow) (path : Bytes) (place : Place) : Type 0 where
+  pub walked : walk_from s start follow path ≡ done 1 place
+  pub fine : IsFinePlace s.tree place
+
+-- a path leads nowhere from a directory: at most one walk is begun
+pub record LeadsNowhere (s : State) (start : ℕ) (follow : Follow) (path : Bytes) (r : Refused) : Type 0 where
+  pub lost : IsLost s start follow path r
+  pub few : r.walks ≤ 1
 
 -- a walk or its unveil check is refused, and so is every computation that starts with both
 abbrev pub IsStopped : State → Process → ℕ → Walk → Refused → Type 0
@@ -58,3 +69,47 @@ IsMissedByBoth s me first second r =
 -- a node exists at a place, or the place has no name, so every computation that needs a new name there is refused
 abbrev pub IsTaken : Place → Type 0
 IsTaken place = (rest : ℕ × Bytes → Attempt Effect) → (refuse_if EEXIST (is_some (node_of place)) >> (demand EEXIST (name_of place) >>= rest)) ≡ refused 0 EEXIST Plain
+
+-- ---- walks of a live process, given by its number
+
+module _ (s : State) (pid : ℕ) where
+  -- a walk from the directory `start` leads to a valid place that the table of the process allows
+  pub record ReachesFrom (start : Process → ℕ) (w : Walk) (place : Place) : Type 0 where
+    pub reached : (me : Process) → process_at s pid ≡ Some me → IsReached s me (start me) w place
+    pub fine : IsFinePlace s.tree place
+
+  -- a walk from the directory `start` or its unveil check is refused, and at most one walk was begun
+  pub record StopsFrom (start : Process → ℕ) (w : Walk) (r : Refused) : Type 0 where
+    pub stopped : (me : Process) → process_at s pid ≡ Some me → IsStopped s me (start me) w r
+    pub few : r.walks ≤ 1
+
+  -- the same from the working directory
+  abbrev pub Reaches : Walk → Place → Type 0
+  Reaches w place = ReachesFrom (λ me. me.directory) w place
+
+  abbrev pub Stops : Walk → Refused → Type 0
+  Stops w r = StopsFrom (λ me. me.directory) w r
+
+  -- the second walk of a call, from the working directory, or its unveil check is refused
+  abbrev pub StopsSecond : Walk → Refused → Type 0
+  StopsSecond w r = (me : Process) → process_at s pid ≡ Some me → IsStoppedSecond s me me.directory w r
+
+  -- a walk from the working directory leads to a valid place that the table allows, and node n exists there
+  pub record ReachesNode (w : Walk) (place : Place) (n : ℕ) : Type 0 where
+    pub reached : (me : Process) → process_at s pid ≡ Some me → IsReached s me me.directory w place
+    pub fine : IsFinePlace s.tree place
+    pub there : node_of place ≡ Some n
+
+  -- a walk from the working directory that the table allows leads to node n
+  pub record Finds (w : Walk) (n : ℕ) : Type 0 where
+    pub found : (me : Process) → process_at s pid ≡ Some me → IsFound s me me.directory w n
+    pub there : IsSome (node_at s.tree n)
+
+  -- a walk from the working directory or its unveil check is refused, or no node exists at its end
+  abbrev pub Misses : Walk → Refused → Type 0
+  Misses w r = (me : Process) → process_at s pid ≡ Some me → IsMissed s me me.directory w r
+
+  -- one of two walks from the working directory or its unveil check is refused, or no node exists at the end of the
+  -- first
+  abbrev pub MissesOne : Walk → Walk → Refused → Type 0
+  MissesOne first second r = (me : Process) → process_at s pid ≡ Some me → IsMissedByBoth s me first second r

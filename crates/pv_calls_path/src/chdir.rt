@@ -1,10 +1,10 @@
 //! Change of the working directory along a path: chdir(2).
-ghost use Rattle.std.specs.Prelude.{IsSome, IsTrue};
-ghost use Rattle.pv_laws_states.specs.States.{IsValid, is_text};
+ghost use Rattle.std.specs.Prelude.{IsTrue};
+ghost use Rattle.pv_laws_states.specs.States.{is_text};
 ghost use Rattle.pv_model.specs.Calls.Paths.{chdir};
-ghost use Rattle.pv_model.specs.State.{process_at};
 ghost use Rattle.pv_model.specs.Tree.{find_entry};
 ghost use Rattle.pv_calls_plain.specs.Performed.{IsPerformed};
+ghost use Rattle.pv_calls_path.specs.Caller.{IsCaller};
 
 use crate::reach::reach_node;
 use crate::system::System;
@@ -26,11 +26,10 @@ pub fn chdir<L: Lookup + Drop>(
     pid: u32,
     path: &Text,
 ) -> Result<Done, Refused>
-    requires whole { IsValid system.old.parts }
-    requires live { IsSome (process_at system.old.parts pid) }
+    requires caller { IsCaller (L.agrees system.old.lookup) system.old.parts pid }
     requires text { IsTrue (is_text path.now) }
-    requires agrees { L.agrees system.old.lookup (find_entry system.old.parts.tree) }
-    ensures performed { IsPerformed (λ s me. chdir s pid me path.now) system.old.parts pid system.new.parts result }
+    ensures performed { IsPerformed (λ s me. chdir s pid me path.now)
+        system.old.parts pid system.new.parts result }
     ensures agrees { L.agrees system.new.lookup (find_entry system.new.parts.tree) }
 {
     let System {

@@ -24,7 +24,8 @@ use pv_namei::{PlainLookup, resolve};
 pub fn end_of(parts: &Parts, pid: u32, walk: Walk<'_>) -> Option<Place>
     requires whole { IsValid parts.now }
     requires live { IsSome (process_at parts.now pid) }
-    ensures { (me : Process) → process_at parts.now pid ≡ Some me → result ≡ end_begun parts.now pid me (walk_of walk.entry) }
+    ensures { (me : Process) → process_at parts.now pid ≡ Some me
+        → result ≡ end_begun parts.now pid me (walk_of walk.entry) }
 {
     let Ok(start) = start_of(parts, pid, walk.start, walk.path) else {
         return None;
@@ -40,7 +41,8 @@ pub fn end_of_walk(parts: &Parts, pid: u32, call: CallRef<'_>, number: u8) -> Op
     requires whole { IsValid parts.now }
     requires live { IsSome (process_at parts.now pid) }
     ensures { (me : Process) → process_at parts.now pid ≡ Some me
-        → result ≡ end_of_some parts.now pid me (walk_number (walks_of (call_of call.entry)) number) }
+        → result ≡ end_of_some parts.now pid me
+        (walk_number (walks_of (call_of call.entry)) number) }
 {
     match (call.walks(), number) {
         (Walks::One(first) | Walks::Two(first, _), 1) => end_of(parts, pid, first),
@@ -52,7 +54,9 @@ pub fn end_of_walk(parts: &Parts, pid: u32, call: CallRef<'_>, number: u8) -> Op
 /// States that `end_of` and `end_of_walk`, applied to the state before a call, are right for each walk that the call
 /// began: they return the place to which the walk of the definitions leads, or `None` if it leads to none.
 pub fn begun_ends()
-    ensures { (s : State) (pid : ℕ) (me : Process) (call : Call) (number : ℕ) (walk : DefinedWalk) → process_at s pid ≡ Some me
-        → walk_number (walks_of call) number ≡ Some walk → number ≤ (answer program_of s pid call).walks
+    ensures { (s : State) (pid : ℕ) (me : Process) (call : Call) (number : ℕ) (walk : DefinedWalk)
+        → process_at s pid ≡ Some me
+        → walk_number (walks_of call) number ≡ Some walk
+        → number ≤ (answer program_of s pid call).walks
         → end_begun s pid me walk ≡ place_found (end_by_definition s me walk) }
 {}

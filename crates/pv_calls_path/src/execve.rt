@@ -1,9 +1,10 @@
 //! Program images: execve(2).
-ghost use Rattle.std.specs.Prelude.{◌≡◌, IsSome, IsTrue, OnErr, Some};
-ghost use Rattle.pv_laws_states.specs.States.{IsValid, is_text};
+ghost use Rattle.std.specs.Prelude.{◌≡◌, IsTrue, OnErr, Some};
+ghost use Rattle.pv_laws_states.specs.States.{is_text};
 ghost use Rattle.pv_model.specs.declared.outcome.Cause.TheVariants.{Plain};
 ghost use Rattle.pv_model.specs.State.{Process, process_at};
 ghost use Rattle.pv_model.specs.Tree.{find_entry};
+ghost use Rattle.pv_calls_path.specs.Caller.{IsCaller};
 ghost use Rattle.pv_calls_path.specs.Execve.{Executes};
 
 use crate::programs::read_program;
@@ -50,11 +51,10 @@ pub fn execve<L: Lookup + Drop>(
     pid: u32,
     path: &Text,
 ) -> Result<Done, ExecveFault>
-    requires whole { IsValid system.old.parts }
-    requires live { IsSome (process_at system.old.parts pid) }
+    requires caller { IsCaller (L.agrees system.old.lookup) system.old.parts pid }
     requires text { IsTrue (is_text path.now) }
-    requires agrees { L.agrees system.old.lookup (find_entry system.old.parts.tree) }
-    ensures performed { (me : Process) → process_at system.old.parts pid ≡ Some me → Executes system.old.parts pid me path.now system.new.parts result }
+    ensures performed { (me : Process) → process_at system.old.parts pid ≡ Some me
+        → Executes system.old.parts pid me path.now system.new.parts result }
     ensures unchanged { OnErr result (system.new.parts ≡ system.old.parts) }
     ensures agrees { L.agrees system.new.lookup (find_entry system.new.parts.tree) }
 {

@@ -1,12 +1,12 @@
 //! Calls that inspect a path: stat(2), lstat(2), readlink(2).
-ghost use Rattle.std.specs.Prelude.{◌≡◌, IsSome, IsTrue};
-ghost use Rattle.pv_laws_states.specs.States.{IsValid, is_text};
+ghost use Rattle.std.specs.Prelude.{◌≡◌, IsTrue};
+ghost use Rattle.pv_laws_states.specs.States.{is_text};
 ghost use Rattle.pv_model.specs.declared.call.Start.TheVariants.{WorkingDirectory};
 ghost use Rattle.pv_model.specs.CallRef.{walk_of};
 ghost use Rattle.pv_model.specs.Calls.Paths.{lstat, readlink, stat, stat_at};
-ghost use Rattle.pv_model.specs.State.{process_at};
 ghost use Rattle.pv_model.specs.Tree.{find_entry};
 ghost use Rattle.pv_calls_plain.specs.Performed.{IsAnswered};
+ghost use Rattle.pv_calls_path.specs.Caller.{IsCaller};
 
 use crate::opening::is_link;
 use crate::reach::reach_node;
@@ -19,12 +19,11 @@ use pv_namei::Lookup;
 
 // Reports the status of the node at the end of a walk from the working directory.
 fn stat_at<L: Lookup + Drop>(system: &mut System<L>, pid: u32, walk: Walk<'_>) -> Answer
-    requires whole { IsValid system.old.parts }
-    requires live { IsSome (process_at system.old.parts pid) }
+    requires caller { IsCaller (L.agrees system.old.lookup) system.old.parts pid }
     requires here { walk.start ≡ WorkingDirectory }
     requires text { IsTrue (is_text walk.path.now) }
-    requires agrees { L.agrees system.old.lookup (find_entry system.old.parts.tree) }
-    ensures performed { IsAnswered (λ s me. stat_at s pid me (walk_of walk.entry)) system.old.parts pid system.new.parts result }
+    ensures performed { IsAnswered (λ s me. stat_at s pid me (walk_of walk.entry))
+        system.old.parts pid system.new.parts result }
     ensures agrees { L.agrees system.new.lookup (find_entry system.new.parts.tree) }
 {
     let System {
@@ -48,11 +47,10 @@ fn stat_at<L: Lookup + Drop>(system: &mut System<L>, pid: u32, walk: Walk<'_>) -
 /// The call is refused with an error of the walk, then of the unveil check, then with `ENOENT` if nothing exists at the
 /// path.
 pub fn stat<L: Lookup + Drop>(system: &mut System<L>, pid: u32, path: &Text) -> Answer
-    requires whole { IsValid system.old.parts }
-    requires live { IsSome (process_at system.old.parts pid) }
+    requires caller { IsCaller (L.agrees system.old.lookup) system.old.parts pid }
     requires text { IsTrue (is_text path.now) }
-    requires agrees { L.agrees system.old.lookup (find_entry system.old.parts.tree) }
-    ensures performed { IsAnswered (λ s me. stat s pid me path.now) system.old.parts pid system.new.parts result }
+    ensures performed { IsAnswered (λ s me. stat s pid me path.now)
+        system.old.parts pid system.new.parts result }
     ensures agrees { L.agrees system.new.lookup (find_entry system.new.parts.tree) }
 {
     stat_at(system, pid, Walk::stat(path))
@@ -62,11 +60,10 @@ pub fn stat<L: Lookup + Drop>(system: &mut System<L>, pid: u32, path: &Text) -> 
 ///
 /// The call is refused for the same reasons as `stat`.
 pub fn lstat<L: Lookup + Drop>(system: &mut System<L>, pid: u32, path: &Text) -> Answer
-    requires whole { IsValid system.old.parts }
-    requires live { IsSome (process_at system.old.parts pid) }
+    requires caller { IsCaller (L.agrees system.old.lookup) system.old.parts pid }
     requires text { IsTrue (is_text path.now) }
-    requires agrees { L.agrees system.old.lookup (find_entry system.old.parts.tree) }
-    ensures performed { IsAnswered (λ s me. lstat s pid me path.now) system.old.parts pid system.new.parts result }
+    ensures performed { IsAnswered (λ s me. lstat s pid me path.now)
+        system.old.parts pid system.new.parts result }
     ensures agrees { L.agrees system.new.lookup (find_entry system.new.parts.tree) }
 {
     stat_at(system, pid, Walk::lstat(path))
@@ -79,11 +76,10 @@ pub fn lstat<L: Lookup + Drop>(system: &mut System<L>, pid: u32, path: &Text) ->
 /// path, then with `EINVAL` if it is not a symbolic link.
 #[inline(never)]
 pub fn readlink<L: Lookup + Drop>(system: &mut System<L>, pid: u32, path: &Text) -> Answer
-    requires whole { IsValid system.old.parts }
-    requires live { IsSome (process_at system.old.parts pid) }
+    requires caller { IsCaller (L.agrees system.old.lookup) system.old.parts pid }
     requires text { IsTrue (is_text path.now) }
-    requires agrees { L.agrees system.old.lookup (find_entry system.old.parts.tree) }
-    ensures performed { IsAnswered (λ s me. readlink s pid me path.now) system.old.parts pid system.new.parts result }
+    ensures performed { IsAnswered (λ s me. readlink s pid me path.now)
+        system.old.parts pid system.new.parts result }
     ensures agrees { L.agrees system.new.lookup (find_entry system.new.parts.tree) }
 {
     let System {

@@ -1,13 +1,13 @@
 //! Calls that make or remove names: mkdir(2), symlink(2), link(2), unlink(2), rmdir(2).
-ghost use Rattle.std.specs.Prelude.{◌≡◌, IfErr, IfOk, IsSome, IsTrue, None, Some};
-ghost use Rattle.pv_laws_states.specs.States.{IsValid, is_text};
+ghost use Rattle.std.specs.Prelude.{◌≡◌, IfErr, IfOk, IsTrue, None, Some};
+ghost use Rattle.pv_laws_states.specs.States.{is_text};
 ghost use Rattle.pv_model.specs.declared.call.Start.TheVariants.{WorkingDirectory};
 ghost use Rattle.pv_model.specs.declared.outcome.Cause.TheVariants.{Plain};
 ghost use Rattle.pv_model.specs.CallRef.{walk_of};
 ghost use Rattle.pv_model.specs.Calls.Paths.{make, mkdir, symlink, link, unlink, rmdir};
 ghost use Rattle.pv_model.specs.Effect.{name_of, node_of};
-ghost use Rattle.pv_model.specs.State.{process_at};
 ghost use Rattle.pv_model.specs.Tree.{find_entry, is_node};
+ghost use Rattle.pv_calls_path.specs.Caller.{IsCaller};
 ghost use Rattle.pv_calls_path.specs.Reached.{IsTaken};
 ghost use Rattle.pv_calls_plain.specs.Performed.{IsPerformed};
 ghost use Rattle.pv_tree.specs.Changes.{new_node};
@@ -26,7 +26,8 @@ fn free_name<'a>(place: &PlaceRef<'a>, walks: u8) -> Result<(u16, &'a [u8]), Ref
     ensures free { IfOk result (λ _. node_of place.now ≡ None) }
     ensures name { IfOk result (λ p. name_of place.now ≡ Some (p.0, p.1.now)) }
     ensures taken { IfErr result (λ _. IsTaken place.now) }
-    ensures refused { IfErr result (λ r. r ≡ record { walks = walks; errno = Errno.EEXIST; cause = Plain }) }
+    ensures refused { IfErr result
+        (λ r. r ≡ record { walks = walks; errno = Errno.EEXIST; cause = Plain }) }
 {
     match (place.node(), place.name()) {
         (None, Some(name)) => Ok(name),
@@ -41,13 +42,13 @@ fn make<L: Lookup + Drop>(
     walk: Walk<'_>,
     kind: NewNode,
 ) -> Result<Done, Refused>
-    requires whole { IsValid system.old.parts }
-    requires live { IsSome (process_at system.old.parts pid) }
+    requires caller { IsCaller (L.agrees system.old.lookup) system.old.parts pid }
     requires here { walk.start ≡ WorkingDirectory }
     requires text { IsTrue (is_text walk.path.now) }
     requires node { IsTrue (is_node system.old.parts.tree.version (new_node kind)) }
-    requires agrees { L.agrees system.old.lookup (find_entry system.old.parts.tree) }
-    ensures performed { IsPerformed (λ s me. make s pid me (walk_of walk.entry) (new_node kind.entry)) system.old.parts pid system.new.parts result }
+    ensures performed { IsPerformed
+        (λ s me. make s pid me (walk_of walk.entry) (new_node kind.entry))
+        system.old.parts pid system.new.parts result }
     ensures agrees { L.agrees system.new.lookup (find_entry system.new.parts.tree) }
 {
     let System {
@@ -79,11 +80,10 @@ pub fn mkdir<L: Lookup + Drop>(
     pid: u32,
     path: &Text,
 ) -> Result<Done, Refused>
-    requires whole { IsValid system.old.parts }
-    requires live { IsSome (process_at system.old.parts pid) }
+    requires caller { IsCaller (L.agrees system.old.lookup) system.old.parts pid }
     requires text { IsTrue (is_text path.now) }
-    requires agrees { L.agrees system.old.lookup (find_entry system.old.parts.tree) }
-    ensures performed { IsPerformed (λ s me. mkdir s pid me path.now) system.old.parts pid system.new.parts result }
+    ensures performed { IsPerformed (λ s me. mkdir s pid me path.now)
+        system.old.parts pid system.new.parts result }
     ensures agrees { L.agrees system.new.lookup (find_entry system.new.parts.tree) }
 {
     let walk = Walk::mkdir(path);
@@ -101,12 +101,11 @@ pub fn symlink<L: Lookup + Drop>(
     text: &[u8],
     path: &Text,
 ) -> Result<Done, Refused>
-    requires whole { IsValid system.old.parts }
-    requires live { IsSome (process_at system.old.parts pid) }
+    requires caller { IsCaller (L.agrees system.old.lookup) system.old.parts pid }
     requires link { IsTrue (is_text text.now) }
     requires text { IsTrue (is_text path.now) }
-    requires agrees { L.agrees system.old.lookup (find_entry system.old.parts.tree) }
-    ensures performed { IsPerformed (λ s me. symlink s pid me text.now path.now) system.old.parts pid system.new.parts result }
+    ensures performed { IsPerformed (λ s me. symlink s pid me text.now path.now)
+        system.old.parts pid system.new.parts result }
     ensures agrees { L.agrees system.new.lookup (find_entry system.new.parts.tree) }
 {
     if text.is_empty() {
@@ -136,12 +135,11 @@ pub fn link<L: Lookup + Drop>(
     path: &Text,
     new: &Text,
 ) -> Result<Done, Refused>
-    requires whole { IsValid system.old.parts }
-    requires live { IsSome (process_at system.old.parts pid) }
+    requires caller { IsCaller (L.agrees system.old.lookup) system.old.parts pid }
     requires text { IsTrue (is_text path.now) }
     requires other { IsTrue (is_text new.now) }
-    requires agrees { L.agrees system.old.lookup (find_entry system.old.parts.tree) }
-    ensures performed { IsPerformed (λ s me. link s pid me path.now new.now) system.old.parts pid system.new.parts result }
+    ensures performed { IsPerformed (λ s me. link s pid me path.now new.now)
+        system.old.parts pid system.new.parts result }
     ensures agrees { L.agrees system.new.lookup (find_entry system.new.parts.tree) }
 {
     let System {
@@ -179,11 +177,10 @@ pub fn unlink<L: Lookup + Drop>(
     pid: u32,
     path: &Text,
 ) -> Result<Done, Refused>
-    requires whole { IsValid system.old.parts }
-    requires live { IsSome (process_at system.old.parts pid) }
+    requires caller { IsCaller (L.agrees system.old.lookup) system.old.parts pid }
     requires text { IsTrue (is_text path.now) }
-    requires agrees { L.agrees system.old.lookup (find_entry system.old.parts.tree) }
-    ensures performed { IsPerformed (λ s me. unlink s pid me path.now) system.old.parts pid system.new.parts result }
+    ensures performed { IsPerformed (λ s me. unlink s pid me path.now)
+        system.old.parts pid system.new.parts result }
     ensures agrees { L.agrees system.new.lookup (find_entry system.new.parts.tree) }
 {
     let System {
@@ -223,11 +220,10 @@ pub fn rmdir<L: Lookup + Drop>(
     pid: u32,
     path: &Text,
 ) -> Result<Done, Refused>
-    requires whole { IsValid system.old.parts }
-    requires live { IsSome (process_at system.old.parts pid) }
+    requires caller { IsCaller (L.agrees system.old.lookup) system.old.parts pid }
     requires text { IsTrue (is_text path.now) }
-    requires agrees { L.agrees system.old.lookup (find_entry system.old.parts.tree) }
-    ensures performed { IsPerformed (λ s me. rmdir s pid me path.now) system.old.parts pid system.new.parts result }
+    ensures performed { IsPerformed (λ s me. rmdir s pid me path.now)
+        system.old.parts pid system.new.parts result }
     ensures agrees { L.agrees system.new.lookup (find_entry system.new.parts.tree) }
 {
     let System {

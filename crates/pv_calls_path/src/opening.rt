@@ -1,18 +1,17 @@
 //! Opening of files: open(2) and openat(2).
-ghost use Rattle.std.specs.Prelude.{◌≡◌, ◌≤◌, ◌<◌, IfOk, IfErr, IsSome, IsTrue, OnErr, None, Some, false};
+ghost use Rattle.std.specs.Prelude.{◌≡◌, IfOk, IfErr, IsSome, IsTrue, None, Some, false};
 ghost use Rattle.pv_laws_states.specs.States.{IsFinePlace, IsValid, is_text};
-ghost use Rattle.pv_model.specs.declared.limits.TheConstants.{DESCRIPTORS, NUMBER, OPEN_FILES};
-ghost use Rattle.pv_model.specs.declared.outcome.Cause.TheVariants.{Plain};
 ghost use Rattle.pv_model.specs.declared.place.Place.{Place};
-ghost use Rattle.pv_model.specs.Attempt.{after_walks, give, refused};
-ghost use Rattle.pv_model.specs.Calls.Descriptors.{check_start, contradicts, directory_of, is_link, open_at};
-ghost use Rattle.pv_model.specs.Effect.{directory_of_file, node_of, open_file, start_directory};
-ghost use Rattle.pv_model.specs.Numbered.{least_free};
-ghost use Rattle.pv_model.specs.State.{Process, process_at, writes};
+ghost use Rattle.pv_model.specs.Attempt.{after_walks};
+ghost use Rattle.pv_model.specs.Calls.Descriptors.{contradicts, is_link, open_at};
+ghost use Rattle.pv_model.specs.Effect.{node_of};
+ghost use Rattle.pv_model.specs.State.{process_at, writes};
 ghost use Rattle.pv_model.specs.Tree.{find_entry, is_directory_at, node_at};
-ghost use Rattle.pv_calls_state.specs.Attempts.{collected};
+ghost use Rattle.pv_calls_state.specs.Opening.{CanOpen};
+ghost use Rattle.pv_calls_path.specs.Caller.{IsCaller};
 ghost use Rattle.pv_calls_path.specs.Opening.{open_place};
-ghost use Rattle.pv_calls_plain.specs.Performed.{IsPerformed, attempt_of};
+ghost use Rattle.pv_calls_path.specs.Starting.{FailsStart, GivesDirectory, GivesNoDirectory, IsOnDirectory, PassesStart, StartsAt};
+ghost use Rattle.pv_calls_plain.specs.Performed.{IsPerformed};
 ghost use Rattle.pv_laws_trees.specs.Found.{Alike};
 
 use crate::reach::reach_from;
@@ -47,9 +46,9 @@ fn directory_of(parts: &Parts, pid: u32, d: i32) -> Result<u16, Errno>
     requires whole { IsValid parts.now }
     requires live { IsSome (process_at parts.now pid) }
     ensures directory { IfOk result (λ n. IsTrue (is_directory_at parts.now.tree n)) }
-    ensures given { IfOk result (λ n. (me : Process) → process_at parts.now pid ≡ Some me → directory_of parts.now pid me d ≡ give n) }
-    ensures node { IfOk result (λ n. (me : Process) → process_at parts.now pid ≡ Some me → directory_of_file me (open_file parts.now me d) ≡ n) }
-    ensures refused { IfErr result (λ e. (me : Process) → process_at parts.now pid ≡ Some me → directory_of parts.now pid me d ≡ refused 0 e Plain) }
+    ensures given { IfOk result (GivesDirectory parts.now pid d) }
+    ensures node { IfOk result (IsOnDirectory parts.now pid d) }
+    ensures refused { IfErr result (GivesNoDirectory parts.now pid d) }
 {
     let Some(file) = open_file(parts, pid, d) else {
         return Err(Errno::EBADF);
@@ -70,9 +69,9 @@ pub(crate) fn start_of(parts: &Parts, pid: u32, start: Start, path: &Text) -> Re
     requires whole { IsValid parts.now }
     requires live { IsSome (process_at parts.now pid) }
     ensures directory { IfOk result (λ n. IsTrue (is_directory_at parts.now.tree n)) }
-    ensures checked { IfOk result (λ n. (me : Process) → process_at parts.now pid ≡ Some me → check_start parts.now pid me start path.now ≡ give tt) }
-    ensures start { IfOk result (λ n. (me : Process) → process_at parts.now pid ≡ Some me → start_directory parts.now me start path.now ≡ n) }
-    ensures refused { IfErr result (λ e. (me : Process) → process_at parts.now pid ≡ Some me → check_start parts.now pid me start path.now ≡ refused 0 e Plain) }
+    ensures checked { IfOk result (λ _. PassesStart parts.now pid start path.now) }
+    ensures start { IfOk result (StartsAt parts.now pid start path.now) }
+    ensures refused { IfErr result (FailsStart parts.now pid start path.now) }
 {
     match start {
         Start::Descriptor(d) if !is_absolute(path.as_slice()) => directory_of(parts, pid, d),
@@ -87,12 +86,9 @@ fn open_there(parts: &mut Parts, pid: u32, node: u16, flags: OpenFlags) -> Resul
     requires live { IsSome (process_at parts.old pid) }
     requires there { IsSome (node_at parts.old.tree node) }
     requires flags { contradicts flags ≡ false }
-    requires descriptor { (me : Process) → process_at parts.old pid ≡ Some me → least_free me.descriptors < DESCRIPTORS }
-    requires file { least_free parts.old.files < OPEN_FILES }
-    ensures performed { (me : Process) (place : Place) → process_at parts.old pid ≡ Some me → node_of place ≡ Some node
-        → collected (after_walks 1 (open_place parts.old pid me flags place)) ≡ attempt_of parts.new result }
-    ensures unchanged { OnErr result (parts.new ≡ parts.old) }
-    ensures small { IfOk result (λ d. d.value ≤ NUMBER) }
+    requires room { CanOpen parts.old.files (process_at parts.old pid) }
+    ensures performed { (place : Place) → node_of place ≡ Some node → IsPerformed
+        (λ s me. after_walks 1 (open_place s pid me flags place)) parts.old pid parts.new result }
     ensures found { Alike (find_entry parts.old.tree) (find_entry parts.new.tree) }
 {
     if flags.create && flags.exclusive {
@@ -122,15 +118,14 @@ fn create_there<L: Lookup>(
     place: &PlaceRef<'_>,
     flags: OpenFlags,
 ) -> Result<Done, Refused>
-    requires whole { IsValid parts.old }
-    requires live { IsSome (process_at parts.old pid) }
+    requires caller { IsCaller (L.agrees lookup.old) parts.old pid }
     requires fine { IsFinePlace parts.old.tree place.now }
     requires absent { node_of place.now ≡ None }
     requires flags { contradicts flags ≡ false }
-    requires descriptor { (me : Process) → process_at parts.old pid ≡ Some me → least_free me.descriptors < DESCRIPTORS }
-    requires file { least_free parts.old.files < OPEN_FILES }
-    requires agrees { L.agrees lookup.old (find_entry parts.old.tree) }
-    ensures performed { IsPerformed (λ s me. after_walks 1 (open_place s pid me flags place.now)) parts.old pid parts.new result }
+    requires room { CanOpen parts.old.files (process_at parts.old pid) }
+    ensures performed { IsPerformed
+        (λ s me. after_walks 1 (open_place s pid me flags place.now))
+        parts.old pid parts.new result }
     ensures agrees { L.agrees lookup.new (find_entry parts.new.tree) }
 {
     if !flags.create {
@@ -171,11 +166,10 @@ pub fn open_at<L: Lookup + Drop>(
     path: &Text,
     flags: OpenFlags,
 ) -> Result<Done, Refused>
-    requires whole { IsValid system.old.parts }
-    requires live { IsSome (process_at system.old.parts pid) }
+    requires caller { IsCaller (L.agrees system.old.lookup) system.old.parts pid }
     requires text { IsTrue (is_text path.now) }
-    requires agrees { L.agrees system.old.lookup (find_entry system.old.parts.tree) }
-    ensures performed { IsPerformed (λ s me. open_at s pid me start path.now flags) system.old.parts pid system.new.parts result }
+    ensures performed { IsPerformed (λ s me. open_at s pid me start path.now flags)
+        system.old.parts pid system.new.parts result }
     ensures agrees { L.agrees system.new.lookup (find_entry system.new.parts.tree) }
 {
     let System {

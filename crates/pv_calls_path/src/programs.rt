@@ -44,7 +44,8 @@ fn boot_fault(fault: ParseFault) -> BootFault
 /// - `Memory`, if there is no memory for the program.
 pub fn init(alloc: Global, tree: &Tree) -> Result<Program, BootFault>
     ensures program { IfOk result (λ program. program_in (init_of tree.now.tree) ≡ Ok program) }
-    ensures refused { IfErr result (λ fault. (fault ≡ BootFault.Memory) ⊎ (program_in (init_of tree.now.tree) ≡ Err fault)) }
+    ensures refused { IfErr result
+        (λ fault. (fault ≡ BootFault.Memory) ⊎ (program_in (init_of tree.now.tree) ≡ Err fault)) }
 {
     tree.invariant();
     let Some(node) = tree.find(ROOT, b"init") else {

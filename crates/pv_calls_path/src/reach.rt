@@ -1,14 +1,12 @@
 //! Walks to places, and the unveil check at their end.
-ghost use Rattle.std.specs.Prelude.{◌≡◌, ◌≤◌, if◌then◌else◌, IfOk, IfErr, IsSome, IsTrue, Some};
-ghost use Rattle.pv_laws_states.specs.States.{IsValid, IsFinePlace, is_text};
-ghost use Rattle.pv_model.specs.Attempt.{done};
+ghost use Rattle.std.specs.Prelude.{◌≡◌, if◌then◌else◌, IfOk, IfErr, IsTrue};
+ghost use Rattle.pv_laws_states.specs.States.{IsValid, is_text};
 ghost use Rattle.pv_model.specs.Calls.Paths.{ends_in_dot};
 ghost use Rattle.pv_model.specs.CallRef.{walk_of};
-ghost use Rattle.pv_model.specs.Effect.{node_of, walk_from};
-ghost use Rattle.pv_model.specs.State.{Process, process_at};
-ghost use Rattle.pv_model.specs.Tree.{find_entry, is_directory_at, node_at};
+ghost use Rattle.pv_model.specs.Tree.{find_entry, is_directory_at};
 ghost use Rattle.pv_model.specs.Walk.{begins_walk};
-ghost use Rattle.pv_calls_path.specs.Reached.{IsFound, IsLost, IsMissed, IsMissedByBoth, IsReached, IsStopped, IsStoppedSecond};
+ghost use Rattle.pv_calls_path.specs.Caller.{IsCaller};
+ghost use Rattle.pv_calls_path.specs.Reached.{Finds, Leads, LeadsNowhere, Misses, MissesOne, Reaches, ReachesFrom, ReachesNode, Stops, StopsFrom, StopsSecond};
 
 use crate::links::LinkRoom;
 use pv_calls_plain::answer::{Refused, refusal};
@@ -58,10 +56,8 @@ pub(crate) fn walk_to<'a, L: Lookup>(
     requires start { IsTrue (is_directory_at parts.now.tree start) }
     requires text { IsTrue (is_text path.now) }
     requires agrees { L.agrees lookup.old (find_entry parts.now.tree) }
-    ensures walked { IfOk result (λ place. walk_from parts.now start follow path.now ≡ done 1 place) }
-    ensures lost { IfErr result (IsLost parts.now start follow path.now) }
-    ensures fine { IfOk result (IsFinePlace parts.now.tree) }
-    ensures few { IfErr result (λ r. r.walks ≤ 1) }
+    ensures leads { IfOk result (Leads parts.now start follow path.now) }
+    ensures nowhere { IfErr result (LeadsNowhere parts.now start follow path.now) }
     ensures agrees { L.agrees lookup.new (find_entry parts.now.tree) }
 {
     match resolve_ref(parts.tree(), lookup, start, path, follow, links) {
@@ -86,15 +82,11 @@ pub(crate) fn reach_from<'a, L: Lookup>(
     walk: Walk<'a>,
     links: &'a mut Option<Place>,
 ) -> Result<PlaceRef<'a>, Refused>
-    requires whole { IsValid parts.now }
-    requires live { IsSome (process_at parts.now pid) }
+    requires caller { IsCaller (L.agrees lookup.old) parts.now pid }
     requires start { IsTrue (is_directory_at parts.now.tree start) }
     requires text { IsTrue (is_text walk.path.now) }
-    requires agrees { L.agrees lookup.old (find_entry parts.now.tree) }
-    ensures reached { IfOk result (λ place. (me : Process) → process_at parts.now pid ≡ Some me → IsReached parts.now me start (walk_of walk.entry) place) }
-    ensures stopped { IfErr result (λ r. (me : Process) → process_at parts.now pid ≡ Some me → IsStopped parts.now me start (walk_of walk.entry) r) }
-    ensures fine { IfOk result (IsFinePlace parts.now.tree) }
-    ensures few { IfErr result (λ r. r.walks ≤ 1) }
+    ensures reaches { IfOk result (ReachesFrom parts.now pid (λ _. start) (walk_of walk.entry)) }
+    ensures stops { IfErr result (StopsFrom parts.now pid (λ _. start) (walk_of walk.entry)) }
     ensures agrees { L.agrees lookup.new (find_entry parts.now.tree) }
 {
     let place = walk_to(
@@ -129,14 +121,10 @@ pub(crate) fn reach<'a, L: Lookup>(
     walk: Walk<'a>,
     links: &'a mut Option<Place>,
 ) -> Result<PlaceRef<'a>, Refused>
-    requires whole { IsValid parts.now }
-    requires live { IsSome (process_at parts.now pid) }
+    requires caller { IsCaller (L.agrees lookup.old) parts.now pid }
     requires text { IsTrue (is_text walk.path.now) }
-    requires agrees { L.agrees lookup.old (find_entry parts.now.tree) }
-    ensures reached { IfOk result (λ place. (me : Process) → process_at parts.now pid ≡ Some me → IsReached parts.now me me.directory (walk_of walk.entry) place) }
-    ensures stopped { IfErr result (λ r. (me : Process) → process_at parts.now pid ≡ Some me → IsStopped parts.now me me.directory (walk_of walk.entry) r) }
-    ensures fine { IfOk result (IsFinePlace parts.now.tree) }
-    ensures few { IfErr result (λ r. r.walks ≤ 1) }
+    ensures reaches { IfOk result (Reaches parts.now pid (walk_of walk.entry)) }
+    ensures stops { IfErr result (Stops parts.now pid (walk_of walk.entry)) }
     ensures agrees { L.agrees lookup.new (find_entry parts.now.tree) }
 {
     let start = parts.record(pid).directory;
@@ -151,13 +139,10 @@ fn reach_second<'a, L: Lookup>(
     walk: Walk<'a>,
     links: &'a mut Option<Place>,
 ) -> Result<PlaceRef<'a>, Refused>
-    requires whole { IsValid parts.now }
-    requires live { IsSome (process_at parts.now pid) }
+    requires caller { IsCaller (L.agrees lookup.old) parts.now pid }
     requires text { IsTrue (is_text walk.path.now) }
-    requires agrees { L.agrees lookup.old (find_entry parts.now.tree) }
-    ensures reached { IfOk result (λ place. (me : Process) → process_at parts.now pid ≡ Some me → IsReached parts.now me me.directory (walk_of walk.entry) place) }
-    ensures stopped { IfErr result (λ r. (me : Process) → process_at parts.now pid ≡ Some me → IsStoppedSecond parts.now me me.directory (walk_of walk.entry) r) }
-    ensures fine { IfOk result (IsFinePlace parts.now.tree) }
+    ensures reaches { IfOk result (Reaches parts.now pid (walk_of walk.entry)) }
+    ensures stops { IfErr result (StopsSecond parts.now pid (walk_of walk.entry)) }
     ensures agrees { L.agrees lookup.new (find_entry parts.now.tree) }
 {
     match reach(parts, lookup, pid, walk, links) {
@@ -188,14 +173,11 @@ pub(crate) fn reach_found<'a, L: Lookup>(
     walk: Walk<'a>,
     links: &'a mut Option<Place>,
 ) -> Result<FoundNode<'a>, Refused>
-    requires whole { IsValid parts.now }
-    requires live { IsSome (process_at parts.now pid) }
+    requires caller { IsCaller (L.agrees lookup.old) parts.now pid }
     requires text { IsTrue (is_text walk.path.now) }
-    requires agrees { L.agrees lookup.old (find_entry parts.now.tree) }
-    ensures reached { IfOk result (λ f. (me : Process) → process_at parts.now pid ≡ Some me → IsReached parts.now me me.directory (walk_of walk.entry) f.place) }
-    ensures there { IfOk result (λ f. node_of f.place ≡ Some f.node) }
-    ensures missed { IfErr result (λ r. (me : Process) → process_at parts.now pid ≡ Some me → IsMissed parts.now me me.directory (walk_of walk.entry) r) }
-    ensures fine { IfOk result (λ f. IsFinePlace parts.now.tree f.place) }
+    ensures reaches { IfOk result
+        (λ f. ReachesNode parts.now pid (walk_of walk.entry) f.place f.node) }
+    ensures missed { IfErr result (Misses parts.now pid (walk_of walk.entry)) }
     ensures agrees { L.agrees lookup.new (find_entry parts.now.tree) }
 {
     let place = reach(parts, lookup, pid, walk, links)?;
@@ -213,13 +195,10 @@ pub(crate) fn reach_node<L: Lookup>(
     walk: Walk<'_>,
     links: &mut Option<Place>,
 ) -> Result<u16, Refused>
-    requires whole { IsValid parts.now }
-    requires live { IsSome (process_at parts.now pid) }
+    requires caller { IsCaller (L.agrees lookup.old) parts.now pid }
     requires text { IsTrue (is_text walk.path.now) }
-    requires agrees { L.agrees lookup.old (find_entry parts.now.tree) }
-    ensures found { IfOk result (λ n. (me : Process) → process_at parts.now pid ≡ Some me → IsFound parts.now me me.directory (walk_of walk.entry) n) }
-    ensures missed { IfErr result (λ r. (me : Process) → process_at parts.now pid ≡ Some me → IsMissed parts.now me me.directory (walk_of walk.entry) r) }
-    ensures there { IfOk result (λ n. IsSome (node_at parts.now.tree n)) }
+    ensures finds { IfOk result (Finds parts.now pid (walk_of walk.entry)) }
+    ensures missed { IfErr result (Misses parts.now pid (walk_of walk.entry)) }
     ensures agrees { L.agrees lookup.new (find_entry parts.now.tree) }
 {
     let found = reach_found(parts, lookup, pid, walk, links)?;
@@ -248,18 +227,14 @@ pub(crate) fn reach_both<'a, L: Lookup>(
     second: Walk<'a>,
     links: &'a mut LinkRoom,
 ) -> Result<Both<'a>, Refused>
-    requires whole { IsValid parts.now }
-    requires live { IsSome (process_at parts.now pid) }
+    requires caller { IsCaller (L.agrees lookup.old) parts.now pid }
     requires text { IsTrue (is_text first.path.now) }
     requires other { IsTrue (is_text second.path.now) }
-    requires agrees { L.agrees lookup.old (find_entry parts.now.tree) }
-    ensures first { IfOk result (λ b. (me : Process) → process_at parts.now pid ≡ Some me → IsReached parts.now me me.directory (walk_of first.entry) b.first) }
-    ensures second { IfOk result (λ b. (me : Process) → process_at parts.now pid ≡ Some me → IsReached parts.now me me.directory (walk_of second.entry) b.second) }
-    ensures there { IfOk result (λ b. node_of b.first ≡ Some b.node) }
-    ensures missed { IfErr result (λ r. (me : Process) → process_at parts.now pid ≡ Some me
-        → IsMissedByBoth parts.now me (walk_of first.entry) (walk_of second.entry) r) }
-    ensures fine { IfOk result (λ b. IsFinePlace parts.now.tree b.first) }
-    ensures second_fine { IfOk result (λ b. IsFinePlace parts.now.tree b.second) }
+    ensures first { IfOk result
+        (λ b. ReachesNode parts.now pid (walk_of first.entry) b.first b.node) }
+    ensures second { IfOk result (λ b. Reaches parts.now pid (walk_of second.entry) b.second) }
+    ensures missed { IfErr result
+        (MissesOne parts.now pid (walk_of first.entry) (walk_of second.entry)) }
     ensures agrees { L.agrees lookup.new (find_entry parts.now.tree) }
 {
     let place = reach(parts, lookup, pid, first, &mut links.first)?;

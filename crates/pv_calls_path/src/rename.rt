@@ -1,12 +1,12 @@
 //! Renaming: rename(2).
-ghost use Rattle.std.specs.Prelude.{◌≡◌, IsSome, IsTrue, MatchResult, Some};
-ghost use Rattle.pv_laws_states.specs.States.{IsValid, is_text};
+ghost use Rattle.std.specs.Prelude.{◌≡◌, IsTrue, MatchResult, Some};
+ghost use Rattle.pv_laws_states.specs.States.{is_text};
 ghost use Rattle.pv_model.specs.declared.outcome.Cause.TheVariants.{Plain};
 ghost use Rattle.pv_model.specs.Attempt.{give, refused};
 ghost use Rattle.pv_model.specs.Calls.Paths.{entries_there, is_directory_there, rename, same_node};
-ghost use Rattle.pv_model.specs.State.{process_at};
 ghost use Rattle.pv_model.specs.Tree.{find_entry, is_directory_at};
 ghost use Rattle.pv_model.specs.Bytes.{is_empty};
+ghost use Rattle.pv_calls_path.specs.Caller.{IsCaller};
 ghost use Rattle.pv_calls_path.specs.Moving.{check_move};
 ghost use Rattle.pv_calls_plain.specs.Performed.{IsPerformed};
 
@@ -52,7 +52,8 @@ fn is_empty_there(tree: &Tree, there: Option<u16>) -> bool
 // and `ENOTEMPTY` if the replaced node has entries.
 fn check_move(tree: &Tree, node: u16, directory: u16, there: Option<u16>) -> Result<(), Errno>
     requires { IsTrue (is_directory_at tree.now.tree directory) }
-    ensures { MatchResult result (λ _. check_move tree.now.tree node directory there ≡ give tt) (λ e. check_move tree.now.tree node directory there ≡ refused 0 e Plain) }
+    ensures { MatchResult result (λ _. check_move tree.now.tree node directory there ≡ give tt)
+        (λ e. check_move tree.now.tree node directory there ≡ refused 0 e Plain) }
 {
     let directory_moves = tree.is_directory(node);
     let directory_is_there = is_directory_there(tree, there);
@@ -93,12 +94,11 @@ pub fn rename<L: Lookup + Drop>(
     path: &Text,
     new: &Text,
 ) -> Result<Done, Refused>
-    requires whole { IsValid system.old.parts }
-    requires live { IsSome (process_at system.old.parts pid) }
+    requires caller { IsCaller (L.agrees system.old.lookup) system.old.parts pid }
     requires text { IsTrue (is_text path.now) }
     requires other { IsTrue (is_text new.now) }
-    requires agrees { L.agrees system.old.lookup (find_entry system.old.parts.tree) }
-    ensures performed { IsPerformed (λ s me. rename s pid me path.now new.now) system.old.parts pid system.new.parts result }
+    ensures performed { IsPerformed (λ s me. rename s pid me path.now new.now)
+        system.old.parts pid system.new.parts result }
     ensures agrees { L.agrees system.new.lookup (find_entry system.new.parts.tree) }
 {
     let System {

@@ -1,13 +1,13 @@
 //! Unveiling of paths: unveil(2).
-ghost use Rattle.std.specs.Prelude.{◌≡◌, IsSome, IsTrue, Some, option_copied};
-ghost use Rattle.pv_laws_states.specs.States.{IsValid, is_text, is_text_or_none};
+ghost use Rattle.std.specs.Prelude.{◌≡◌, IsTrue, Some, option_copied};
+ghost use Rattle.pv_laws_states.specs.States.{is_text, is_text_or_none};
 ghost use Rattle.pv_model.specs.Attempt.{refused};
 ghost use Rattle.pv_model.specs.Calls.Restraints.{unveil};
-ghost use Rattle.pv_model.specs.State.{process_at};
 ghost use Rattle.pv_model.specs.Tree.{find_entry};
 ghost use Rattle.pv_model.specs.Unveil.{target_of};
 ghost use Rattle.pv_calls_plain.specs.Performed.{IsPerformed};
 ghost use Rattle.pv_unveil.specs.Added.{refusal as refusal_of};
+ghost use Rattle.pv_calls_path.specs.Caller.{IsCaller};
 
 use crate::reach::walk_to;
 use crate::system::System;
@@ -57,11 +57,10 @@ fn unveil_path<L: Lookup + Drop>(
     path: &[u8],
     permissions: &[u8],
 ) -> Result<Done, Refused>
-    requires whole { IsValid system.old.parts }
-    requires live { IsSome (process_at system.old.parts pid) }
+    requires caller { IsCaller (L.agrees system.old.lookup) system.old.parts pid }
     requires text { IsTrue (is_text path.now) }
-    requires agrees { L.agrees system.old.lookup (find_entry system.old.parts.tree) }
-    ensures performed { IsPerformed (λ s me. unveil s pid me (Some path.now) (Some permissions.now)) system.old.parts pid system.new.parts result }
+    ensures performed { IsPerformed (λ s me. unveil s pid me (Some path.now) (Some permissions.now))
+        system.old.parts pid system.new.parts result }
     ensures agrees { L.agrees system.new.lookup (find_entry system.new.parts.tree) }
 {
     let System {
@@ -107,11 +106,11 @@ pub fn unveil<L: Lookup + Drop>(
     path: Option<&Text>,
     permissions: Option<&Text>,
 ) -> Result<Done, Refused>
-    requires whole { IsValid system.old.parts }
-    requires live { IsSome (process_at system.old.parts pid) }
+    requires caller { IsCaller (L.agrees system.old.lookup) system.old.parts pid }
     requires text { IsTrue (is_text_or_none (option_copied path)) }
-    requires agrees { L.agrees system.old.lookup (find_entry system.old.parts.tree) }
-    ensures performed { IsPerformed (λ s me. unveil s pid me (option_copied path.entry) (option_copied permissions.entry)) system.old.parts pid system.new.parts result }
+    ensures performed { IsPerformed
+        (λ s me. unveil s pid me (option_copied path.entry) (option_copied permissions.entry))
+        system.old.parts pid system.new.parts result }
     ensures agrees { L.agrees system.new.lookup (find_entry system.new.parts.tree) }
 {
     match (path, permissions) {

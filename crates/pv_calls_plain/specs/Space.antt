@@ -1,5 +1,5 @@
 -- The error for a lack of space, and a write that can lack space.
-use Rattle.std.specs.Prelude.{ℕ}
+use Rattle.std.specs.Prelude.{◌≡◌, ℕ, Some, Result}
 use Rattle.pv_inodes.specs.declared.space.Space.{Space}
 use Rattle.pv_inodes.specs.declared.space.Space.TheVariants.{Full, TooBig}
 use Rattle.pv_model.specs.declared.errno.Errno.{Errno}
@@ -7,7 +7,12 @@ use Rattle.pv_model.specs.declared.errno.Errno.TheVariants.{EFBIG, ENOSPC}
 use Rattle.pv_model.specs.Attempt.{Attempt, ◌>>=◌, ◌>>◌, refuse_if}
 use Rattle.pv_model.specs.Calls.Descriptors.{is_past_greatest, write_end, after_write}
 use Rattle.pv_model.specs.Effect.{Effect, answers, with_room}
-use Rattle.pv_model.specs.State.{OpenFile, Process, State}
+use Rattle.pv_model.specs.Numbered.{at_number}
+use Rattle.pv_model.specs.State.{OpenFile, Process, State, process_at}
+use Rattle.pv_calls_state.specs.Attempts.{collected}
+use Rattle.pv_calls_plain.specs.declared.answer.Done.{Done}
+use Rattle.pv_calls_plain.specs.declared.answer.Refused.{Refused}
+use Rattle.pv_calls_plain.specs.Performed.{attempt_of}
 
 -- the error for a lack of space
 abbrev pub space_errno : Space → Errno
@@ -20,3 +25,9 @@ write_some s pid me k file count = do
   refuse_if EFBIG (is_past_greatest s.tree (write_end s pid me file count))
   roomy ← with_room (after_write s pid me k file count)
   answers roomy count
+
+-- such a write of a live process through an open file has this result and leaves this state
+abbrev pub Writes : State → ℕ → ℕ → ℕ → State → Result Done Refused → Type 0
+Writes old pid k count new result =
+    (me : Process) (file : OpenFile) → process_at old pid ≡ Some me → at_number old.files k ≡ Some file
+    → collected (write_some old pid me k file count) ≡ attempt_of new result

@@ -80,7 +80,8 @@ pub fn space_errno(why: Space) -> Errno
 pub fn report(parts: &mut Parts, pid: u32, performed: Result<Done, Refused>) -> Answer
     requires live { IsSome (process_at parts.old pid) }
     requires small { IfOk performed (λ d. d.value ≤ NUMBER) }
-    ensures reported { (before s : State) (me : Process) (a : Attempt Effect) → collected a ≡ attempt_of parts.old performed → OnErr performed (parts.old ≡ s)
+    ensures reported { (before s : State) (me : Process) (a : Attempt Effect)
+        → collected a ≡ attempt_of parts.old performed → OnErr performed (parts.old ≡ s)
         → answer_by_attempt before s pid me a ≡ answered parts.new result }
     ensures tree { parts.new.tree ≡ parts.old.tree }
 {
@@ -115,7 +116,9 @@ pub fn report_bytes(parts: &mut Parts, pid: u32, reported: Done, bytes: &[u8]) -
     requires small { reported.value ≤ NUMBER }
     requires size { length bytes.now ≤ BUFFER }
     ensures { (before s after : State) (me : Process) → collect after ≡ parts.old
-        → answer_by_attempt before s pid me (done_attempt reported.walks (after, returns_bytes reported.value bytes.now)) ≡ answered parts.new result }
+        → answer_by_attempt before s pid me
+        (done_attempt reported.walks (after, returns_bytes reported.value bytes.now))
+        ≡ answered parts.new result }
 {
     parts.invariant();
     parts.put_front(pid, bytes);
@@ -128,8 +131,11 @@ pub fn report_front(parts: &mut Parts, pid: u32, reported: Done, len: usize) -> 
     requires live { IsSome (process_at parts.old pid) }
     requires small { reported.value ≤ NUMBER }
     requires size { len ≤ BUFFER }
-    ensures { (before s after : State) (me : Process) (bytes : Bytes) → len ≡ length bytes → collect (update after pid (with_front bytes)) ≡ parts.old
-        → answer_by_attempt before s pid me (done_attempt reported.walks (after, returns_bytes reported.value bytes)) ≡ answered parts.new result }
+    ensures { (before s after : State) (me : Process) (bytes : Bytes) → len ≡ length bytes
+        → collect (update after pid (with_front bytes)) ≡ parts.old
+        → answer_by_attempt before s pid me
+        (done_attempt reported.walks (after, returns_bytes reported.value bytes))
+        ≡ answered parts.new result }
 {
     parts.invariant();
     parts.report(pid, reported.value as i32, 0);

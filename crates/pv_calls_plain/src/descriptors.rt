@@ -17,7 +17,8 @@ pub fn open_file(parts: &Parts, pid: u32, d: i32) -> Option<usize>
     requires whole { IsValid parts.now }
     requires live { IsSome (process_at parts.now pid) }
     ensures opened { IfSome result (λ k. IsSome (at_number parts.now.files k)) }
-    ensures file { (me : Process) → process_at parts.now pid ≡ Some me → MatchOption result (open_file parts.now me d ≡ None) (λ k. IsOn parts.now me d k) }
+    ensures file { (me : Process) → process_at parts.now pid ≡ Some me
+        → MatchOption result (open_file parts.now me d ≡ None) (λ k. IsOn parts.now me d k) }
 {
     parts.record(pid).descriptors.at(d).ok()
 }

@@ -1,16 +1,16 @@
 //! Calls on open files: read(2), write(2), lseek(2), fstat(2), ftruncate(2), getdents(2).
-ghost use Rattle.std.specs.Prelude.{ℕ, pos, ◌≡◌, ◌≤◌, ◌<◌, ◌+ℤ◌, false, length, IfOk, IsSome, IsTrue, MatchResult, OnErr, Some};
+ghost use Rattle.std.specs.Prelude.{ℕ, pos, ◌≡◌, ◌≤◌, ◌<◌, ◌+ℤ◌, length, IfOk, IsSome, IsTrue, MatchResult, OnErr, Some};
 ghost use Rattle.pv_laws_states.specs.States.{IsValid};
 ghost use Rattle.pv_model.specs.declared.outcome.Cause.TheVariants.{Plain};
 ghost use Rattle.pv_model.specs.Attempt.{refused};
 ghost use Rattle.pv_model.specs.Calls.Descriptors.{fstat, ftruncate, getdents, is_past_greatest, lseek, next_name, read, seek_base, within, write, write_place};
 ghost use Rattle.pv_model.specs.Numbered.{at_number};
-ghost use Rattle.pv_model.specs.Sealed.{is_file};
 ghost use Rattle.pv_model.specs.State.{OpenFile, Process, process_at, reads, writes};
-ghost use Rattle.pv_model.specs.Tree.{entries_at, is_directory_at, node_at};
-ghost use Rattle.pv_calls_state.specs.Attempts.{collected};
-ghost use Rattle.pv_calls_plain.specs.Space.{write_some};
-ghost use Rattle.pv_calls_plain.specs.Performed.{GivesFront, IsAnswered, IsPerformed, attempt_of};
+ghost use Rattle.pv_model.specs.Tree.{entries_at, is_directory_at};
+ghost use Rattle.pv_calls_state.specs.Writing.{IsOnFile};
+ghost use Rattle.pv_calls_plain.specs.Seeking.{IsSeekable};
+ghost use Rattle.pv_calls_plain.specs.Space.{Writes};
+ghost use Rattle.pv_calls_plain.specs.Performed.{GivesFront, IsAnswered, IsPerformed};
 
 use crate::answer::{
     Answer, Done, Refused, answer_of, refusal, report, report_bytes, report_front, space_errno,
@@ -119,9 +119,9 @@ pub fn read(parts: &mut Parts, pid: u32, d: i32, n: i32) -> Answer
 // Returns the offset at which a write begins: the end of the file if it is open for appending.
 fn write_place(parts: &Parts, file: usize) -> u32
     requires whole { IsValid parts.now }
-    requires opened { IsSome (at_number parts.now.files file) }
-    requires plain { (f : OpenFile) → at_number parts.now.files file ≡ Some f → is_directory_at parts.now.tree f.node ≡ false }
-    ensures place { (pid : ℕ) (me : Process) (f : OpenFile) → at_number parts.now.files file ≡ Some f → result ≡ write_place parts.now pid me f }
+    requires seekable { IsSeekable parts.now file }
+    ensures place { (pid : ℕ) (me : Process) (f : OpenFile)
+        → at_number parts.now.files file ≡ Some f → result ≡ write_place parts.now pid me f }
     ensures low { result ≤ OFFSET }
 {
     if parts.files().appends(file) {
@@ -169,10 +169,8 @@ fn write_bytes(parts: &mut Parts, pid: u32, file: usize, count: usize) -> Result
     requires live { IsSome (process_at parts.old pid) }
     requires some { 0 < count }
     requires few { count ≤ BUFFER }
-    requires there { IsSome (at_number parts.old.files file) }
-    requires plain { (f : OpenFile) → at_number parts.old.files file ≡ Some f → IsTrue (is_file (node_at parts.old.tree f.node)) }
-    ensures performed { (me : Process) (f : OpenFile) → process_at parts.old pid ≡ Some me → at_number parts.old.files file ≡ Some f
-        → collected (write_some parts.old pid me file f count) ≡ attempt_of parts.new result }
+    requires on_file { IsOnFile parts.old file }
+    ensures performed { Writes parts.old pid file count parts.new result }
     ensures unchanged { OnErr result (parts.new ≡ parts.old) }
     ensures small { IfOk result (λ d. d.value ≤ BUFFER) }
 {
@@ -192,9 +190,9 @@ fn write_bytes(parts: &mut Parts, pid: u32, file: usize, count: usize) -> Result
 // Returns the base from which lseek(2) counts.
 fn seek_base(parts: &Parts, file: usize, whence: Whence) -> u32
     requires whole { IsValid parts.now }
-    requires opened { IsSome (at_number parts.now.files file) }
-    requires plain { (f : OpenFile) → at_number parts.now.files file ≡ Some f → is_directory_at parts.now.tree f.node ≡ false }
-    ensures { (pid : ℕ) (me : Process) (f : OpenFile) → at_number parts.now.files file ≡ Some f → result ≡ seek_base parts.now pid me f whence }
+    requires seekable { IsSeekable parts.now file }
+    ensures { (pid : ℕ) (me : Process) (f : OpenFile) → at_number parts.now.files file ≡ Some f
+        → result ≡ seek_base parts.now pid me f whence }
 {
     match whence {
         Whence::Set => 0,
@@ -215,7 +213,8 @@ fn seek_base(parts: &Parts, file: usize, whence: Whence) -> u32
 pub fn lseek(parts: &mut Parts, pid: u32, d: i32, by: i32, whence: Whence) -> Result<Done, Refused>
     requires whole { IsValid parts.old }
     requires live { IsSome (process_at parts.old pid) }
-    ensures performed { IsPerformed (λ s me. lseek s pid me d by whence) parts.old pid parts.new result }
+    ensures performed { IsPerformed (λ s me. lseek s pid me d by whence)
+        parts.old pid parts.new result }
 {
     let Some(file) = open_file(parts, pid, d) else {
         return Err(refusal(0, Errno::EBADF));
@@ -264,7 +263,8 @@ pub fn fstat(parts: &mut Parts, pid: u32, d: i32) -> Answer
 pub fn ftruncate(parts: &mut Parts, pid: u32, d: i32, n: i32) -> Result<Done, Refused>
     requires whole { IsValid parts.old }
     requires live { IsSome (process_at parts.old pid) }
-    ensures performed { IsPerformed (λ s me. ftruncate s pid me d n) parts.old pid parts.new result }
+    ensures performed { IsPerformed (λ s me. ftruncate s pid me d n)
+        parts.old pid parts.new result }
 {
     let Some(file) = open_file(parts, pid, d) else {
         return Err(refusal(0, Errno::EBADF));
@@ -325,7 +325,8 @@ pub fn getdents(parts: &mut Parts, pid: u32, d: i32) -> Answer
 fn next_name(parts: &Parts, file: usize, directory: u16) -> Option<Name>
     requires opened { IsSome (at_number parts.now.files file) }
     requires directory { IsTrue (is_directory_at parts.now.tree directory) }
-    ensures { (f : OpenFile) → at_number parts.now.files file ≡ Some f → result ≡ next_name f.listed (entries_at parts.now.tree directory) }
+    ensures { (f : OpenFile) → at_number parts.now.files file ≡ Some f
+        → result ≡ next_name f.listed (entries_at parts.now.tree directory) }
 {
     match parts.files().last_name(file) {
         Some(last) => parts.tree().next_after(directory, Some(last.as_slice())),

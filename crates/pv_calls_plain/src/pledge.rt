@@ -15,7 +15,9 @@ use pv_promises::read_promises;
 
 // Parses the promises that a text asks for, if there is a text.
 fn asked(text: Option<&Text>) -> Result<Option<Promises>, Errno>
-    ensures { MatchResult result (λ set. asked_promises (option_copied text.entry) ≡ give (bits_of set)) (λ e. asked_promises (option_copied text.entry) ≡ refused 0 e Plain) }
+    ensures { MatchResult result
+        (λ set. asked_promises (option_copied text.entry) ≡ give (bits_of set))
+        (λ e. asked_promises (option_copied text.entry) ≡ refused 0 e Plain) }
 {
     match text {
         None => Ok(None),
@@ -40,7 +42,9 @@ pub fn pledge(
 ) -> Result<Done, Refused>
     requires whole { IsValid parts.old }
     requires live { IsSome (process_at parts.old pid) }
-    ensures performed { IsPerformed (λ s me. pledge s pid me (option_copied promises.entry) (option_copied execpromises.entry)) parts.old pid parts.new result }
+    ensures performed { IsPerformed
+        (λ s me. pledge s pid me (option_copied promises.entry) (option_copied execpromises.entry))
+        parts.old pid parts.new result }
 {
     let asked_now = match asked(promises) {
         Ok(set) => set,

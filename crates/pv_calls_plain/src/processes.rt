@@ -69,7 +69,8 @@ pub fn fork(parts: &mut Parts, pid: u32) -> Result<Done, Refused>
 /// Returns whether wait(2) would block a live process: it has children, and all of them are live.
 pub fn would_wait(parts: &Parts, pid: u32) -> bool
     requires live { IsSome (process_at parts.now pid) }
-    ensures { (me : Process) → process_at parts.now pid ≡ Some me → IsTrue result ↔ (wait parts.now pid me ≡ give (parts.now, waits)) }
+    ensures { (me : Process) → process_at parts.now pid ≡ Some me
+        → IsTrue result ↔ (wait parts.now pid me ≡ give (parts.now, waits)) }
 {
     parts.processes().waits(pid)
 }
@@ -82,7 +83,8 @@ pub fn would_wait(parts: &Parts, pid: u32) -> bool
 pub fn wait(parts: &mut Parts, pid: u32) -> Answer
     requires whole { IsValid parts.old }
     requires live { IsSome (process_at parts.old pid) }
-    requires continues { (me : Process) → process_at parts.old pid ≡ Some me → wait parts.old pid me ≢ give (parts.old, waits) }
+    requires continues { (me : Process) → process_at parts.old pid ≡ Some me
+        → wait parts.old pid me ≢ give (parts.old, waits) }
     ensures performed { IsAnswered (λ s me. wait s pid me) parts.old pid parts.new result }
 {
     match parts.reap(pid) {

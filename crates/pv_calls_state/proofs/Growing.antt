@@ -1,7 +1,9 @@
 -- Changes of the tree under unchanged references.
-use Rattle.std.proofs.Common.{◌≡◌, ◌≢◌, ℕ, ◌+◌, ◌<◌, ◌≤◌, true, false, ◌==◌, List, [], length, drop, Option, None, Some, is_some, refl, ap, sym, subst, ◌∙◌, inl, inr, ◌⊎◌, ⊎_elim, arith}
+use Rattle.std.proofs.Common.{◌≡◌, ◌≢◌, ℕ, ◌+◌, ◌<◌, ◌≤◌, true, false, ◌==◌, List, [], length, drop, Option, None, Some, is_some, refl, ap, sym, subst, ◌∙◌, inl, inr, ◌⊎◌, ⊎_elim, arith, Result, Ok, Err}
 use Rattle.std.specs.FinMap.Entries.{find}
 use Rattle.std.proofs.lemmas.Bool.{cases_eq, or_cases, or_left}
+use Rattle.std.proofs.lemmas.Result.{on_ok_weaker, on_err_weaker, IfErr-weaker}
+use Rattle.pv_calls_state.specs.Changes.{ChangesTree}
 use Rattle.pv_calls_state.specs.Counts.{state_of, IsCountedUp}
 use Rattle.pv_files.specs.Counted.{Counted, IsCounted}
 use Rattle.pv_inodes.specs.declared.space.Space.{Space}
@@ -14,7 +16,7 @@ use Rattle.pv_model.specs.Tree.{Node, directory_node, file_node, link_node, Tree
 use Rattle.pv_procs.specs.ProcessTable.{ProcessTable}
 use Rattle.pv_tree.specs.Holding.{HeldTree, held_numbers, collected, after, with_tree as with_held}
 use Rattle.pv_tree.specs.Changes.{new_node}
-use Rattle.pv_tree.specs.Rooms.{refusal}
+use Rattle.pv_tree.specs.Rooms.{refusal, HeldTreeChanges}
 use Rattle.pv_tree.specs.Present.{IsPresent}
 use Rattle.pv_laws_trees.specs.Preserved.{wanted, preserved}
 use Rattle.pv_laws_trees.proofs.Changes.{node_at-same, node_at-other}
@@ -143,19 +145,32 @@ module _ (h : HeldTree) (c : Counted) (ps : ProcessTable) (s : State) (view : st
     pub after-changed : (new : HeldTree) → new ≡ after h (change h.tree) → state_of new c ps ≡ collect (with_tree s (change s.tree))
     after-changed new same = ap (λ x. state_of x c ps) same ∙ ap (λ t. state_of (after h (change t)) c ps) same-tree ∙ sym (collect-after (change s.tree))
 
-    pub after-refused : (why : Space) → refusal (collected (change h.tree) h.holds) ≡ Some why → refusal (collect (with_tree s (change s.tree))).tree ≡ Some why
-    after-refused why no_room = ap (λ x. refusal x.tree) (collect-after (change s.tree)) ∙ ap (λ t. refusal (collected (change t) h.holds)) (sym same-tree) ∙ no_room
+    after-refusal : refusal (collect (with_tree s (change s.tree))).tree ≡ refusal (collected (change h.tree) h.holds)
+    after-refusal = ap (λ x. refusal x.tree) (collect-after (change s.tree)) ∙ ap (λ t. refusal (collected (change t) h.holds)) (sym same-tree)
+
+    -- the outcome of a change of the tree after which nodes are collected
+    pub after-outcome : {A : Type 0} (r : Result A Space) (new : HeldTree) → HeldTreeChanges r h new (after h (change h.tree)) → ChangesTree r s (state_of new c ps) (change s.tree)
+    after-outcome r new o = record {
+      ok = on_ok_weaker r (after-changed new) o.ok;
+      err = on_err_weaker r (λ same. ap (λ x. state_of x c ps) same ∙ view) o.err;
+      allowed = on_ok_weaker r (λ room. after-refusal ∙ room) o.allowed;
+      refused = IfErr-weaker r _ _ (λ why no_room. after-refusal ∙ no_room) o.refused;
+    }
 
     -- the same for a state from whose tree no node is collected
     module _ (preserved : collected (change s.tree) h.holds ≡ change s.tree) where
       preserved-before : collected (change h.tree) h.holds ≡ change h.tree
       preserved-before = subst (λ t. collected (change t) h.holds ≡ change t) (sym same-tree) preserved
 
-      pub grown-changed : (new : HeldTree) → new ≡ with_held h (change h.tree) → state_of new c ps ≡ collect (with_tree s (change s.tree))
-      grown-changed new same = after-changed new (same ∙ ap (with_held h) (sym preserved-before))
+      pub grown-outcome : {A : Type 0} (r : Result A Space) (new : HeldTree) → HeldTreeChanges r h new (with_held h (change h.tree)) → ChangesTree r s (state_of new c ps) (change s.tree)
+      grown-outcome r new o = after-outcome r new (subst (λ t. HeldTreeChanges r h new (with_held h t)) (sym preserved-before) o)
 
-      pub grown-refused : (why : Space) → refusal (change h.tree) ≡ Some why → refusal (collect (with_tree s (change s.tree))).tree ≡ Some why
-      grown-refused why no_room = after-refused why (ap refusal preserved-before ∙ no_room)
+      -- the same if the result has another value, or the error is passed on
+      pub grown-ok : {A B : Type 0} (a : A) (b : B) (new : HeldTree) → HeldTreeChanges {A = A} (Ok a) h new (with_held h (change h.tree)) → ChangesTree {A = B} (Ok b) s (state_of new c ps) (change s.tree)
+      grown-ok a b new o = let seen = grown-outcome (Ok a) new o in record { ok = seen.ok; err = tt; allowed = seen.allowed; refused = tt }
+
+      pub grown-err : {A B : Type 0} (why : Space) (new : HeldTree) → HeldTreeChanges {A = A} (Err why) h new (with_held h (change h.tree)) → ChangesTree {A = B} (Err why) s (state_of new c ps) (change s.tree)
+      grown-err why new o = let seen = grown-outcome (Err why) new o in record { ok = tt; err = seen.err; allowed = tt; refused = seen.refused }
 
 pub ordered-seen : (t : Tree) → IsWellFormed t → IsOrdered t
 ordered-seen t w = ordered t w.each_node

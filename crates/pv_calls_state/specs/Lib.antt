@@ -1,4 +1,6 @@
 pub mod Attempts
 pub mod Changes
 pub mod Counts
+pub mod Opening
 pub mod Releasing
+pub mod Writing

@@ -1,5 +1,6 @@
 -- A directory as slots.
-use Rattle.std.specs.Prelude.{ℕ, Option}
+use Rattle.std.specs.Prelude.{◌≡◌, ℕ, ◌-◌, ◌≤◌, Option, IfSome}
+use Rattle.std.specs.Borrow.{Bor}
 use Rattle.pv_model.specs.Bytes.{Bytes}
 use Rattle.pv_model.specs.Tree.{Entries}
 use Rattle.pv_inodes.specs.Files.{bytes_at}
@@ -52,6 +53,11 @@ AscendInTo d count name = AscendTo d.inodes.now.version (bytes_in d) count name
 -- slot k is the one after that of the last name, or slot 0 if there is no last name
 abbrev pub IsPast : Dir → Option Bytes → ℕ → Type 0
 IsPast d last k = IsSlotAfter last d.inodes.now.version (bytes_in d) k
+
+-- the name, if there is one, is that of the slot before slot k
+pub record IsNameBefore (d : Dir) (k : ℕ) (name : Option (Bor Bytes)) : Type 0 where
+  pub some : IfSome name (λ _. 1 ≤ k)
+  pub last : IfSome name (λ before. before.now ≡ name_in d (k - 1))
 
 -- an index leads to each entry in the first `count` slots; if it records that the names ascend, they do
 abbrev pub IsLedUpTo : Dir → Index → ℕ → Type 0

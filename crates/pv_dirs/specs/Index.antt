@@ -1,5 +1,5 @@
 -- The index of the entries of directories.
-use Rattle.std.specs.Prelude.{◌≡◌, ◌⊎◌, ℕ, ◌+◌, ◌-◌, ◌*◌, ◌%◌, ◌<◌, ◌≤◌, ◌&&◌, min, nat_lt, [], ◌∷◌, bit_and, slice_index_or, Bool, true, false, Option, None, Some}
+use Rattle.std.specs.Prelude.{◌≡◌, ◌≢◌, ◌⊎◌, ℕ, ◌+◌, ◌-◌, ◌*◌, ◌%◌, ◌<◌, ◌≤◌, ◌&&◌, min, nat_lt, [], ◌∷◌, bit_and, slice_index_or, Bool, true, false, Option, None, Some}
 use Rattle.std.specs.Cmp.Lexicographic.{slice_cmp}
 use Rattle.std.specs.Ordering.{nat_cmp}
 use Rattle.std.specs.declared.cmp.Ordering.TheVariants.{Less}
@@ -57,6 +57,12 @@ pub record AreLedUpTo (ix : Index) (v : Version) (d : ℕ) (bytes : Bytes) (coun
 -- the same for all slots of a directory with these bytes
 abbrev pub AreLed : Index → Version → ℕ → Bytes → Type 0
 AreLed ix v d bytes = AreLedUpTo ix v d bytes (slot_count v bytes)
+
+-- an index to which entries of directory d were added: it leads to each entry as before, and its record of the order of
+-- any other directory is unchanged
+pub record LeadsAsBefore (d : ℕ) (old new : Index) : Type 0 where
+  pub others : (e k : ℕ) (other : Bytes) → Leads old e other k → Leads new e other k
+  pub known : (e : ℕ) → e ≢ d → known new e ≡ known old e
 
 -- slot k is the one after that of the last name, or slot 0 if there is no last name
 abbrev pub IsSlotAfter : Option Bytes → Version → Bytes → ℕ → Type 0

@@ -1,12 +1,13 @@
 //! The directories of an image.
 ghost use Rattle.std.specs.Prelude.{◌≡◌, ◌+◌, ◌-◌, ◌*◌, ◌%◌, ◌<◌, ◌≤◌, ◌↔◌, suc, min, false, [], ◌++◌, length, take, drop, replicate, vec_len, All, IsTrue, None, Some, IsSome, IsNone, IfNone, IfSome, IfOk, OnOk, OnErr, option_map};
 ghost use Rattle.std.specs.Option.{option_copied};
-ghost use Rattle.pv_model.specs.declared.limits.TheConstants.{BLOCK, INODES};
+ghost use Rattle.pv_model.specs.declared.limits.TheConstants.{BLOCK};
 ghost use Rattle.pv_model.specs.Calls.Descriptors.{next_name};
 ghost use Rattle.pv_model.specs.Effect.{size_of};
 ghost use Rattle.pv_model.specs.Image.{inode_blocks, greatest_blocks};
 ghost use Rattle.pv_model.specs.Room.{greatest_length};
 ghost use Rattle.pv_model.specs.Tree.{node_at, entries_at, is_directory_at, find_entry, is_name, with_node, with_entry, without_entry, new_number};
+ghost use Rattle.pv_inodes.specs.Sizes.{AreImageSizes};
 ghost use Rattle.pv_dirs.specs.Listing.{IsNextName, IsNextNameOf};
 ghost use Rattle.pv_dirs.specs.Sizes.{HaveSameSizes};
 ghost use Rattle.pv_dirs.specs.Trees.{sort_of, new_node, bytes_at, written, cut, without_node, total_need, LacksRoom, grown_length};
@@ -63,12 +64,11 @@ impl Directories {
     ) -> Result<Directories, AllocError>
         requires whole { vec_len zeros ≡ BLOCK * blocks }
         requires zeros { All (λ byte. byte ≡ 0) zeros.items }
-        requires some_inodes { 1 ≤ inodes }
-        requires few_inodes { inodes ≤ INODES }
-        requires some_blocks { inode_blocks version inodes + 1 ≤ blocks }
-        requires few_blocks { blocks ≤ greatest_blocks version }
-        ensures nodes { IfOk result (λ directories. directories.nodes ≡ replicate (suc inodes) None) }
-        ensures blocks { IfOk result (λ directories. directories.blocks + inode_blocks version inodes + 1 ≡ blocks) }
+        requires sizes { AreImageSizes version blocks inodes }
+        ensures nodes { IfOk result
+            (λ directories. directories.nodes ≡ replicate (suc inodes) None) }
+        ensures blocks { IfOk result
+            (λ directories. directories.blocks + inode_blocks version inodes + 1 ≡ blocks) }
         ensures inodes { IfOk result (λ directories. directories.inodes ≡ inodes) }
         ensures version { IfOk result (λ directories. directories.version ≡ version) }
     {
@@ -104,7 +104,8 @@ impl Directories {
     /// version.
     pub fn blocks(&self) -> u16
         ensures value { result ≡ self.now.blocks }
-        ensures allowed { inode_blocks self.now.version self.now.inodes + 1 + result ≤ greatest_blocks self.now.version }
+        ensures allowed { inode_blocks self.now.version self.now.inodes + 1 + result
+            ≤ greatest_blocks self.now.version }
     {
         self.block_count
     }
@@ -181,8 +182,10 @@ impl Directories {
     /// no `last`. Returns `None` if no name follows.
     pub fn next_after(&self, directory: u16, last: Option<&[u8]>) -> Option<Name>
         requires { IsTrue (is_directory_at self.now directory) }
-        ensures value { result ≡ next_name (option_copied last.entry) (entries_at self.now directory) }
-        ensures least { IsNextName (option_copied last.entry) (entries_at self.now directory) result }
+        ensures value { result
+            ≡ next_name (option_copied last.entry) (entries_at self.now directory) }
+        ensures least { IsNextName (option_copied last.entry)
+            (entries_at self.now directory) result }
     {
         let dir = Dir {
             inodes: &self.inodes,
@@ -203,8 +206,10 @@ impl Directories {
         before: u32,
     ) -> Option<(Name, u16)>
         requires { IsTrue (is_directory_at self.now directory) }
-        ensures value { option_map (λ e. e.0) result ≡ next_name (option_copied last.entry) (entries_at self.now directory) }
-        ensures least { IsNextName (option_copied last.entry) (entries_at self.now directory) (option_map (λ e. e.0) result) }
+        ensures value { option_map (λ e. e.0) result
+            ≡ next_name (option_copied last.entry) (entries_at self.now directory) }
+        ensures least { IsNextName (option_copied last.entry)
+            (entries_at self.now directory) (option_map (λ e. e.0) result) }
         ensures node { IfSome result (λ e. find_entry self.now directory e.0 ≡ Some e.1) }
     {
         let dir = Dir {
@@ -251,8 +256,11 @@ impl Directories {
         requires absent { find_entry self.old directory name.now ≡ None }
         ensures ok { OnOk result (self.new ≡ with_entry self.old directory name.now inode) }
         ensures err { OnErr result (self.new ≡ self.old) }
-        ensures too_big { (result ≡ Err Space.TooBig) ↔ (greatest_length self.old.version < grown_length self.old directory) }
-        ensures full { (result ≡ Err Space.Full) ↔ ((grown_length self.old directory ≤ greatest_length self.old.version) × LacksRoom (with_entry self.old directory name.now inode)) }
+        ensures too_big { (result ≡ Err Space.TooBig)
+            ↔ (greatest_length self.old.version < grown_length self.old directory) }
+        ensures full { (result ≡ Err Space.Full)
+            ↔ ((grown_length self.old directory ≤ greatest_length self.old.version)
+            × LacksRoom (with_entry self.old directory name.now inode)) }
     {
         let end = self.inodes.size(directory);
         let dir = Dir {
@@ -274,7 +282,8 @@ impl Directories {
     pub fn remove(&mut self, directory: u16, name: &[u8]) -> Option<u16>
         requires { IsTrue (is_directory_at self.old directory) }
         ensures gone { result ≡ find_entry self.old directory name.now }
-        ensures left { IfSome result (λ _. self.new ≡ without_entry self.old directory name.now) }
+        ensures left { IfSome result
+            (λ _. self.new ≡ without_entry self.old directory name.now) }
         ensures none { IfNone result (self.new ≡ self.old) }
     {
         let dir = Dir {
@@ -313,7 +322,8 @@ impl Directories {
         requires used { IsSome (node_at self.now inode) }
         requires other { is_directory_at self.now inode ≡ false }
         ensures count { result ≡ min (length buffer.old) (length (bytes_at self.now inode) - at) }
-        ensures bytes { buffer.new ≡ take result (drop at (bytes_at self.now inode)) ++ drop result buffer.old }
+        ensures bytes { buffer.new
+            ≡ take result (drop at (bytes_at self.now inode)) ++ drop result buffer.old }
     {
         self.inodes.read_at(inode, at, buffer)
     }
@@ -330,8 +340,13 @@ impl Directories {
         requires other { is_directory_at self.old inode ≡ false }
         ensures ok { OnOk result (self.new ≡ written self.old inode at bytes.now) }
         ensures err { OnErr result (self.new ≡ self.old) }
-        ensures too_big { (result ≡ Err Space.TooBig) ↔ ((0 < length bytes.now) × (greatest_length self.old.version < at + length bytes.now)) }
-        ensures full { (result ≡ Err Space.Full) ↔ ((0 < length bytes.now) × (at + length bytes.now ≤ greatest_length self.old.version) × LacksRoom (written self.old inode at bytes.now)) }
+        ensures too_big { (result ≡ Err Space.TooBig)
+            ↔ ((0 < length bytes.now)
+            × (greatest_length self.old.version < at + length bytes.now)) }
+        ensures full { (result ≡ Err Space.Full)
+            ↔ ((0 < length bytes.now)
+            × (at + length bytes.now ≤ greatest_length self.old.version)
+            × LacksRoom (written self.old inode at bytes.now)) }
     {
         self.inodes.write_at(inode, at, bytes)
     }
@@ -347,8 +362,11 @@ impl Directories {
         requires other { is_directory_at self.old inode ≡ false }
         ensures ok { OnOk result (self.new ≡ cut self.old inode size) }
         ensures err { OnErr result (self.new ≡ self.old) }
-        ensures too_big { (result ≡ Err Space.TooBig) ↔ (greatest_length self.old.version < size) }
-        ensures full { (result ≡ Err Space.Full) ↔ ((size ≤ greatest_length self.old.version) × LacksRoom (cut self.old inode size)) }
+        ensures too_big { (result ≡ Err Space.TooBig)
+            ↔ (greatest_length self.old.version < size) }
+        ensures full { (result ≡ Err Space.Full)
+            ↔ ((size ≤ greatest_length self.old.version)
+            × LacksRoom (cut self.old inode size)) }
     {
         self.inodes.cut(inode, size)
     }

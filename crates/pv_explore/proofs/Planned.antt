@@ -41,7 +41,7 @@ packed-test ns ms =
     (λ is. subst (λ (k : Numbers). bytes_eq (packed_all ns) (packed_all k) ≡ true) (bytes_eq-same ns ms is) (bytes_eq-itself (packed_all ns)))
 
 module _ {X Y : Type 0} (f : X → Y) (p : Y → Bool) (q : X → Bool) where
-  any-map : ((x : X) → p (f x) ≡ q x) → (xs : List X) → list_any p (map f xs) ≡ list_any q xs
+  pub any-map : ((x : X) → p (f x) ≡ q x) → (xs : List X) → list_any p (map f xs) ≡ list_any q xs
   any-map same [] = refl
   any-map same (x ∷ xs) = ap₂ (λ a b. a || b) (same x) (any-map same xs)
 
@@ -119,19 +119,19 @@ all-last p (y ∷ ys) x = ap (λ b. p y && b) (all-last p ys x) ∙ regroup (p y
     regroup true b c = refl
     regroup false b c = refl
 
-and-with : (a b c : Bool) → b ≡ c → (a && b) ≡ (a && c)
+pub and-with : (a b c : Bool) → b ≡ c → (a && b) ≡ (a && c)
 and-with a b c is = ap (λ x. a && x) is
 
-true-last : (a : Bool) → (a && true) ≡ a
+pub true-last : (a : Bool) → (a && true) ≡ a
 true-last true = refl
 true-last false = refl
 
-false-last : (a : Bool) → (a && false) ≡ false
+pub false-last : (a : Bool) → (a && false) ≡ false
 false-last true = refl
 false-last false = refl
 
 -- the trees at ends, with one more state
-endings-visited : (found : List Found) (f : Found) (visited : List Bytes) → visited ≡ map tree_key (endings found) → endings_after visited f.state ≡ map tree_key (endings (found ++ f ∷ []))
+pub endings-visited : (found : List Found) (f : Found) (visited : List Bytes) → visited ≡ map tree_key (endings found) → endings_after visited f.state ≡ map tree_key (endings (found ++ f ∷ []))
 endings-visited found f visited is =
     ap (λ ks. endings_after ks f.state) is ∙ by (has_ended f.state)
     ∙ ap (λ ts. map tree_key (new_ones tree_numbers [] ts)) (sym (ap (map named) (filter-append ended found (f ∷ [])) ∙ map-append named (filter ended found) (filter ended (f ∷ []))))
@@ -248,21 +248,21 @@ abbrev pub written : List Bytes → List (Observation Bytes) → Bytes
 written had [] = []
 written had (o ∷ os) = new_bytes had o.move.pid o.move.witness o.item ++ written (added_to had o.item) os
 
-written-append : (had : List Bytes) (xs ys : List (Observation Bytes)) → written had (xs ++ ys) ≡ written had xs ++ written (reported_after had (items xs)) ys
+pub written-append : (had : List Bytes) (xs ys : List (Observation Bytes)) → written had (xs ++ ys) ≡ written had xs ++ written (reported_after had (items xs)) ys
 written-append had [] ys = refl
 written-append had (x ∷ xs) ys =
     ap (λ bs. new_bytes had x.move.pid x.move.witness x.item ++ bs) (written-append (added_to had x.item) xs ys)
     ∙ sym (append_assoc (new_bytes had x.move.pid x.move.witness x.item) (written (added_to had x.item) xs) (written (reported_after (added_to had x.item) (items xs)) ys))
 
-reported-append : (had : List Bytes) (xs ys : List (Observation Bytes)) → reported_after had (items (xs ++ ys)) ≡ reported_after (reported_after had (items xs)) (items ys)
+pub reported-append : (had : List Bytes) (xs ys : List (Observation Bytes)) → reported_after had (items (xs ++ ys)) ≡ reported_after (reported_after had (items xs)) (items ys)
 reported-append had [] ys = refl
 reported-append had (x ∷ xs) ys = reported-append (added_to had x.item) xs ys
 
-written-step : (m : Move) (had texts : List Bytes) → written had (map (observed m) texts) ≡ reported_bytes had m.pid m.witness texts
+pub written-step : (m : Move) (had texts : List Bytes) → written had (map (observed m) texts) ≡ reported_bytes had m.pid m.witness texts
 written-step m had [] = refl
 written-step m had (t ∷ ts) = ap (λ bs. new_bytes had m.pid m.witness t ++ bs) (written-step m (added_to had t) ts)
 
-items-step : (m : Move) (texts : List Bytes) → items (map (observed m) texts) ≡ texts
+pub items-step : (m : Move) (texts : List Bytes) → items (map (observed m) texts) ≡ texts
 items-step m [] = refl
 items-step m (t ∷ ts) = ap (λ us. t ∷ us) (items-step m ts)
 

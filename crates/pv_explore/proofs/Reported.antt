@@ -21,10 +21,10 @@ use Rattle.pv_model.specs.Trace.{Line, pad_left, pad_right, text_line, trace_byt
 
 -- ---- lists with the same members
 
-abbrev item : Observation Bytes → Bytes
+abbrev pub item : Observation Bytes → Bytes
 item o = o.item
 
-abbrev HaveSameMembers : List Bytes → List Bytes → Type 0
+abbrev pub HaveSameMembers : List Bytes → List Bytes → Type 0
 HaveSameMembers had seen = (t : Bytes) → list_any (bytes_eq t) had ≡ list_any (bytes_eq t) seen
 
 members-added : (had : List Bytes) (t u : Bytes) → list_any (bytes_eq u) (had ++ t ∷ []) ≡ (bytes_eq u t || list_any (bytes_eq u) had)
@@ -37,7 +37,7 @@ members-added had t u = list_any-append (bytes_eq u) had (t ∷ []) ∙ swap (li
     swap false false = refl
 
 -- what is written and recorded of observations is what is written of the first ones
-written-first : (had seen : List Bytes) → HaveSameMembers had seen → (os : List (Observation Bytes))
+pub written-first : (had seen : List Bytes) → HaveSameMembers had seen → (os : List (Observation Bytes))
     → (written had os ≡ flat_map observation_bytes (new_ones item seen os)) × (reported_after had (items os) ≡ had ++ map item (new_ones item seen os))
 written-first had seen same [] = (refl, sym (append-nil had))
 written-first had seen same (o ∷ os) =
@@ -128,11 +128,11 @@ trace_shown (l ∷ ls) =
     some [] shown = cc
     some (b ∷ bs) shown = refl
 
-abbrev text_observed : Move → Observation Bytes
+abbrev pub text_observed : Move → Observation Bytes
 text_observed m = observed m (move_text m)
 
 -- the members are those of the other list and the empty text
-abbrev HaveEmpty : List Bytes → List Bytes → Type 0
+abbrev pub HaveEmpty : List Bytes → List Bytes → Type 0
 HaveEmpty had seen = (t : Bytes) → list_any (bytes_eq t) seen ≡ (is_empty t || list_any (bytes_eq t) had)
 
 empty-added : (had seen : List Bytes) → HaveEmpty had seen → HaveEmpty (had ++ [] ∷ []) seen
@@ -148,10 +148,10 @@ text-added had seen u have t =
     swap true false c = refl
     swap false b c = refl
 
-abbrev AreExplored : List Move → Type 0
+abbrev pub AreExplored : List Move → Type 0
 AreExplored ms = (had seen : List Bytes) → HaveEmpty had seen → written had (map text_observed ms) ≡ answer_bytes (flat_map move_lines (new_ones move_text seen ms))
 
-explored : (had seen : List Bytes) → HaveEmpty had seen → (ms : List Move) → written had (map text_observed ms) ≡ answer_bytes (flat_map move_lines (new_ones move_text seen ms))
+pub explored : (had seen : List Bytes) → HaveEmpty had seen → (ms : List Move) → written had (map text_observed ms) ≡ answer_bytes (flat_map move_lines (new_ones move_text seen ms))
 explored had seen have [] = refl
 explored had seen have (m ∷ ms) = by (λ h k all. explored h k all ms) (move_text m) refl (trace_shown m.stepped.lines)
   where
@@ -193,7 +193,7 @@ module _ (limit : ℕ) (s : State) where
   one-each [] = refl
   one-each (m ∷ ms) = ap (λ os. text_observed m ∷ os) (one-each ms)
 
-  all-moves : (found : List Found) → flat_map (λ f. flat_map (λ m. map (observed m) (trace_bytes m.stepped.lines ∷ [])) (moves_of program_of f)) found ≡ map text_observed (flat_map (moves_of program_of) found)
+  pub all-moves : (found : List Found) → flat_map (λ f. flat_map (λ m. map (observed m) (trace_bytes m.stepped.lines ∷ [])) (moves_of program_of f)) found ≡ map text_observed (flat_map (moves_of program_of) found)
   all-moves [] = refl
   all-moves (f ∷ found) = ap₂ (λ (a b : List (Observation Bytes)). a ++ b) (one-each (moves_of program_of f)) (all-moves found) ∙ sym (map-append text_observed (moves_of program_of f) (flat_map (moves_of program_of) found))
 

@@ -25,7 +25,7 @@ const FIRST_STRIDE: usize = 8;
 /// prefix makes the other steps, and leaves checkpoints. If schedules become longer, there are fewer checkpoints for
 /// the same number of steps.
 #[derive(Drop)]
-pub(crate) struct Checkpoints<'a> {
+pub struct Checkpoints<'a> {
     // The machine before its first step.
     first: &'a FirstMachine,
     // The schedule that was followed last.
@@ -223,7 +223,7 @@ fn turn_to(
 
 impl<'a> Checkpoints<'a> {
     /// Returns no checkpoints.
-    pub(crate) fn new(alloc: Global, first: &'a FirstMachine) -> Checkpoints<'a>
+    pub fn new(alloc: Global, first: &'a FirstMachine) -> Checkpoints<'a>
         ensures { result ≡ first.now }
     {
         Checkpoints {
@@ -240,11 +240,7 @@ impl<'a> Checkpoints<'a> {
     /// # Errors
     ///
     /// `NoMemory`, if there is no memory.
-    pub(crate) fn position(
-        &mut self,
-        alloc: Global,
-        schedule: &[u32],
-    ) -> Result<Position, StepFault>
+    pub fn position(&mut self, alloc: Global, schedule: &[u32]) -> Result<Position, StepFault>
         ensures unchanged { self.new ≡ self.old }
         ensures at { IfOk result (λ position. position ≡ state_at program_of self.old schedule.now) }
     {
@@ -266,7 +262,7 @@ impl<'a> Checkpoints<'a> {
     }
 
     /// Takes a machine back, to be reused.
-    pub(crate) fn release(&mut self, machine: Position)
+    pub fn release(&mut self, machine: Position)
         ensures { self.new ≡ self.old }
     {
         let _ = self.free.push(machine);

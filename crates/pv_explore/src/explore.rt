@@ -46,9 +46,13 @@ pub fn write_states<W: Sink>(out: &mut W, count: usize, complete: bool) -> Resul
     line.write(out)
 }
 
-// Writes the number of different trees at the ends of schedules.
+/// Writes the number of different trees at the ends of schedules.
+///
+/// # Errors
+///
+/// `Failed`, if a write failed. The sink received a prefix of the line.
 #[tactic(auto, unfolding(pv_model::specs::Trace::text_line))]
-fn write_endings<W: Sink>(out: &mut W, count: usize) -> Result<(), Failed>
+pub fn write_endings<W: Sink>(out: &mut W, count: usize) -> Result<(), Failed>
     ensures { Writes W.Sink (answer_line_bytes (endings_line count)) out.old out.new result }
 {
     let line = Line {

@@ -90,7 +90,7 @@ impl FirstMachine {
     }
 
     /// Returns the machine.
-    pub(crate) fn machine(&self) -> &Position
+    pub fn machine(&self) -> &Position
         ensures { result.now ≡ self.now }
     {
         &self.machine

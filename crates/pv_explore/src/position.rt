@@ -63,13 +63,13 @@ impl Model for Position {
 
 /// A step that a machine made.
 #[derive(Drop)]
-pub(crate) struct ObservedStep {
+pub struct ObservedStep {
     /// The machine after the step.
-    pub(crate) position: Position,
+    pub position: Position,
     /// The texts observed of the step.
-    pub(crate) texts: Vec<Vec<u8>>,
+    pub texts: Vec<Vec<u8>>,
     /// Whether the step changes at most the inside of its process, unless it kills the process.
-    pub(crate) inside: bool,
+    pub inside: bool,
 }
 
 // Returns whether a call changes at most the registers, the buffer and the promises of its process.
@@ -254,7 +254,7 @@ impl Position {
     /// # Errors
     ///
     /// `NoMemory`, if there is no memory.
-    pub(crate) fn observe<O: Observer>(
+    pub fn observe<O: Observer>(
         self,
         alloc: Global,
         observer: &mut O,

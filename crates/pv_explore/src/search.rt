@@ -141,8 +141,13 @@ fn report_text<W: Sink>(
     Ok(())
 }
 
-// Records the texts of a step from state `number`, and writes those that are new and shown.
-fn report<W: Sink>(
+/// Records the texts of a step from state `number`, and writes those that are new and shown.
+///
+/// # Errors
+///
+/// - `Memory`, if there is no memory.
+/// - `Write`, if a write failed. The sink received a prefix of the bytes.
+pub fn report<W: Sink>(
     alloc: Global,
     reported: &mut Keys,
     witnesses: &Witnesses,
@@ -163,8 +168,12 @@ fn report<W: Sink>(
 
 // ---- records
 
-// Records the tree of a state in which no process is live.
-fn add_ending(alloc: Global, endings: &mut Keys, position: &Position) -> Result<(), StepFault>
+/// Records the tree of a state in which no process is live.
+///
+/// # Errors
+///
+/// `NoMemory`, if there is no memory.
+pub fn add_ending(alloc: Global, endings: &mut Keys, position: &Position) -> Result<(), StepFault>
     ensures { OnOk result (endings.new ≡ endings_after endings.old position.now) }
 {
     if !position.has_ended(alloc)? {

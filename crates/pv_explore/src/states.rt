@@ -119,8 +119,12 @@ fn row_of_state(
 
 // ---- cells
 
-// Stores the parts of a group, and returns its row.
-fn learn_row(alloc: Global, parts: &mut Keys, group: &[Vec<u8>]) -> Result<Vec<u8>, AllocError>
+/// Stores the parts of a group, and returns its row.
+///
+/// # Errors
+///
+/// `AllocError`, if there is no memory. Some parts may be stored then.
+pub fn learn_row(alloc: Global, parts: &mut Keys, group: &[Vec<u8>]) -> Result<Vec<u8>, AllocError>
     ensures grew { Grew parts.old parts.new }
     ensures visited { OnOk result (AllByRecursion (IsAmong parts.new) (parts_in group.now)) }
     ensures row { IfOk result (λ row. row.items ≡ group_row parts.new (parts_in group.now)) }

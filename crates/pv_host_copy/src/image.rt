@@ -1,7 +1,7 @@
 //! Writing the image of a host directory.
 ghost use Rattle.std.specs.Prelude.{◌≡◌, map, Err, OnOk};
 ghost use Rattle.pv_model.specs.Stream.{Rose};
-ghost use Rattle.pv_image_write.specs.Written.{BeginsImage, WritesImage};
+ghost use Rattle.pv_image_write.specs.Written.{WritesTree};
 ghost use Rattle.pv_host_copy.specs.Firsts.{skipped_pair};
 ghost use Rattle.pv_host_copy.specs.Written.{Imports, ReportsPairs, ReportsStop};
 ghost use Rattle.pv_host_copy.specs.declared.fault.CopyStop.TheVariants.{Entry as EntryStop};
@@ -34,11 +34,7 @@ pub enum ImportStop {
 
 // Writes the image of a tree.
 fn write_store<W: Sink>(alloc: Global, store: &Store, image: &mut W) -> Result<(), WriteFault>
-    ensures whole { OnOk result (WritesImage store.now (W.written image.old) (W.written image.new)) }
-    ensures cut { result ≡ Err WriteFault.Write → BeginsImage store.now (W.written image.old) (W.written image.new) }
-    ensures failed { result ≡ Err WriteFault.Write → Rose (W.failures image.old) (W.failures image.new) }
-    ensures memory { result ≡ Err WriteFault.Memory → W.written image.new ≡ W.written image.old }
-    ensures flushed { OnOk result (W.buffered image.new ≡ 0) }
+    ensures { WritesTree W.Sink store.now image.old image.new result }
 {
     store.invariant();
     write_tree(alloc, store.tree(), image)

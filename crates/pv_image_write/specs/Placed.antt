@@ -1,11 +1,14 @@
 -- The tree in an image that is written.
-use Rattle.std.specs.Prelude.{ℕ, suc, ◌+◌, ◌-◌, ◌++◌, length, replicate, sum_by, Option, None}
+use Rattle.std.specs.Prelude.{ℕ, suc, ◌+◌, ◌-◌, ◌*◌, ◌++◌, length, replicate, sum_by, Option, None}
+use Rattle.pv_model.specs.declared.limits.TheConstants.{BLOCK}
 use Rattle.pv_model.specs.declared.version.Version.{Version}
+use Rattle.pv_model.specs.Bytes.{Bytes}
 use Rattle.pv_model.specs.Held.{named_tree}
 use Rattle.pv_model.specs.Image.{inode_blocks}
 use Rattle.pv_model.specs.Numbered.{Numbered, present}
 use Rattle.pv_model.specs.Room.{node_length, need}
 use Rattle.pv_model.specs.Tree.{Node, Tree, node_at}
+use Rattle.pv_image_write.specs.Encoding.{all_contents, padded}
 
 -- a map extended to n numbers without values
 abbrev pub lengthened : {X : Type 0} → ℕ → Numbered X → Numbered X
@@ -20,6 +23,10 @@ placed t v blocks inodes = record {
   inodes = inodes;
   version = v;
 }
+
+-- the contents of the nodes of this tree, padded with zeros to the end of its image
+abbrev pub placed_contents : Tree → Version → ℕ → ℕ → Bytes
+placed_contents t v blocks inodes = padded (BLOCK * (blocks - (inode_blocks v inodes + 1))) (all_contents (placed t v blocks inodes) inodes)
 
 -- the number of data blocks that the root and the named nodes of a tree need in an image of this version
 unfoldable pub named_need : Tree → Version → ℕ

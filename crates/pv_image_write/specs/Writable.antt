@@ -4,9 +4,10 @@ use Rattle.pv_model.specs.declared.limits.TheConstants.{INODES}
 use Rattle.pv_model.specs.declared.version.Version.{Version}
 use Rattle.pv_model.specs.declared.version.Version.TheVariants.{V1, V2}
 use Rattle.pv_model.specs.Bytes.{Bytes}
-use Rattle.pv_model.specs.Image.{greatest_blocks}
+use Rattle.pv_model.specs.Image.{inode_blocks, greatest_blocks}
 use Rattle.pv_model.specs.Room.{greatest_length}
-use Rattle.pv_model.specs.Tree.{Node, Tree, root, node_at, names_of, IsWellFormed}
+use Rattle.pv_model.specs.Tree.{Node, Tree, root, greatest_name, node_at, names_of, IsWellFormed}
+use Rattle.pv_image_write.specs.Placed.{placed}
 use Rattle.pv_image_write.specs.Encoding.{content_of, taken_before, first_data, first_of}
 
 -- an upper bound of the number of names in an inode, exclusive
@@ -23,6 +24,14 @@ pub record IsWritable (t : Tree) : Type 0 where
   pub short : (n : ℕ) → length (content_of t.version (node_at t n)) ≤ greatest_length t.version
   pub counted : (n : ℕ) → length (names_of t n) < names_end t.version
   pub room : taken_before t (suc t.inodes) ≤ t.blocks
+
+-- the root and the named nodes of a tree can be written as an image of this version with these numbers of blocks and
+-- inodes
+pub record IsWritableAs (t : Tree) (v : Version) (blocks n : ℕ) : Type 0 where
+  pub sizes : inode_blocks v n + 1 ≤ blocks
+  pub names : greatest_name t.version ≤ greatest_name v
+  pub inodes : t.inodes ≤ n
+  pub writable : IsWritable (placed t v blocks n)
 
 -- a part of each node up to number n, `all_inodes` or `all_contents`, follows other bytes; and the next free block
 pub record AreWritten (part : Tree → ℕ → Bytes) (t : Tree) (n : ℕ) (before now : Bytes) (next : ℕ) : Type 0 where

@@ -6,11 +6,11 @@ ghost use Rattle.pv_model.specs.Image.{inode_blocks, inode_length};
 ghost use Rattle.pv_model.specs.Mount.{are_image_sizes};
 ghost use Rattle.pv_model.specs.Stream.{Rose};
 ghost use Rattle.pv_model.specs.Tree.{greatest_name, names_of, node_at};
-ghost use Rattle.pv_streams.specs.Sinks.{and_all, WritesPrefix};
-ghost use Rattle.pv_image_write.specs.Placed.{placed, written_at, named_need};
-ghost use Rattle.pv_image_write.specs.Encoding.{all_contents, all_inodes, blocks_of, first_block, image_bytes, inode_of, padded, taken_of};
-ghost use Rattle.pv_image_write.specs.Written.{BeginsImage, WritesImage};
-ghost use Rattle.pv_image_write.specs.Writable.{names_end, IsWritable};
+ghost use Rattle.pv_streams.specs.Sinks.{and_all, Writes, WritesPrefix};
+ghost use Rattle.pv_image_write.specs.Placed.{placed, placed_contents, written_at, named_need};
+ghost use Rattle.pv_image_write.specs.Encoding.{all_inodes, blocks_of, first_block, image_bytes, inode_of, padded, taken_of};
+ghost use Rattle.pv_image_write.specs.Written.{WritesTree};
+ghost use Rattle.pv_image_write.specs.Writable.{names_end, IsWritableAs};
 
 use crate::content::{content_length, put_content};
 use crate::fault::WriteFault;
@@ -26,7 +26,8 @@ use std::alloc::{AllocError, Global};
 
 // Returns whether an image contains a node: it is the root, or has a name.
 fn is_written(tree: &Tree, node: u16) -> bool
-    ensures as_written { IsTrue result → written_at tree.now.tree node ≡ node_at tree.now.tree node }
+    ensures as_written { IsTrue result
+        → written_at tree.now.tree node ≡ node_at tree.now.tree node }
     ensures used { IsTrue result → IsSome (node_at tree.now.tree node) }
     ensures free { result ≡ false → written_at tree.now.tree node ≡ None }
 {
@@ -52,7 +53,9 @@ fn add_inode(bytes: &mut Vec<u8>, tree: &Tree, version: Version, node: u16, firs
     requires counted { length (names_of tree.now.tree node) < names_end version }
     requires blocks { first + taken_of version (written_at tree.now.tree node) < 2 ^ 16 }
     requires room { vec_len bytes.old + inode_length version ≤ vec_capacity bytes.old }
-    ensures items { bytes.new.items ≡ bytes.old.items ++ inode_of version (length (names_of tree.now.tree node)) first (written_at tree.now.tree node) }
+    ensures items { let names = length (names_of tree.now.tree node) in
+        let inode = inode_of version names first (written_at tree.now.tree node) in
+        bytes.new.items ≡ bytes.old.items ++ inode }
     ensures len { vec_len bytes.new ≡ vec_len bytes.old + inode_length version }
     ensures capacity { vec_capacity bytes.old ≤ vec_capacity bytes.new }
 {
@@ -69,8 +72,10 @@ fn add_inode(bytes: &mut Vec<u8>, tree: &Tree, version: Version, node: u16, firs
 fn add_blocks(bytes: &mut Vec<u8>, tree: &Tree, version: Version, node: u16, first: u16)
     requires names { greatest_name tree.now.tree.version ≤ greatest_name version }
     requires blocks { first + taken_of version (written_at tree.now.tree node) < 2 ^ 16 }
-    requires room { vec_len bytes.old + BLOCK * taken_of version (written_at tree.now.tree node) ≤ vec_capacity bytes.old }
-    ensures items { bytes.new.items ≡ bytes.old.items ++ blocks_of version first (written_at tree.now.tree node) }
+    requires room { let taken = taken_of version (written_at tree.now.tree node) in
+        vec_len bytes.old + BLOCK * taken ≤ vec_capacity bytes.old }
+    ensures items { let blocks = blocks_of version first (written_at tree.now.tree node) in
+        bytes.new.items ≡ bytes.old.items ++ blocks }
     ensures capacity { vec_capacity bytes.old ≤ vec_capacity bytes.new }
 {
     if !is_written(tree, node) {
@@ -112,11 +117,10 @@ fn with_table(
     blocks: u16,
     inodes: u16,
 ) -> Result<Vec<u8>, AllocError>
-    requires sizes { inode_blocks version inodes + 1 ≤ blocks }
-    requires names { greatest_name tree.now.tree.version ≤ greatest_name version }
-    requires inodes { tree.now.tree.inodes ≤ inodes }
-    requires writable { IsWritable (placed tree.now.tree version blocks inodes) }
-    ensures items { IfOk result (λ bytes. bytes.items ≡ first_block version blocks inodes ++ padded (BLOCK * inode_blocks version inodes) (all_inodes (placed tree.now.tree version blocks inodes) inodes)) }
+    requires { IsWritableAs tree.now.tree version blocks inodes }
+    ensures items { let t = placed tree.now.tree version blocks inodes in
+        let table = padded (BLOCK * inode_blocks version inodes) (all_inodes t inodes) in
+        IfOk result (λ bytes. bytes.items ≡ first_block version blocks inodes ++ table) }
     ensures room { IfOk result (λ bytes. BLOCK * blocks ≤ vec_capacity bytes) }
 {
     tree.invariant();
@@ -140,15 +144,12 @@ fn write_contents<O: Sink>(
     inodes: u16,
     image: &mut O,
 ) -> Result<(), Failed>
-    requires sizes { inode_blocks version inodes + 1 ≤ blocks }
-    requires names { greatest_name tree.now.tree.version ≤ greatest_name version }
-    requires inodes { tree.now.tree.inodes ≤ inodes }
-    requires writable { IsWritable (placed tree.now.tree version blocks inodes) }
+    requires image { IsWritableAs tree.now.tree version blocks inodes }
     requires following { length window.old.items ≡ BLOCK * (inode_blocks version inodes + 1) }
     requires room { BLOCK * blocks ≤ vec_capacity window.old }
-    ensures whole { OnOk result (O.written image.new ≡ and_all (O.written image.old) (window.old.items ++ padded (BLOCK * (blocks - (inode_blocks version inodes + 1))) (all_contents (placed tree.now.tree version blocks inodes) inodes))) }
-    ensures cut { OnErr result (WritesPrefix (window.old.items ++ padded (BLOCK * (blocks - (inode_blocks version inodes + 1))) (all_contents (placed tree.now.tree version blocks inodes) inodes)) (O.written image.old) (O.written image.new)) }
-    ensures failed { OnErr result (Rose (O.failures image.old) (O.failures image.new)) }
+    ensures written { Writes O.Sink
+        (window.old.items ++ placed_contents tree.now.tree version blocks inodes)
+        image.old image.new result }
     ensures flushed { OnOk result (O.buffered image.new ≡ 0) }
 {
     tree.invariant();
@@ -171,14 +172,16 @@ fn write_bytes<O: Sink>(
     inodes: u16,
     image: &mut O,
 ) -> Result<(), WriteFault>
-    requires sizes { inode_blocks version inodes + 1 ≤ blocks }
-    requires names { greatest_name tree.now.tree.version ≤ greatest_name version }
-    requires inodes { tree.now.tree.inodes ≤ inodes }
-    requires writable { IsWritable (placed tree.now.tree version blocks inodes) }
-    ensures whole { OnOk result (O.written image.new ≡ and_all (O.written image.old) (image_bytes (placed tree.now.tree version blocks inodes))) }
-    ensures cut { result ≡ Err WriteFault.Write → WritesPrefix (image_bytes (placed tree.now.tree version blocks inodes)) (O.written image.old) (O.written image.new) }
-    ensures failed { result ≡ Err WriteFault.Write → Rose (O.failures image.old) (O.failures image.new) }
-    ensures memory { result ≡ Err WriteFault.Memory → O.written image.new ≡ O.written image.old }
+    requires { IsWritableAs tree.now.tree version blocks inodes }
+    ensures whole { let bytes = image_bytes (placed tree.now.tree version blocks inodes) in
+        OnOk result (O.written image.new ≡ and_all (O.written image.old) bytes) }
+    ensures cut { let bytes = image_bytes (placed tree.now.tree version blocks inodes) in
+        result ≡ Err WriteFault.Write
+        → WritesPrefix bytes (O.written image.old) (O.written image.new) }
+    ensures failed { result ≡ Err WriteFault.Write
+        → Rose (O.failures image.old) (O.failures image.new) }
+    ensures memory { result ≡ Err WriteFault.Memory
+        → O.written image.new ≡ O.written image.old }
     ensures flushed { OnOk result (O.buffered image.new ≡ 0) }
 {
     let mut window = with_table(alloc, tree, version, blocks, inodes)?;
@@ -219,11 +222,8 @@ pub fn write_as<O: Sink>(
     requires inodes { tree.now.tree.inodes ≤ inodes }
     requires names { greatest_name tree.now.tree.version ≤ greatest_name version }
     requires room { inode_blocks version inodes + 1 + named_need tree.now.tree version ≤ blocks }
-    ensures whole { OnOk result (WritesImage (placed tree.now.tree version blocks inodes) (O.written image.old) (O.written image.new)) }
-    ensures cut { result ≡ Err WriteFault.Write → BeginsImage (placed tree.now.tree version blocks inodes) (O.written image.old) (O.written image.new) }
-    ensures failed { result ≡ Err WriteFault.Write → Rose (O.failures image.old) (O.failures image.new) }
-    ensures memory { result ≡ Err WriteFault.Memory → O.written image.new ≡ O.written image.old }
-    ensures flushed { OnOk result (O.buffered image.new ≡ 0) }
+    ensures { WritesTree O.Sink (placed tree.now.tree version blocks inodes)
+        image.old image.new result }
 {
     tree.invariant();
     write_bytes(alloc, tree, version, blocks, inodes, image)
@@ -237,11 +237,7 @@ pub fn write_as<O: Sink>(
 /// Returns `Memory` if memory cannot be allocated; nothing is written then. Returns `Write` if a write or the flush
 /// fails; the sink then has received a prefix of the image.
 pub fn write_tree<O: Sink>(alloc: Global, tree: &Tree, image: &mut O) -> Result<(), WriteFault>
-    ensures whole { OnOk result (WritesImage (named_tree tree.now.tree) (O.written image.old) (O.written image.new)) }
-    ensures cut { result ≡ Err WriteFault.Write → BeginsImage (named_tree tree.now.tree) (O.written image.old) (O.written image.new) }
-    ensures failed { result ≡ Err WriteFault.Write → Rose (O.failures image.old) (O.failures image.new) }
-    ensures memory { result ≡ Err WriteFault.Memory → O.written image.new ≡ O.written image.old }
-    ensures flushed { OnOk result (O.buffered image.new ≡ 0) }
+    ensures { WritesTree O.Sink (named_tree tree.now.tree) image.old image.new result }
 {
     let sizes = tree.sizes();
     let blocks = table_blocks(sizes.version, sizes.inodes) + 1 + sizes.blocks;

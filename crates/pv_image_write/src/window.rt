@@ -14,10 +14,12 @@ const CHUNK: usize = 65_536;
 
 /// Writes the window and empties it, if it is full.
 pub(crate) fn write_full<O: Sink>(window: &mut Vec<u8>, image: &mut O) -> Result<(), Failed>
-    ensures put { OnOk result (IsPut (O.written image.old) (O.written image.new) window.new.items window.old.items) }
+    ensures put { OnOk result
+        (IsPut (O.written image.old) (O.written image.new) window.new.items window.old.items) }
     ensures small { OnOk result (vec_len window.new < CHUNK) }
     ensures capacity { vec_capacity window.old ≤ vec_capacity window.new }
-    ensures cut { OnErr result (WritesPrefix window.old.items (O.written image.old) (O.written image.new)) }
+    ensures cut { OnErr result
+        (WritesPrefix window.old.items (O.written image.old) (O.written image.new)) }
     ensures quiet { OnOk result (O.failures image.new ≡ O.failures image.old) }
     ensures failed { OnErr result (Rose (O.failures image.old) (O.failures image.new)) }
 {
@@ -36,8 +38,10 @@ pub(crate) fn write_zeros<O: Sink>(
     image: &mut O,
 ) -> Result<(), Failed>
     requires { vec_len window.old + BLOCK * blocks ≤ vec_capacity window.old }
-    ensures put { OnOk result (IsPut (O.written image.old) (O.written image.new) window.new.items (window.old.items ++ replicate (BLOCK * blocks) 0)) }
-    ensures cut { OnErr result (WritesPrefix (window.old.items ++ replicate (BLOCK * blocks) 0) (O.written image.old) (O.written image.new)) }
+    ensures put { OnOk result (IsPut (O.written image.old) (O.written image.new)
+        window.new.items (window.old.items ++ replicate (BLOCK * blocks) 0)) }
+    ensures cut { OnErr result (WritesPrefix (window.old.items ++ replicate (BLOCK * blocks) 0)
+        (O.written image.old) (O.written image.new)) }
     ensures quiet { OnOk result (O.failures image.new ≡ O.failures image.old) }
     ensures failed { OnErr result (Rose (O.failures image.old) (O.failures image.new)) }
 {

@@ -2,4 +2,5 @@ pub mod Files
 pub mod Images
 pub mod Layout
 pub mod Owning
+pub mod Sizes
 pub mod Sound

@@ -2,9 +2,10 @@
 ghost use Rattle.std.specs.Prelude.{◌≡◌, ◌+◌, ◌-◌, ◌*◌, ◌/◌, ◌%◌, ◌<◌, ◌≤◌, ◌≢◌, ◌↔◌, suc, min, false, length, replicate, vec_len, All, take, drop, ◌++◌, IsTrue, None, Some, IsNone, IfNone, IfSome, OnOk, OnErr};
 ghost use Rattle.pv_model.specs.declared.limits.TheConstants.{BLOCK};
 ghost use Rattle.pv_model.specs.Effect.{overwrite, resize};
-ghost use Rattle.pv_model.specs.Image.{inode_blocks, greatest_blocks};
+ghost use Rattle.pv_model.specs.Image.{inode_blocks};
 ghost use Rattle.pv_model.specs.Room.{greatest_length};
 ghost use Rattle.pv_inodes.specs.Layout.{place_of, wanted};
+ghost use Rattle.pv_inodes.specs.Sizes.{AreImageSizes};
 ghost use Rattle.pv_inodes.specs.Files.{held, IsUsed, bytes_at, sort_at, sort_of, sort_number, total_room, HasRoom, LacksRoom, with_bytes, written, cut, with_new, without, new_number};
 
 mod image;
@@ -15,7 +16,7 @@ use crate::layout::{BLOCK_LENGTH, place, room};
 use crate::table::{content_block, kind_of, owned_by, push_block, set_kind, set_size, size_of};
 use pv_blocks::{BlockSet, Blocks};
 use pv_model::format::{DIRECTORY, EXECUTABLE, FILE, FREE};
-use pv_model::limits::{BLOCK, INODES};
+use pv_model::limits::BLOCK;
 use pv_model::{Kind, Version};
 use std::marker::Model;
 
@@ -48,10 +49,7 @@ impl Inodes {
     pub fn empty(zeros: Vec<u8>, blocks: u16, inodes: u16, version: Version) -> Inodes
         requires whole { vec_len zeros ≡ BLOCK * blocks }
         requires zeros { All (λ byte. byte ≡ 0) zeros.items }
-        requires some_inodes { 1 ≤ inodes }
-        requires few_inodes { inodes ≤ INODES }
-        requires some_blocks { inode_blocks version inodes + 1 ≤ blocks }
-        requires few_blocks { blocks ≤ greatest_blocks version }
+        requires sizes { AreImageSizes version blocks inodes }
         ensures version { result.version ≡ version }
         ensures nodes { result.nodes ≡ replicate (suc inodes) None }
         ensures blocks { result.blocks + inode_blocks version inodes + 1 ≡ blocks }
@@ -149,7 +147,8 @@ impl Inodes {
     pub fn read_at(&self, inode: u16, at: u32, buffer: &mut [u8]) -> usize
         requires { IsUsed self.now inode }
         ensures count { result ≡ min (length buffer.old) (length (bytes_at self.now inode) - at) }
-        ensures bytes { buffer.new ≡ take result (drop at (bytes_at self.now inode)) ++ drop result buffer.old }
+        ensures bytes { buffer.new
+            ≡ take result (drop at (bytes_at self.now inode)) ++ drop result buffer.old }
     {
         let count = buffer
             .len()
@@ -176,8 +175,13 @@ impl Inodes {
         requires { IsUsed self.old inode }
         ensures ok { OnOk result (self.new ≡ written self.old inode at bytes.now) }
         ensures err { OnErr result (self.new ≡ self.old) }
-        ensures too_big { (result ≡ Err Space.TooBig) ↔ ((0 < length bytes.now) × (greatest_length self.old.version < at + length bytes.now)) }
-        ensures full { (result ≡ Err Space.Full) ↔ ((0 < length bytes.now) × (at + length bytes.now ≤ greatest_length self.old.version) × LacksRoom (written self.old inode at bytes.now)) }
+        ensures too_big { (result ≡ Err Space.TooBig)
+            ↔ ((0 < length bytes.now)
+            × (greatest_length self.old.version < at + length bytes.now)) }
+        ensures full { (result ≡ Err Space.Full)
+            ↔ ((0 < length bytes.now)
+            × (at + length bytes.now ≤ greatest_length self.old.version)
+            × LacksRoom (written self.old inode at bytes.now)) }
     {
         if bytes.is_empty() {
             return Ok(());
@@ -205,8 +209,11 @@ impl Inodes {
         requires { IsUsed self.old inode }
         ensures ok { OnOk result (self.new ≡ cut self.old inode size) }
         ensures err { OnErr result (self.new ≡ self.old) }
-        ensures too_big { (result ≡ Err Space.TooBig) ↔ (greatest_length self.old.version < size) }
-        ensures full { (result ≡ Err Space.Full) ↔ ((size ≤ greatest_length self.old.version) × LacksRoom (cut self.old inode size)) }
+        ensures too_big { (result ≡ Err Space.TooBig)
+            ↔ (greatest_length self.old.version < size) }
+        ensures full { (result ≡ Err Space.Full)
+            ↔ ((size ≤ greatest_length self.old.version)
+            × LacksRoom (cut self.old inode size)) }
     {
         if size > self.version().layout().greatest_length {
             return Err(Space::TooBig);
@@ -228,7 +235,8 @@ impl Inodes {
         requires used { IsUsed self.old inode }
         requires within { at + length bytes.now ≤ length (bytes_at self.old inode) }
         requires allowed { at + length bytes.now ≤ greatest_length self.old.version }
-        ensures { self.new ≡ with_bytes self.old inode (overwrite (bytes_at self.old inode) at bytes.now) }
+        ensures { self.new
+            ≡ with_bytes self.old inode (overwrite (bytes_at self.old inode) at bytes.now) }
     {
         let mut done = 0;
         while done < bytes.len() {
@@ -362,9 +370,11 @@ impl Inodes {
         requires full { length (bytes_at self.old inode) % BLOCK ≡ 0 }
         requires longer { length (bytes_at self.old inode) < size }
         requires within { size ≤ length (bytes_at self.old inode) + BLOCK }
-        requires next { wanted (length (bytes_at self.old inode)) ≡ place_of (length (bytes_at self.old inode) / BLOCK) }
+        requires next { wanted (length (bytes_at self.old inode))
+            ≡ place_of (length (bytes_at self.old inode) / BLOCK) }
         requires allowed { size ≤ greatest_length self.old.version }
-        requires room { HasRoom (with_bytes self.old inode (resize (bytes_at self.old inode) size)) }
+        requires room { HasRoom
+            (with_bytes self.old inode (resize (bytes_at self.old inode) size)) }
         ensures { self.new ≡ with_bytes self.old inode (resize (bytes_at self.old inode) size) }
     {
         let slot = self.slot(inode);
@@ -380,9 +390,11 @@ impl Inodes {
         requires full { length (bytes_at self.old inode) % BLOCK ≡ 0 }
         requires longer { length (bytes_at self.old inode) < size }
         requires within { size ≤ length (bytes_at self.old inode) + BLOCK }
-        requires next { suc (wanted (length (bytes_at self.old inode))) ≡ place_of (length (bytes_at self.old inode) / BLOCK) }
+        requires next { suc (wanted (length (bytes_at self.old inode)))
+            ≡ place_of (length (bytes_at self.old inode) / BLOCK) }
         requires allowed { size ≤ greatest_length self.old.version }
-        requires room { HasRoom (with_bytes self.old inode (resize (bytes_at self.old inode) size)) }
+        requires room { HasRoom
+            (with_bytes self.old inode (resize (bytes_at self.old inode) size)) }
         ensures { self.new ≡ with_bytes self.old inode (resize (bytes_at self.old inode) size) }
     {
         let slot = self.slot(inode);
@@ -398,7 +410,8 @@ impl Inodes {
         requires longer { length (bytes_at self.old inode) < size }
         requires within { size ≤ BLOCK * (length (bytes_at self.old inode) / BLOCK + 1) }
         requires allowed { size ≤ greatest_length self.old.version }
-        requires room { HasRoom (with_bytes self.old inode (resize (bytes_at self.old inode) size)) }
+        requires room { HasRoom
+            (with_bytes self.old inode (resize (bytes_at self.old inode) size)) }
         ensures { self.new ≡ with_bytes self.old inode (resize (bytes_at self.old inode) size) }
     {
         let old = self.size(inode);
@@ -416,7 +429,8 @@ impl Inodes {
         requires used { IsUsed self.old inode }
         requires longer { length (bytes_at self.old inode) ≤ size }
         requires allowed { size ≤ greatest_length self.old.version }
-        requires room { HasRoom (with_bytes self.old inode (resize (bytes_at self.old inode) size)) }
+        requires room { HasRoom
+            (with_bytes self.old inode (resize (bytes_at self.old inode) size)) }
         ensures { self.new ≡ with_bytes self.old inode (resize (bytes_at self.old inode) size) }
     {
         let mut length = self.size(inode);
@@ -433,7 +447,8 @@ impl Inodes {
         requires some { 0 < length part.now }
         requires block { at % BLOCK + length part.now ≤ BLOCK }
         requires within { at + length part.now ≤ length (bytes_at self.old inode) }
-        ensures { self.new ≡ with_bytes self.old inode (overwrite (bytes_at self.old inode) at part.now) }
+        ensures { self.new
+            ≡ with_bytes self.old inode (overwrite (bytes_at self.old inode) at part.now) }
     {
         let slot = self.slot(inode);
         let block = content_block(&self.blocks, self.version, slot, (at / BLOCK_LENGTH) as u16);

@@ -8,7 +8,7 @@ use Rattle.pv_model.specs.declared.place.Place.{Place}
 use Rattle.pv_model.specs.declared.place.Place.TheVariants.{At, Node}
 use Rattle.pv_model.specs.Bytes.{Bytes}
 use Rattle.pv_model.specs.Calls.Paths.{link_text}
-use Rattle.pv_model.specs.Tree.{Tree, root, node_at, greatest_name, is_directory_at, is_removed, find_entry}
+use Rattle.pv_model.specs.Tree.{Tree, root, node_at, greatest_name, is_directory_at, is_removed, find_entry, IsWellFormed}
 use Rattle.pv_model.specs.Walk.{is_absolute, follows_last, end_mark, Walked, PastLink, at_entry, along, no_link_left, through_link, walk}
 use Rattle.pv_namei.specs.declared.lead.Lead.{Lead}
 use Rattle.pv_namei.specs.declared.lead.Lead.TheVariants.{Directory, Entry}
@@ -27,6 +27,11 @@ following t last (suc links) = through_link t last (walk t last links)
 abbrev pub first_walk : ℕ → Bytes → Follow → WalkState
 first_walk start path follow =
     record { last = follows_last follow; links = LINKS; at = if is_absolute path then root else start; mark = end_mark follow path }
+
+-- a walk is at a directory of a well-formed tree
+pub record IsAtDirectory (t : Tree) (n : ℕ) : Type 0 where
+  pub well_formed : IsWellFormed t
+  pub directory : IsTrue (is_directory_at t n)
 
 -- the result of a walk in this state with these components left
 abbrev pub remaining : Tree → WalkState → List Bytes → Walked

@@ -46,7 +46,8 @@ impl<'a> Along<'a> {
 
     /// Removes and returns the first component, or returns `None` if no component remains.
     pub(crate) fn take_first(&mut self) -> Option<&'a [u8]>
-        ensures { MatchOption result ((self.old ≡ []) × (self.new ≡ [])) (λ component. self.old ≡ component.now ∷ self.new) }
+        ensures { MatchOption result ((self.old ≡ []) × (self.new ≡ []))
+            (λ component. self.old ≡ component.now ∷ self.new) }
     {
         let (component, following) = split_first(self.bytes)?;
         self.bytes = following;

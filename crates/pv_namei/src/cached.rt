@@ -75,7 +75,8 @@ impl CachedLookup {
     /// Returns `AllocError` if memory for the cache cannot be allocated.
     pub fn new(alloc: Global) -> Result<CachedLookup, AllocError>
         ensures empty { IfOk result (λ lookup. lookup.answers.entries ≡ []) }
-        ensures agrees { IfOk result (λ lookup. (map : ℕ → List ℕ → Option ℕ) → FitsMap lookup.answers map) }
+        ensures agrees { IfOk result
+            (λ lookup. (map : ℕ → List ℕ → Option ℕ) → FitsMap lookup.answers map) }
     {
         Ok(CachedLookup {
             answers: LruCache::new(alloc, NonZeroUsize::new(ANSWERS).unwrap())?,
@@ -116,7 +117,8 @@ impl Lookup for CachedLookup {
         requires agrees { FitsMap self.old.answers (find_entry tree.now.tree) }
         ensures answer { result ≡ find_entry tree.now.tree directory name.now }
         ensures agrees { FitsMap self.new.answers (find_entry tree.now.tree) }
-        ensures keeps { (preserved_of self.new.answers directory name.now ≡ Some result) ⊎ (self.new.answers ≡ self.old.answers) }
+        ensures keeps { (preserved_of self.new.answers directory name.now ≡ Some result)
+            ⊎ (self.new.answers ≡ self.old.answers) }
         ensures puts { IsPut self.old.answers directory name.now result self.new.answers }
     {
         if name.len() > NAME_V2 {
@@ -132,9 +134,11 @@ impl Lookup for CachedLookup {
     }
 
     fn changed(&mut self, directory: u16, name: &[u8])
-        ensures agrees { (map other : ℕ → List ℕ → Option ℕ) → FitsMap self.old.answers map → AlikeBut directory name.now map other → FitsMap self.new.answers other }
+        ensures agrees { (map other : ℕ → List ℕ → Option ℕ) → FitsMap self.old.answers map
+            → AlikeBut directory name.now map other → FitsMap self.new.answers other }
         ensures forgets { preserved_of self.new.answers directory name.now ≡ None }
-        ensures others { (d : ℕ) → (n : List ℕ) → ((d ≡ directory) × (n ≡ name.now) → ⊥) → preserved_of self.new.answers d n ≡ preserved_of self.old.answers d n }
+        ensures others { (d : ℕ) → (n : List ℕ) → ((d ≡ directory) × (n ≡ name.now) → ⊥)
+            → preserved_of self.new.answers d n ≡ preserved_of self.old.answers d n }
     {
         // The contract of `len` shows that the keys are distinct.
         let _ = self.answers.len();

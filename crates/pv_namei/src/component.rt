@@ -29,7 +29,8 @@ pub(crate) fn has_no_component(path: &[u8]) -> bool
 
 /// Returns the first component of a path and the rest after it, or `None` if the path has no component.
 pub(crate) fn split_first(path: &[u8]) -> Option<(&[u8], &[u8])>
-    ensures parts { MatchOption result (components path.now ≡ []) (λ r. components path.now ≡ r.0.now ∷ components r.1.now) }
+    ensures parts { MatchOption result (components path.now ≡ [])
+        (λ r. components path.now ≡ r.0.now ∷ components r.1.now) }
     ensures shorter { IfSome result (λ r. length r.1.now < length path.now) }
 {
     let Some(start) = first_other(path) else {

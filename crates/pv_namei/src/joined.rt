@@ -85,9 +85,11 @@ fn put_both(bytes: &mut ArrayVec<u8, WEIGHT>, first: &[u8], second: &[u8])
 
 // Appends the components of a path, with a slash after each. Fails with ENAMETOOLONG if they do not fit.
 fn push_components(bytes: &mut ArrayVec<u8, WEIGHT>, path: &[u8]) -> Result<(), Errno>
-    ensures ok { OnOk result (bytes.new.items ≡ bytes.old.items ++ with_slashes (components path.now)) }
+    ensures ok { OnOk result
+        (bytes.new.items ≡ bytes.old.items ++ with_slashes (components path.now)) }
     ensures fits { OnOk result (weight (components path.now) ≤ WEIGHT - length bytes.old.items) }
-    ensures too_long { OnErr result (WEIGHT - length bytes.old.items < weight (components path.now)) }
+    ensures too_long { OnErr result
+        (WEIGHT - length bytes.old.items < weight (components path.now)) }
     ensures err { IfErr result (λ e. e ≡ Errno.ENAMETOOLONG) }
 {
     let mut left = path;

@@ -1,9 +1,9 @@
 //! Resolving one component of a path.
 ghost use Rattle.std.specs.Prelude.{◌≡◌, ◌∷◌, nat_lt, length, IsTrue, List, Bool, IfOk};
 ghost use Rattle.pv_model.specs.Bytes.{Bytes};
-ghost use Rattle.pv_model.specs.Tree.{greatest_name, is_directory_at, find_entry, IsWellFormed};
+ghost use Rattle.pv_model.specs.Tree.{greatest_name, is_directory_at, find_entry};
 ghost use Rattle.pv_model.specs.Walk.{is_dot, is_dot_dot, along, PastLink};
-ghost use Rattle.pv_namei.specs.Onward.{led, named, IsLeadIn};
+ghost use Rattle.pv_namei.specs.Onward.{led, named, IsAtDirectory, IsLeadIn};
 
 use crate::lookup::Lookup;
 use pv_model::{Errno, Version};
@@ -43,7 +43,9 @@ fn is_too_long(version: Version, component: &[u8]) -> bool
 fn entry<L: Lookup>(tree: &Tree, lookup: &mut L, at: u16, component: &[u8]) -> Result<Lead, Errno>
     requires directory { IsTrue (is_directory_at tree.now.tree at) }
     requires agrees { L.agrees lookup.old (find_entry tree.now.tree) }
-    ensures leads { (last : Bool) → (following : PastLink) → (rest : List Bytes) → (mark : Bool) → named tree.now.tree last following rest mark at component.now ≡ led tree.now.tree last following rest mark at component.now result }
+    ensures leads { (last : Bool) → (following : PastLink) → (rest : List Bytes) → (mark : Bool)
+        → named tree.now.tree last following rest mark at component.now
+        ≡ led tree.now.tree last following rest mark at component.now result }
     ensures agrees { L.agrees lookup.new (find_entry tree.now.tree) }
     ensures lead { IfOk result (IsLeadIn tree.now.tree at component.now) }
 {
@@ -68,10 +70,11 @@ pub(crate) fn lead_along<L: Lookup>(
     at: u16,
     component: &[u8],
 ) -> Result<Lead, Errno>
-    requires well_formed { IsWellFormed tree.now.tree }
-    requires directory { IsTrue (is_directory_at tree.now.tree at) }
+    requires start { IsAtDirectory tree.now.tree at }
     requires agrees { L.agrees lookup.old (find_entry tree.now.tree) }
-    ensures leads { (last : Bool) → (following : PastLink) → (rest : List Bytes) → (mark : Bool) → along tree.now.tree last following (component.now ∷ rest) mark at ≡ led tree.now.tree last following rest mark at component.now result }
+    ensures leads { (last : Bool) → (following : PastLink) → (rest : List Bytes) → (mark : Bool)
+        → along tree.now.tree last following (component.now ∷ rest) mark at
+        ≡ led tree.now.tree last following rest mark at component.now result }
     ensures agrees { L.agrees lookup.new (find_entry tree.now.tree) }
     ensures lead { IfOk result (IsLeadIn tree.now.tree at component.now) }
 {

@@ -23,7 +23,8 @@ pub trait Lookup {
 
     /// Discards any cached answer for a name in a directory, whose entry may have changed.
     fn changed(&mut self, directory: u16, name: &[u8])
-        ensures { (map other : ℕ → List ℕ → Option ℕ) → agrees self.old map → AlikeBut directory name.now map other → agrees self.new other };
+        ensures { (map other : ℕ → List ℕ → Option ℕ) → agrees self.old map
+            → AlikeBut directory name.now map other → agrees self.new other };
 
     /// If a lookup agrees with a map, it agrees with every map that gives the same answers.
     ghost same_answers: { (lookup : Self) → (map other : ℕ → List ℕ → Option ℕ) → agrees lookup map → Alike map other → agrees lookup other };

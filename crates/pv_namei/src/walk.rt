@@ -3,7 +3,7 @@ ghost use Rattle.std.specs.Prelude.{◌≡◌, ◌≤◌, ◌<◌, length, take,
 ghost use Rattle.pv_model.specs.Calls.Paths.{link_text};
 ghost use Rattle.pv_model.specs.Tree.{node_at, is_directory_at, find_entry, IsWellFormed};
 ghost use Rattle.pv_model.specs.Walk.{follows_last, end_mark, resolve};
-ghost use Rattle.pv_namei.specs.Onward.{first_walk, remaining, followed, entered, settled, arrived, passed, IsStop, IsNearer};
+ghost use Rattle.pv_namei.specs.Onward.{first_walk, remaining, followed, entered, settled, arrived, passed, IsAtDirectory, IsStop, IsNearer};
 
 use crate::along::Along;
 use crate::component::{ends_in_slash, is_absolute};
@@ -52,11 +52,11 @@ impl WalkState {
         node: Option<u16>,
         rest: &Along<'_>,
     ) -> Step<'a>
-        requires well_formed { IsWellFormed tree.now.tree }
-        requires directory { IsTrue (is_directory_at tree.now.tree self.old.at) }
+        requires start { IsAtDirectory tree.now.tree self.old.at }
         requires entry { find_entry tree.now.tree self.old.at component.now ≡ node }
         requires short { length component.now ≤ NAME_V2 }
-        ensures onward { entered tree.now.tree self.old rest.now component.now node ≡ settled tree.now.tree self.new rest.now result }
+        ensures onward { entered tree.now.tree self.old rest.now component.now node
+            ≡ settled tree.now.tree self.new rest.now result }
         ensures stop { IfOk result (λ stop. IfSome stop (IsStop tree.now.tree)) }
         ensures directory { IsTrue (is_directory_at tree.now.tree self.new.at) }
         ensures links { self.new.links ≡ self.old.links }
@@ -86,10 +86,10 @@ impl WalkState {
 
     // Resolves the first of the remaining components.
     fn step<'a, L: Lookup>(&mut self, tree: &Tree, lookup: &mut L, rest: &mut Along<'a>) -> Step<'a>
-        requires well_formed { IsWellFormed tree.now.tree }
-        requires directory { IsTrue (is_directory_at tree.now.tree self.old.at) }
+        requires start { IsAtDirectory tree.now.tree self.old.at }
         requires agrees { L.agrees lookup.old (find_entry tree.now.tree) }
-        ensures onward { remaining tree.now.tree self.old rest.old ≡ settled tree.now.tree self.new rest.new result }
+        ensures onward { remaining tree.now.tree self.old rest.old
+            ≡ settled tree.now.tree self.new rest.new result }
         ensures stop { IfOk result (λ stop. IfSome stop (IsStop tree.now.tree)) }
         ensures directory { IsTrue (is_directory_at tree.now.tree self.new.at) }
         ensures links { self.new.links ≡ self.old.links }
@@ -115,10 +115,10 @@ impl WalkState {
         lookup: &mut L,
         rest: &mut Along<'a>,
     ) -> Result<Stop<'a>, Errno>
-        requires well_formed { IsWellFormed tree.now.tree }
-        requires directory { IsTrue (is_directory_at tree.now.tree self.old.at) }
+        requires start { IsAtDirectory tree.now.tree self.old.at }
         requires agrees { L.agrees lookup.old (find_entry tree.now.tree) }
-        ensures onward { remaining tree.now.tree self.old rest.old ≡ arrived tree.now.tree self.new rest.new result }
+        ensures onward { remaining tree.now.tree self.old rest.old
+            ≡ arrived tree.now.tree self.new rest.new result }
         ensures stop { IfOk result (IsStop tree.now.tree) }
         ensures directory { IsTrue (is_directory_at tree.now.tree self.new.at) }
         ensures links { self.new.links ≡ self.old.links }
@@ -142,11 +142,13 @@ impl WalkState {
         buffer: &mut [u8; PATH],
         joined: &mut Joined,
     ) -> Result<(), Errno>
-        requires well_formed { IsWellFormed tree.now.tree }
-        requires directory { IsTrue (is_directory_at tree.now.tree self.old.at) }
+        requires start { IsAtDirectory tree.now.tree self.old.at }
         requires link { IsSome (link_text (node_at tree.now.tree link)) }
-        ensures ok { OnOk result (followed tree.now.tree self.old rest.now (link_text (node_at tree.now.tree link)) ≡ remaining tree.now.tree self.new joined.new) }
-        ensures err { IfErr result (λ e. followed tree.now.tree self.old rest.now (link_text (node_at tree.now.tree link)) ≡ Err e) }
+        ensures ok { OnOk result
+            (followed tree.now.tree self.old rest.now (link_text (node_at tree.now.tree link))
+            ≡ remaining tree.now.tree self.new joined.new) }
+        ensures err { IfErr result (λ e. followed tree.now.tree self.old rest.now
+            (link_text (node_at tree.now.tree link)) ≡ Err e) }
         ensures directory { IsTrue (is_directory_at tree.now.tree self.new.at) }
         ensures fewer { OnOk result (self.new.links < self.old.links) }
     {
@@ -174,10 +176,10 @@ impl WalkState {
         buffer: &mut [u8; PATH],
         to: &mut Joined,
     ) -> Result<Option<Place>, Errno>
-        requires well_formed { IsWellFormed tree.now.tree }
-        requires directory { IsTrue (is_directory_at tree.now.tree self.old.at) }
+        requires start { IsAtDirectory tree.now.tree self.old.at }
         requires agrees { L.agrees lookup.old (find_entry tree.now.tree) }
-        ensures onward { remaining tree.now.tree self.old from.now ≡ passed result (remaining tree.now.tree self.new to.new) }
+        ensures onward { remaining tree.now.tree self.old from.now
+            ≡ passed result (remaining tree.now.tree self.new to.new) }
         ensures directory { IsTrue (is_directory_at tree.now.tree self.new.at) }
         ensures fewer { OnOk result (result ≡ Ok None → self.new.links < self.old.links) }
         ensures agrees { L.agrees lookup.new (find_entry tree.now.tree) }
@@ -201,11 +203,11 @@ impl WalkState {
         link: u16,
         rest: &Along<'_>,
     ) -> Result<Place, Errno>
-        requires well_formed { IsWellFormed tree.now.tree }
-        requires directory { IsTrue (is_directory_at tree.now.tree self.old.at) }
+        requires start { IsAtDirectory tree.now.tree self.old.at }
         requires link { IsSome (link_text (node_at tree.now.tree link)) }
         requires agrees { L.agrees lookup.old (find_entry tree.now.tree) }
-        ensures place { result ≡ followed tree.now.tree self.old rest.now (link_text (node_at tree.now.tree link)) }
+        ensures place { result ≡ followed tree.now.tree self.old rest.now
+            (link_text (node_at tree.now.tree link)) }
         ensures agrees { L.agrees lookup.new (find_entry tree.now.tree) }
     {
         let mut buffer = [0; PATH];
@@ -234,11 +236,11 @@ impl WalkState {
         rest: &Along<'_>,
         following: &'a mut Option<Place>,
     ) -> Result<PlaceRef<'a>, Errno>
-        requires well_formed { IsWellFormed tree.now.tree }
-        requires directory { IsTrue (is_directory_at tree.now.tree self.old.at) }
+        requires start { IsAtDirectory tree.now.tree self.old.at }
         requires link { IsSome (link_text (node_at tree.now.tree link)) }
         requires agrees { L.agrees lookup.old (find_entry tree.now.tree) }
-        ensures place { result ≡ followed tree.now.tree self.old rest.now (link_text (node_at tree.now.tree link)) }
+        ensures place { result ≡ followed tree.now.tree self.old rest.now
+            (link_text (node_at tree.now.tree link)) }
         ensures agrees { L.agrees lookup.new (find_entry tree.now.tree) }
     {
         *following = Some(self.go_after(tree, lookup, link, rest)?);

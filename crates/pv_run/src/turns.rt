@@ -5,8 +5,10 @@ ghost use Rattle.pv_model.specs.Grammar.Programs.{program_of};
 ghost use Rattle.pv_model.specs.Start.{started_on};
 ghost use Rattle.pv_model.specs.Step.{boot};
 ghost use Rattle.pv_model.specs.Stream.{Rose};
+ghost use Rattle.pv_model.specs.Trace.{trace_bytes};
 ghost use Rattle.pv_run.specs.Run.{IsFaultOnTree, IsSummaryOf, RefusesStart, StopsBy, BufferedOnlyIfCut, IsOutOfMemoryAtExecve, started_from};
-ghost use Rattle.pv_session.specs.Running.{BeginsLines, WrittenLines, run_of};
+ghost use Rattle.pv_session.specs.Running.{run_of};
+ghost use Rattle.pv_streams.specs.Sinks.{WritesOr};
 
 use pv_model::RunFault;
 use pv_script::Schedule;
@@ -72,15 +74,16 @@ pub(crate) fn make_turns<W: Sink>(
     ready: &mut Ready,
     trace: &mut W,
 ) -> Result<Summary, RunFault>
-    ensures after { OnOk result (ready.new.session ≡ (run_of ready.old.session ready.old.schedule).final) }
-    ensures ran { IfOk result (λ summary. IsSummaryOf (started_from ready.old.session ready.old.schedule) summary) }
-    ensures whole { OnOk result (WrittenLines (run_of ready.old.session ready.old.schedule).lines (W.written trace.old) (W.written trace.new)) }
-    ensures quiet { OnOk result (W.failures trace.new ≡ W.failures trace.old) }
-    ensures prefix { OnErr result (BeginsLines (run_of ready.old.session ready.old.schedule).lines (W.written trace.old) (W.written trace.new)) }
-    ensures failed { IfErr result (λ fault. StopsBy fault (W.failures trace.old) (W.failures trace.new)) }
+    ensures after { OnOk result
+        (ready.new.session ≡ (run_of ready.old.session ready.old.schedule).final) }
+    ensures ran { IfOk result
+        (IsSummaryOf (started_from ready.old.session ready.old.schedule)) }
+    ensures written { WritesOr W.Sink StopsBy
+        (trace_bytes (run_of ready.old.session ready.old.schedule).lines) trace.old trace.new result }
     ensures empty { OnOk result (W.buffered trace.new ≡ 0) }
     ensures stopped { IfErr result (λ fault. BufferedOnlyIfCut fault (W.buffered trace.new)) }
-    ensures memory { IfErr result (λ fault. IsOutOfMemoryAtExecve fault ready.old.schedule ready.old.session ready.new.session (W.written trace.old) (W.written trace.new)) }
+    ensures memory { IfErr result (λ fault. IsOutOfMemoryAtExecve fault ready.old.schedule
+        ready.old.session ready.new.session (W.written trace.old) (W.written trace.new)) }
 {
     let steps = step_count(ready.schedule.turns());
     match run_schedule(alloc, &mut ready.session, ready.schedule.turns(), trace) {

@@ -2,8 +2,10 @@
 ghost use Rattle.std.specs.Prelude.{◌≡◌, ◌*◌, ◌≤◌, length, replicate, IfOk, IfErr, OnOk, OnErr};
 ghost use Rattle.pv_model.specs.declared.limits.TheConstants.{SCHEDULE_LINES};
 ghost use Rattle.pv_model.specs.Step.{steps_of};
+ghost use Rattle.pv_model.specs.Trace.{trace_bytes};
 ghost use Rattle.pv_session.specs.Stopping.{StopsOn, StopsUnread};
-ghost use Rattle.pv_session.specs.Running.{BeginsLines, FailsBy, WrittenLines, stepped, turn, run_of};
+ghost use Rattle.pv_session.specs.Running.{FailsBy, turn, run_of};
+ghost use Rattle.pv_streams.specs.Sinks.{WritesOr};
 
 use crate::session::{Session, Stop};
 use pv_model::StepFault;
@@ -20,13 +22,13 @@ fn run_turn<W: Sink>(
     trace: &mut W,
 ) -> Result<u64, Stop>
     ensures after { OnOk result (session.new ≡ (turn session.old pid count).final) }
-    ensures whole { OnOk result (WrittenLines (turn session.old pid count).lines (W.written trace.old) (W.written trace.new)) }
+    ensures written { WritesOr W.Sink FailsBy
+        (trace_bytes (turn session.old pid count).lines) trace.old trace.new result }
     ensures lines { IfOk result (λ n. n ≡ length (turn session.old pid count).lines) }
     ensures few { IfOk result (λ n. n ≤ 7 * count) }
-    ensures prefix { OnErr result (BeginsLines (turn session.old pid count).lines (W.written trace.old) (W.written trace.new)) }
-    ensures failed { IfErr result (λ stop. FailsBy stop (W.failures trace.old) (W.failures trace.new)) }
-    ensures quiet { OnOk result (W.failures trace.new ≡ W.failures trace.old) }
-    ensures stopped { IfErr result (λ stop. StopsOn stop (replicate count pid) session.old session.new (W.written trace.old) (W.written trace.new)) }
+    ensures stopped { IfErr result
+        (λ stop. StopsOn stop (replicate count pid) session.old session.new
+        (W.written trace.old) (W.written trace.new)) }
 {
     let mut lines = 0;
     let mut made = 0;
@@ -56,12 +58,12 @@ pub fn run_schedule<W: Sink>(
 ) -> Result<u64, Stop>
     requires { length schedule.now ≤ SCHEDULE_LINES }
     ensures after { OnOk result (session.new ≡ (run_of session.old schedule.now).final) }
-    ensures whole { OnOk result (WrittenLines (run_of session.old schedule.now).lines (W.written trace.old) (W.written trace.new)) }
+    ensures written { WritesOr W.Sink FailsBy
+        (trace_bytes (run_of session.old schedule.now).lines) trace.old trace.new result }
     ensures lines { IfOk result (λ n. n ≡ length (run_of session.old schedule.now).lines) }
-    ensures prefix { OnErr result (BeginsLines (run_of session.old schedule.now).lines (W.written trace.old) (W.written trace.new)) }
-    ensures failed { IfErr result (λ stop. FailsBy stop (W.failures trace.old) (W.failures trace.new)) }
-    ensures quiet { OnOk result (W.failures trace.new ≡ W.failures trace.old) }
-    ensures stopped { IfErr result (λ stop. StopsOn stop (steps_of schedule.now) session.old session.new (W.written trace.old) (W.written trace.new)) }
+    ensures stopped { IfErr result
+        (λ stop. StopsOn stop (steps_of schedule.now) session.old session.new
+        (W.written trace.old) (W.written trace.new)) }
 {
     let mut lines = 0;
     for turn in schedule {

@@ -8,8 +8,9 @@ ghost use Rattle.pv_model.specs.Sealed.{audit as audit_by_definition, audit_node
 ghost use Rattle.pv_model.specs.Start.{booted};
 ghost use Rattle.pv_model.specs.State.{process_at};
 ghost use Rattle.pv_model.specs.Touch.{IsJustified};
-ghost use Rattle.pv_model.specs.Trace.{buffer_of};
+ghost use Rattle.pv_model.specs.Trace.{buffer_of, trace_bytes};
 ghost use Rattle.pv_calls.specs.Kernel.{IsCallable};
+ghost use Rattle.pv_calls_plain.specs.Performed.{answered};
 ghost use Rattle.pv_model.specs.Answer.{answer};
 ghost use Rattle.pv_calls_state.specs.Changes.{StepsInside};
 ghost use Rattle.pv_procs.specs.Turns.{AwaitsCall, CallsNext, IsFetched, RegisterNext};
@@ -18,7 +19,8 @@ ghost use Rattle.pv_session.specs.Audits.{KeepsSecret, KeepsSecretAt};
 ghost use Rattle.pv_session.specs.Restraints.{ChildBeginsAlike, GainsNothing, LeavesOthers};
 ghost use Rattle.pv_session.specs.declared.session.Stop.TheVariants.{Memory, Write};
 ghost use Rattle.pv_session.specs.Stopping.{NextLoads, StopsOn};
-ghost use Rattle.pv_session.specs.Running.{BeginsLines, FailsBy, WrittenLines, stepped, turn};
+ghost use Rattle.pv_session.specs.Running.{FailsBy, stepped, turn};
+ghost use Rattle.pv_streams.specs.Sinks.{WritesOr};
 
 use pv_audit::{audit, audit_node};
 use pv_calls::Kernel;
@@ -90,13 +92,13 @@ fn trace_call<W: Sink>(
     requires next { CallsNext call (process_at kernel.old.state pid) }
     requires callable { IsTrue (is_call (call_of call)) }
     ensures after { OnOk result (kernel.new.state ≡ (stepped kernel.old.state pid).after) }
-    ensures whole { OnOk result (WrittenLines (stepped kernel.old.state pid).lines (W.written trace.old) (W.written trace.new)) }
+    ensures written { WritesOr W.Sink FailsBy
+        (trace_bytes (stepped kernel.old.state pid).lines) trace.old trace.new result }
     ensures lines { IfOk result (λ n. n ≡ length (stepped kernel.old.state pid).lines) }
     ensures few { IfOk result (λ n. n ≤ 7) }
-    ensures prefix { OnErr result (BeginsLines (stepped kernel.old.state pid).lines (W.written trace.old) (W.written trace.new)) }
-    ensures failed { IfErr result (λ stop. FailsBy stop (W.failures trace.old) (W.failures trace.new)) }
-    ensures quiet { OnOk result (W.failures trace.new ≡ W.failures trace.old) }
-    ensures stopped { IfErr result (λ stop. StopsOn stop (pid ∷ []) kernel.old.state kernel.new.state (W.written trace.old) (W.written trace.new)) }
+    ensures stopped { IfErr result
+        (λ stop. StopsOn stop (pid ∷ []) kernel.old.state kernel.new.state
+        (W.written trace.old) (W.written trace.new)) }
 {
     let outcome = kernel.call(alloc, pid, call)?;
     let front = kernel.buffer(pid);
@@ -115,7 +117,8 @@ impl Session {
     pub fn new(alloc: Global, store: Store) -> Result<Session, BootFault>
         requires { IsFirstTree store }
         ensures booted { IfOk result (λ session. booted store ≡ Ok session) }
-        ensures refused { IfErr result (λ fault. (fault ≡ BootFault.Memory) ⊎ (booted store ≡ Err fault)) }
+        ensures refused { IfErr result
+            (λ fault. (fault ≡ BootFault.Memory) ⊎ (booted store ≡ Err fault)) }
     {
         let line_buffer = Box::new(alloc, LineBuffer::new())?;
         match Kernel::boot(alloc, store) {
@@ -231,7 +234,8 @@ impl Session {
     pub fn call(&mut self, alloc: Global, pid: u32, call: CallRef<'_>) -> Result<Answer, StepFault>
         requires next { CallsNext call (process_at self.old pid) }
         requires callable { IsTrue (is_call (call_of call)) }
-        ensures answered { IfOk result (λ a. answer program_of self.old pid (call_of call.entry) ≡ record { after = self.new; outcome = a.outcome; walks = a.walks }) }
+        ensures answered { IfOk result
+            (λ a. answer program_of self.old pid (call_of call.entry) ≡ answered self.new a) }
         ensures unchanged { OnErr result (self.new ≡ self.old) }
         ensures memory { OnErr result (NextLoads self.old pid) }
     {
@@ -301,13 +305,12 @@ impl Session {
         trace: &mut W,
     ) -> Result<u8, Stop>
         ensures after { OnOk result (self.new ≡ (stepped self.old pid).after) }
-        ensures whole { OnOk result (WrittenLines (stepped self.old pid).lines (W.written trace.old) (W.written trace.new)) }
+        ensures written { WritesOr W.Sink FailsBy
+            (trace_bytes (stepped self.old pid).lines) trace.old trace.new result }
         ensures lines { IfOk result (λ n. n ≡ length (stepped self.old pid).lines) }
         ensures few { IfOk result (λ n. n ≤ 7) }
-        ensures prefix { OnErr result (BeginsLines (stepped self.old pid).lines (W.written trace.old) (W.written trace.new)) }
-        ensures failed { IfErr result (λ stop. FailsBy stop (W.failures trace.old) (W.failures trace.new)) }
-        ensures quiet { OnOk result (W.failures trace.new ≡ W.failures trace.old) }
-        ensures stopped { IfErr result (λ stop. StopsOn stop (pid ∷ []) self.old self.new (W.written trace.old) (W.written trace.new)) }
+        ensures stopped { IfErr result (λ stop. StopsOn stop (pid ∷ []) self.old self.new
+            (W.written trace.old) (W.written trace.new)) }
     {
         let kernel = &mut *self.kernel;
         match kernel.step_or_fetch(pid, &mut self.texts) {

@@ -40,9 +40,13 @@ fn push_opened(key: &mut Vec<u8>, files: &OpenFiles, file: usize) -> Result<(), 
     push_name(key, files.last_name(file))
 }
 
-// Appends the open file of a number, if there is one.
+/// Appends the open file of a number, if there is one.
+///
+/// # Errors
+///
+/// `AllocError`, if there is no memory.
 #[tactic(auto, using(crate::proofs::Numbering::added_there))]
-fn push_file(key: &mut Vec<u8>, files: &OpenFiles, file: usize) -> Result<(), AllocError>
+pub fn push_file(key: &mut Vec<u8>, files: &OpenFiles, file: usize) -> Result<(), AllocError>
     ensures { OnOk result (IsAdded (option_numbers file_numbers (at_number files.now.files file)) key.old.items key.new.items) }
 {
     if !files.is_open(file) {

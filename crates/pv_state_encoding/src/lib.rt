@@ -17,6 +17,10 @@ mod states;
 mod trees;
 
 pub use encoded::{EncodedGroup, encoded_process};
-pub use numbers::push_number;
+pub use files::push_file;
+pub use numbers::{push_bool, push_items, push_number};
+pub use processes::{
+    count, group_ended, part_of_program, push_promises, push_registers, push_table,
+};
 pub use states::{encoded_counts, encoded_state, encoded_trees, state_groups};
-pub use trees::push_tree;
+pub use trees::{part_of_sizes, push_node_groups, push_tree};

@@ -34,18 +34,26 @@ fn push_each_register(key: &mut Vec<u8>, registers: &[i32]) -> Result<(), AllocE
     Ok(())
 }
 
-// Appends all registers.
+/// Appends all registers.
+///
+/// # Errors
+///
+/// `AllocError`, if there is no memory.
 #[tactic(auto, using(crate::proofs::Adding::added_then))]
-fn push_registers(key: &mut Vec<u8>, registers: &[i32]) -> Result<(), AllocError>
+pub fn push_registers(key: &mut Vec<u8>, registers: &[i32]) -> Result<(), AllocError>
     ensures { OnOk result (IsAdded (list_numbers integer_numbers registers.now) key.old.items key.new.items) }
 {
     push_number(key, registers.len() as u64)?;
     push_each_register(key, registers)
 }
 
-// Appends an optional set of promises.
+/// Appends an optional set of promises.
+///
+/// # Errors
+///
+/// `AllocError`, if there is no memory.
 #[tactic(auto, using(crate::proofs::Adding::added_then))]
-fn push_promises(key: &mut Vec<u8>, promises: Option<Promises>) -> Result<(), AllocError>
+pub fn push_promises(key: &mut Vec<u8>, promises: Option<Promises>) -> Result<(), AllocError>
     ensures { OnOk result (IsAdded (option_numbers number_numbers (bits_of promises)) key.old.items key.new.items) }
 {
     match promises {
@@ -139,9 +147,13 @@ fn push_each_entry(key: &mut Vec<u8>, table: &Table) -> Result<(), AllocError>
     Ok(())
 }
 
-// Appends a table, if there is one.
+/// Appends a table, if there is one.
+///
+/// # Errors
+///
+/// `AllocError`, if there is no memory.
 #[tactic(auto, using(crate::proofs::Adding::added_then))]
-pub(crate) fn push_table(key: &mut Vec<u8>, table: &Table) -> Result<(), AllocError>
+pub fn push_table(key: &mut Vec<u8>, table: &Table) -> Result<(), AllocError>
     ensures { OnOk result (IsAdded (option_numbers (list_numbers entry_numbers) table.now.table) key.old.items key.new.items) }
 {
     if table.is_empty() {
@@ -189,7 +201,7 @@ fn push_location(key: &mut Vec<u8>, owned: &ProcessRecord, parent: u32) -> Resul
     push_number(key, u64::from(owned.directory))
 }
 
-// Appends the same, then the lock and the promises.
+// Appends the line, the registers, the parent, the directory, the lock and the promises.
 #[tactic(auto, using(crate::proofs::Adding::added_both))]
 fn push_promised(key: &mut Vec<u8>, owned: &ProcessRecord, parent: u32) -> Result<(), AllocError>
     ensures { OnOk result (IsAdded (promised_numbers owned.now parent) key.old.items key.new.items) }
@@ -240,9 +252,13 @@ fn part_held(
     Ok(part)
 }
 
-// Returns the part of a program.
+/// Returns the part of a program.
+///
+/// # Errors
+///
+/// `AllocError`, if there is no memory.
 #[tactic(auto, using(crate::proofs::Grouping::added_whole))]
-fn part_of_program(alloc: Global, program: &Program) -> Result<Vec<u8>, AllocError>
+pub fn part_of_program(alloc: Global, program: &Program) -> Result<Vec<u8>, AllocError>
     ensures { IfOk result (λ part. part.items ≡ packed_all (list_numbers instruction_numbers program.now)) }
 {
     let mut part = Vec::new(alloc);
@@ -298,9 +314,13 @@ pub(crate) fn group_live(
     )
 }
 
-// Returns the group of a process that has ended.
+/// Returns the group of a process that has ended.
+///
+/// # Errors
+///
+/// `AllocError`, if there is no memory.
 #[tactic(auto, using(crate::proofs::Grouping::added_whole))]
-fn group_ended(
+pub fn group_ended(
     alloc: Global,
     pid: u32,
     parent: u32,
@@ -334,7 +354,7 @@ pub(crate) fn group_of_process(
 }
 
 /// Returns the number of processes, including those that have ended and are not yet waited for.
-pub(crate) fn count(processes: &Processes) -> u64
+pub fn count(processes: &Processes) -> u64
     ensures { result ≡ length processes.now.processes }
 {
     processes.invariant();

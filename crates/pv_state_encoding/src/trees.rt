@@ -187,7 +187,7 @@ pub fn push_tree(key: &mut Vec<u8>, tree: &Tree) -> Result<(), AllocError>
 ///
 /// `AllocError`, if there is no memory.
 #[tactic(auto, using(crate::proofs::Grouping::added_whole))]
-pub(crate) fn part_of_sizes(alloc: Global, tree: &Tree) -> Result<Vec<u8>, AllocError>
+pub fn part_of_sizes(alloc: Global, tree: &Tree) -> Result<Vec<u8>, AllocError>
     ensures { IfOk result (λ part. part.items ≡ tree_part tree.now.tree) }
 {
     let mut part = Vec::new(alloc);
@@ -240,7 +240,7 @@ fn end_of(from: u16, size: u16, count: u16) -> u16
 /// # Errors
 ///
 /// `AllocError`, if there is no memory.
-pub(crate) fn push_node_groups(
+pub fn push_node_groups(
     alloc: Global,
     groups: &mut Vec<Vec<Vec<u8>>>,
     tree: &Tree,

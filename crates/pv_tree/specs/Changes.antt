@@ -1,11 +1,11 @@
 -- Changes of a tree by calls.
-use Rattle.std.specs.Prelude.{ℕ, [], ◌∷◌, ◌||◌, ◌==◌, if◌then◌else◌, nat_lt, Option, None, Some}
+use Rattle.std.specs.Prelude.{◌≡◌, ◌≢◌, ℕ, [], ◌∷◌, ◌||◌, ◌==◌, if◌then◌else◌, nat_lt, IsTrue, Option, None, Some, IsSome}
 use Rattle.pv_model.specs.declared.version.Version.{Version}
 use Rattle.pv_model.specs.Bytes.{Bytes}
 use Rattle.pv_model.specs.Calls.Descriptors.{with_content}
 use Rattle.pv_model.specs.Effect.{bytes_of, overwrite, resize}
 use Rattle.pv_model.specs.Manifest.{empty_tree}
-use Rattle.pv_model.specs.Tree.{Tree, root, node_at, find_entry, with_entry, without_entry}
+use Rattle.pv_model.specs.Tree.{Tree, root, node_at, find_entry, is_directory_at, is_name, with_entry, without_entry}
 use Rattle.pv_dirs.specs.Trees.{without_node}
 pub use Rattle.pv_laws_trees.specs.NewNodes.{new_node, sort_of}
 
@@ -20,6 +20,24 @@ moved_node t d name e other (Some n) = with_entry (without_entry t d name) e oth
 -- the tree with the entry of one name moved to another
 abbrev pub moved : Tree → ℕ → Bytes → ℕ → Bytes → Tree
 moved t d name e other = moved_node t d name e other (find_entry t d name)
+
+-- a directory can get an entry of this name: the name is valid, and the directory has no such entry
+pub record IsNewName (t : Tree) (d : ℕ) (bytes : Bytes) : Type 0 where
+  pub directory : IsTrue (is_directory_at t d)
+  pub name : IsTrue (is_name t.version bytes)
+  pub absent : find_entry t d bytes ≡ None
+
+-- an entry of directory d can be moved to another name, in e: this name is valid, and not a name of the same node
+pub record IsOtherName (t : Tree) (d : ℕ) (old : Bytes) (e : ℕ) (new : Bytes) : Type 0 where
+  pub from : IsTrue (is_directory_at t d)
+  pub present : IsSome (find_entry t d old)
+  pub name : IsTrue (is_name t.version new)
+  pub apart : find_entry t e new ≢ find_entry t d old
+
+-- the node of an entry of directory d that is moved to another name, in e, and the node that had this name
+pub record AreMoved (t : Tree) (d : ℕ) (old : Bytes) (e : ℕ) (new : Bytes) (n : ℕ) (replaced : Option ℕ) : Type 0 where
+  pub node : find_entry t d old ≡ Some n
+  pub gone : replaced ≡ find_entry t e new
 
 -- the tree after a write to a file; a write of zero bytes changes nothing
 abbrev pub overwritten : Tree → ℕ → ℕ → Bytes → Tree

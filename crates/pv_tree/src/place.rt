@@ -77,7 +77,8 @@ impl<'a> PlaceRef<'a> {
 
     /// Returns the directory and the name of the place, or `None` if it has no name.
     pub fn name(&self) -> Option<(u16, &'a [u8])>
-        ensures { MatchOption result (name_of self.now ≡ None) (λ p. name_of self.now ≡ Some (p.0, p.1.now)) }
+        ensures { MatchOption result (name_of self.now ≡ None)
+            (λ p. name_of self.now ≡ Some (p.0, p.1.now)) }
     {
         match self.spot {
             Spot::At(directory, name, _) => Some((directory, name)),

@@ -1,8 +1,9 @@
 //! A tree before boot.
-ghost use Rattle.std.specs.Prelude.{◌≡◌, ◌+◌, ◌-◌, ◌*◌, ◌≤◌, vec_len, All, IfOk};
-ghost use Rattle.pv_model.specs.declared.limits.TheConstants.{BLOCK, INODES};
-ghost use Rattle.pv_model.specs.Image.{inode_blocks, greatest_blocks, IsImageOf};
+ghost use Rattle.std.specs.Prelude.{◌≡◌, ◌+◌, ◌-◌, ◌*◌, vec_len, All, IfOk};
+ghost use Rattle.pv_model.specs.declared.limits.TheConstants.{BLOCK};
+ghost use Rattle.pv_model.specs.Image.{inode_blocks, IsImageOf};
 ghost use Rattle.pv_model.specs.Tree.{Tree as Nodes};
+ghost use Rattle.pv_inodes.specs.Sizes.{AreImageSizes};
 ghost use Rattle.pv_dirs.specs.Images.{IsImage};
 ghost use Rattle.pv_tree.specs.Changes.{root_alone};
 ghost use Rattle.pv_tree.specs.Holding.{IsUnheld};
@@ -47,11 +48,9 @@ impl Store {
     ) -> Result<Store, AllocError>
         requires whole { vec_len zeros ≡ BLOCK * blocks }
         requires zeros { All (λ byte. byte ≡ 0) zeros.items }
-        requires some_inodes { 1 ≤ inodes }
-        requires few_inodes { inodes ≤ INODES }
-        requires some_blocks { inode_blocks version inodes + 1 ≤ blocks }
-        requires few_blocks { blocks ≤ greatest_blocks version }
-        ensures { IfOk result (λ store. store ≡ root_alone version (blocks - (inode_blocks version inodes + 1)) inodes) }
+        requires sizes { AreImageSizes version blocks inodes }
+        ensures { IfOk result (λ store.
+            store ≡ root_alone version (blocks - (inode_blocks version inodes + 1)) inodes) }
     {
         let tree = Tree::empty(alloc, zeros, blocks, inodes, version)?;
         Ok(Store {

@@ -3,12 +3,13 @@ ghost use Rattle.std.specs.Prelude.{◌≡◌, ◌+◌, ◌-◌, ◌*◌, ◌<�
 ghost use Rattle.std.specs.Option.{option_copied};
 ghost use Rattle.pv_model.specs.Calls.Descriptors.{next_name};
 ghost use Rattle.pv_model.specs.Effect.{size_of};
-ghost use Rattle.pv_model.specs.Image.{inode_blocks, greatest_blocks};
+ghost use Rattle.pv_model.specs.Image.{inode_blocks};
 ghost use Rattle.pv_model.specs.Room.{greatest_length};
 ghost use Rattle.pv_model.specs.Tree.{node_at, entries_at, is_directory_at, find_entry, names_of, parent, ancestors_within};
 ghost use Rattle.std.specs.List.{list_any};
 ghost use Rattle.pv_model.specs.declared.limits.TheConstants.{BLOCK};
 ghost use Rattle.pv_model.specs.Calls.Paths.{contains_directory};
+ghost use Rattle.pv_inodes.specs.Sizes.{AreImageSizes};
 ghost use Rattle.pv_dirs.specs.Listing.{IsNextName, IsNextNameOf};
 ghost use Rattle.pv_dirs.specs.Trees.{sort_of, bytes_at};
 ghost use Rattle.pv_tree.specs.Changes.{root_alone};
@@ -106,11 +107,9 @@ impl Tree {
     ) -> Result<Tree, AllocError>
         requires whole { vec_len zeros ≡ BLOCK * blocks }
         requires zeros { All (λ byte. byte ≡ 0) zeros.items }
-        requires some_inodes { 1 ≤ inodes }
-        requires few_inodes { inodes ≤ INODES }
-        requires some_blocks { inode_blocks version inodes + 1 ≤ blocks }
-        requires few_blocks { blocks ≤ greatest_blocks version }
-        ensures tree { IfOk result (λ tree. tree.tree ≡ root_alone version (blocks - (inode_blocks version inodes + 1)) inodes) }
+        requires sizes { AreImageSizes version blocks inodes }
+        ensures tree { IfOk result (λ tree. tree.tree
+            ≡ root_alone version (blocks - (inode_blocks version inodes + 1)) inodes) }
         ensures holds { IfOk result (λ tree. tree.holds ≡ replicate NUMBERS 0) }
     {
         let mut directories = Directories::empty(alloc, zeros, blocks, inodes, version)?;
@@ -251,8 +250,10 @@ impl Tree {
     /// no `last`. Returns `None` if no name follows.
     pub fn next_after(&self, directory: u16, last: Option<&[u8]>) -> Option<Name>
         requires { IsTrue (is_directory_at self.now.tree directory) }
-        ensures value { result ≡ next_name (option_copied last.entry) (entries_at self.now.tree directory) }
-        ensures least { IsNextName (option_copied last.entry) (entries_at self.now.tree directory) result }
+        ensures value { result
+            ≡ next_name (option_copied last.entry) (entries_at self.now.tree directory) }
+        ensures least { IsNextName (option_copied last.entry)
+            (entries_at self.now.tree directory) result }
     {
         self.directories.next_after(directory, last)
     }
@@ -269,8 +270,10 @@ impl Tree {
         before: u32,
     ) -> Option<(Name, u16)>
         requires { IsTrue (is_directory_at self.now.tree directory) }
-        ensures value { option_map (λ e. e.0) result ≡ next_name (option_copied last.entry) (entries_at self.now.tree directory) }
-        ensures least { IsNextName (option_copied last.entry) (entries_at self.now.tree directory) (option_map (λ e. e.0) result) }
+        ensures value { option_map (λ e. e.0) result
+            ≡ next_name (option_copied last.entry) (entries_at self.now.tree directory) }
+        ensures least { IsNextName (option_copied last.entry)
+            (entries_at self.now.tree directory) (option_map (λ e. e.0) result) }
         ensures node { IfSome result (λ e. find_entry self.now.tree directory e.0 ≡ Some e.1) }
     {
         self.directories.next_entry(directory, last, before)
@@ -299,7 +302,8 @@ impl Tree {
         requires used { IsSome (node_at self.now.tree node) }
         requires other { is_directory_at self.now.tree node ≡ false }
         requires within { at < length (bytes_at self.now.tree node) }
-        ensures run { result.now ≡ take (length result.now) (drop at (bytes_at self.now.tree node)) }
+        ensures run { result.now
+            ≡ take (length result.now) (drop at (bytes_at self.now.tree node)) }
         ensures some { 1 ≤ length result.now }
         ensures within { at + length result.now ≤ length (bytes_at self.now.tree node) }
     {
@@ -312,8 +316,10 @@ impl Tree {
     pub fn read_at(&self, node: u16, at: u32, buffer: &mut [u8]) -> usize
         requires used { IsSome (node_at self.now.tree node) }
         requires other { is_directory_at self.now.tree node ≡ false }
-        ensures count { result ≡ min (length buffer.old) (length (bytes_at self.now.tree node) - at) }
-        ensures bytes { buffer.new ≡ take result (drop at (bytes_at self.now.tree node)) ++ drop result buffer.old }
+        ensures count { result
+            ≡ min (length buffer.old) (length (bytes_at self.now.tree node) - at) }
+        ensures bytes { buffer.new
+            ≡ take result (drop at (bytes_at self.now.tree node)) ++ drop result buffer.old }
     {
         self.directories.read_at(node, at, buffer)
     }

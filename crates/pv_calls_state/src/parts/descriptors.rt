@@ -1,22 +1,21 @@
 //! Descriptors and their open files.
-ghost use Rattle.std.specs.Prelude.{◌≡◌, ◌≢◌, ℕ, ◌+◌, ◌<◌, [], ◌∷◌, if◌then◌else◌, IsSome, IsTrue, IfOk, IfErr, OnOk, OnErr, Some, None, IfSome, MatchOption, option_map, ok_or};
+ghost use Rattle.std.specs.Prelude.{◌≡◌, ◌<◌, [], ◌∷◌, if◌then◌else◌, IsSome, IsTrue, IfOk, IfErr, OnOk, OnErr, Some, None, IfSome, MatchOption, option_map, ok_or};
 ghost use Rattle.pv_files.specs.Counted.{with_opened};
 ghost use Rattle.pv_files.specs.Descriptors.{descriptor_under};
 ghost use Rattle.pv_laws_states.specs.States.{IsValid};
 ghost use Rattle.pv_model.specs.declared.errno.Errno.TheVariants.{EBADF, EMFILE};
-ghost use Rattle.pv_model.specs.declared.limits.TheConstants.{DESCRIPTORS, OPEN_FILES};
+ghost use Rattle.pv_model.specs.declared.limits.TheConstants.{DESCRIPTORS};
 ghost use Rattle.pv_model.specs.Calls.Descriptors.{close, dup, dup2, new_open_file, with_content, within};
-ghost use Rattle.pv_model.specs.Held.{collect};
 ghost use Rattle.pv_model.specs.Numbered.{at_number, least_free};
 ghost use Rattle.pv_model.specs.State.{Process, process_at, writes};
 ghost use Rattle.pv_model.specs.Sealed.{is_file};
 ghost use Rattle.pv_model.specs.Tree.{node_at, find_entry, is_name, is_directory_at};
-ghost use Rattle.pv_calls_state.specs.Attempts.{plainly, collected};
-ghost use Rattle.pv_calls_state.specs.Changes.{with_closed_descriptor, with_descriptor_at, with_opened_descriptor, with_node_opened, with_file_made};
+ghost use Rattle.pv_calls_state.specs.Attempts.{IsDone};
+ghost use Rattle.pv_calls_state.specs.Changes.{with_closed_descriptor, with_descriptor_at, with_opened_descriptor};
+ghost use Rattle.pv_calls_state.specs.Opening.{CanOpen, IsLeastDescriptor, LacksRoomForFile, MakesFile, OpensNode, References};
 ghost use Rattle.pv_calls_state.specs.Releasing.{at_most, HoldsOpened, Releases};
 ghost use Rattle.pv_procs.specs.ProcessTable.{process_in, update};
 ghost use Rattle.pv_tree.specs.Holding.{holds_at};
-ghost use Rattle.pv_tree.specs.Rooms.{refusal};
 ghost use Rattle.pv_laws_trees.specs.Tree.{Appears};
 
 use super::Parts;
@@ -63,8 +62,10 @@ fn release_some(tree: &mut Tree, files: &mut OpenFiles, file: Option<usize>)
 // of that open file.
 fn close_descriptor(processes: &mut Processes, pid: u32, d: i32) -> Result<usize, Errno>
     requires { IsSome (process_in processes.old pid) }
-    ensures file { (me : Process) → process_in processes.old pid ≡ Some me → result ≡ ok_or (option_map (λ e. e.file) (descriptor_under me.descriptors d)) EBADF }
-    ensures closed { OnOk result (processes.new ≡ update processes.old pid (with_closed_descriptor d)) }
+    ensures file { (me : Process) → process_in processes.old pid ≡ Some me
+        → result ≡ ok_or (option_map (λ e. e.file) (descriptor_under me.descriptors d)) EBADF }
+    ensures closed { OnOk result
+        (processes.new ≡ update processes.old pid (with_closed_descriptor d)) }
     ensures unchanged { OnErr result (processes.new ≡ processes.old) }
 {
     processes.invariant();
@@ -79,11 +80,14 @@ fn give_descriptor(
     close_on_exec: bool,
 ) -> Result<u8, Errno>
     requires { IsSome (process_in processes.old pid) }
-    ensures number { IfOk result (λ d. (me : Process) → process_in processes.old pid ≡ Some me → d ≡ least_free me.descriptors) }
+    ensures number { IfOk result
+        (λ d. (me : Process) → process_in processes.old pid ≡ Some me
+        → d ≡ least_free me.descriptors) }
     ensures in_range { IfOk result (λ d. d < DESCRIPTORS) }
-    ensures given { OnOk result (processes.new ≡ update processes.old pid (with_opened_descriptor file close_on_exec)) }
+    ensures given { OnOk result
+        (processes.new ≡ update processes.old pid (with_opened_descriptor file close_on_exec)) }
     ensures errno { IfErr result (λ e. e ≡ EMFILE) }
-    ensures full { OnErr result ((me : Process) → process_in processes.old pid ≡ Some me → least_free me.descriptors ≡ DESCRIPTORS) }
+    ensures full { OnErr result (IsLeastDescriptor (process_in processes.old pid) DESCRIPTORS) }
     ensures unchanged { OnErr result (processes.new ≡ processes.old) }
 {
     processes.invariant();
@@ -111,7 +115,7 @@ impl Parts {
     pub fn close(&mut self, pid: u32, d: i32) -> Result<u32, Errno>
         requires whole { IsValid self.old }
         requires live { IsSome (process_at self.old pid) }
-        ensures performed { (me : Process) → process_at self.old pid ≡ Some me → collected (close self.old pid me d) ≡ plainly self.new result }
+        ensures performed { IsDone (λ s me. close s pid me d) self.old pid self.new result }
         ensures unchanged { OnErr result (self.new ≡ self.old) }
     {
         self.tree.invariant();
@@ -133,7 +137,7 @@ impl Parts {
     pub fn dup(&mut self, pid: u32, d: i32) -> Result<u32, Errno>
         requires whole { IsValid self.old }
         requires live { IsSome (process_at self.old pid) }
-        ensures performed { (me : Process) → process_at self.old pid ≡ Some me → collected (dup self.old pid me d) ≡ plainly self.new result }
+        ensures performed { IsDone (λ s me. dup s pid me d) self.old pid self.new result }
         ensures unchanged { OnErr result (self.new ≡ self.old) }
     {
         self.tree.invariant();
@@ -154,7 +158,7 @@ impl Parts {
     pub fn dup2(&mut self, pid: u32, d: i32, e: i32) -> Result<u32, Errno>
         requires whole { IsValid self.old }
         requires live { IsSome (process_at self.old pid) }
-        ensures performed { (me : Process) → process_at self.old pid ≡ Some me → collected (dup2 self.old pid me d e) ≡ plainly self.new result }
+        ensures performed { IsDone (λ s me. dup2 s pid me d e) self.old pid self.new result }
         ensures unchanged { OnErr result (self.new ≡ self.old) }
     {
         self.tree.invariant();
@@ -181,11 +185,11 @@ impl Parts {
         requires whole { IsValid self.old }
         requires live { IsSome (process_at self.old pid) }
         requires there { IsSome (node_at self.old.tree node) }
-        requires cuts_a_file { IsTrue flags.truncate → IsTrue (is_file (node_at self.old.tree node)) }
-        requires descriptor { (me : Process) → process_at self.old pid ≡ Some me → least_free me.descriptors < DESCRIPTORS }
-        requires file { least_free self.old.files < OPEN_FILES }
-        ensures number { (me : Process) → process_at self.old pid ≡ Some me → least_free me.descriptors ≡ result }
-        ensures opened { (me : Process) → process_at self.old pid ≡ Some me → self.new ≡ collect (with_node_opened self.old pid me flags node) }
+        requires cuts_a_file { IsTrue flags.truncate
+            → IsTrue (is_file (node_at self.old.tree node)) }
+        requires room { CanOpen self.old.files (process_at self.old pid) }
+        ensures number { IsLeastDescriptor (process_at self.old pid) result }
+        ensures opened { OpensNode self.old pid flags node self.new }
     {
         self.tree.invariant();
         self.files.invariant();
@@ -223,12 +227,10 @@ impl Parts {
         requires directory { Appears self.old.tree directory }
         requires name { IsTrue (is_name self.old.tree.version name.now) }
         requires absent { find_entry self.old.tree directory name.now ≡ None }
-        requires descriptor { (me : Process) → process_at self.old pid ≡ Some me → least_free me.descriptors < DESCRIPTORS }
-        requires file { least_free self.old.files < OPEN_FILES }
-        ensures number { IfOk result (λ d. (me : Process) → process_at self.old pid ≡ Some me → least_free me.descriptors ≡ d) }
-        ensures opened { OnOk result ((me : Process) → process_at self.old pid ≡ Some me → self.new ≡ collect (with_file_made self.old pid me flags directory name.now)) }
-        ensures refused { IfErr result (λ why. (me : Process) → process_at self.old pid ≡ Some me → refusal (collect (with_file_made self.old pid me flags directory name.now)).tree ≡ Some why) }
-        ensures unchanged { OnErr result (self.new ≡ self.old) }
+        requires room { CanOpen self.old.files (process_at self.old pid) }
+        ensures made { IfOk result (MakesFile self.old pid flags directory name.now self.new) }
+        ensures lacks_room { IfErr result
+            (LacksRoomForFile self.old pid flags directory name.now self.new) }
     {
         self.tree.invariant();
         self.files.invariant();
@@ -250,7 +252,8 @@ impl Parts {
 // Truncates a file to no bytes, if `cuts`.
 fn cut_if(tree: &mut Tree, node: u16, cuts: bool)
     requires { IsTrue cuts → IsTrue (is_file (node_at tree.old.tree node)) }
-    ensures tree { tree.new.tree ≡ (if cuts then with_content tree.old.tree node [] else tree.old.tree) }
+    ensures tree { tree.new.tree
+        ≡ (if cuts then with_content tree.old.tree node [] else tree.old.tree) }
     ensures holds { tree.new.holds ≡ tree.old.holds }
 {
     tree.invariant();
@@ -273,14 +276,13 @@ fn open_node(
     requires live { IsSome (process_in processes.old pid) }
     requires there { IsSome (node_at tree.old.tree node) }
     requires few { holds_at tree.old node < 65535 }
-    requires descriptor { (me : Process) → process_in processes.old pid ≡ Some me → least_free me.descriptors < DESCRIPTORS }
-    requires file { least_free files.old.files < OPEN_FILES }
-    ensures tree { tree.new.tree ≡ tree.old.tree }
-    ensures more { holds_at tree.new node ≡ holds_at tree.old node + 1 }
-    ensures others { (other : ℕ) → other ≢ node → holds_at tree.new other ≡ holds_at tree.old other }
-    ensures files { files.new ≡ with_opened files.old (least_free files.old.files) (new_open_file flags node) }
-    ensures number { (me : Process) → process_in processes.old pid ≡ Some me → least_free me.descriptors ≡ result }
-    ensures processes { processes.new ≡ update processes.old pid (with_opened_descriptor (least_free files.old.files) flags.close_on_exec) }
+    requires room { CanOpen files.old.files (process_in processes.old pid) }
+    ensures referenced { References node tree.old tree.new }
+    ensures files { files.new
+        ≡ with_opened files.old (least_free files.old.files) (new_open_file flags node) }
+    ensures number { IsLeastDescriptor (process_in processes.old pid) result }
+    ensures processes { processes.new ≡ update processes.old pid
+        (with_opened_descriptor (least_free files.old.files) flags.close_on_exec) }
 {
     let Ok(file) = files.add(node, flags.mode, flags.append) else {
         unreachable!()

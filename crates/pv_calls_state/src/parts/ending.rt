@@ -7,7 +7,7 @@ ghost use Rattle.pv_model.specs.Held.{collect, held_by_table};
 ghost use Rattle.pv_model.specs.Numbered.{at_number};
 ghost use Rattle.pv_model.specs.State.{Process, process_at};
 ghost use Rattle.pv_model.specs.Tree.{node_at};
-ghost use Rattle.pv_calls_state.specs.Attempts.{plainly, collected};
+ghost use Rattle.pv_calls_state.specs.Attempts.{IsDone, collected};
 ghost use Rattle.pv_calls_state.specs.Counts.{times};
 ghost use Rattle.pv_calls_state.specs.Releasing.{files_on, if_marked, marked_of, HoldsOpened, Releases, Shares, Unreferences};
 ghost use Rattle.pv_procs.specs.Reaping.{waited};
@@ -37,7 +37,7 @@ impl Parts {
     pub fn fork(&mut self, pid: u32) -> Result<u32, Errno>
         requires whole { IsValid self.old }
         requires live { IsSome (process_at self.old pid) }
-        ensures performed { (me : Process) → process_at self.old pid ≡ Some me → collected (fork self.old pid me) ≡ plainly self.new result }
+        ensures performed { IsDone (λ s me. fork s pid me) self.old pid self.new result }
         ensures unchanged { OnErr result (self.new ≡ self.old) }
     {
         self.tree.invariant();
@@ -55,7 +55,8 @@ impl Parts {
     /// Waits for an ended child, as wait(2). The ended child with the lowest number is reported and removed.
     pub fn reap(&mut self, pid: u32) -> Reap
         requires { IsSome (process_at self.old pid) }
-        ensures performed { (me : Process) → process_at self.old pid ≡ Some me → collected (wait self.old pid me) ≡ waited result self.new }
+        ensures performed { (me : Process) → process_at self.old pid ≡ Some me
+            → collected (wait self.old pid me) ≡ waited result self.new }
         ensures blocked { result ≡ Reap.Blocked → self.new ≡ self.old }
         ensures unchanged { result ≡ Reap.NoChild → self.new ≡ self.old }
     {
@@ -70,7 +71,8 @@ impl Parts {
     pub fn end(&mut self, pid: u32, status: u32)
         requires whole { IsValid self.old }
         requires live { IsSome (process_at self.old pid) }
-        ensures { (me : Process) → process_at self.old pid ≡ Some me → self.new ≡ collect (end_process self.old pid me status) }
+        ensures { (me : Process) → process_at self.old pid ≡ Some me
+            → self.new ≡ collect (end_process self.old pid me status) }
     {
         self.tree.invariant();
         self.files.invariant();
@@ -87,7 +89,8 @@ impl Parts {
     pub fn load(&mut self, pid: u32, program: Program)
         requires whole { IsValid self.old }
         requires live { IsSome (process_at self.old pid) }
-        ensures { self.new ≡ collect (update self.old pid (λ me. with_program self.old pid me program)) }
+        ensures { self.new ≡ collect
+            (update self.old pid (λ me. with_program self.old pid me program)) }
     {
         self.tree.invariant();
         self.files.invariant();
@@ -120,8 +123,10 @@ fn marked_file_at(descriptors: &Descriptors, d: u8) -> Option<usize>
 
 // Adds one user to the open file of each descriptor.
 fn share(files: &mut OpenFiles, descriptors: &Descriptors)
-    requires opened { (k : ℕ) → 0 < times k (files_on descriptors.now) → IsSome (at_number files.old.files k) }
-    requires room { (k : ℕ) → slice_index files.old.users k + times k (files_on descriptors.now) ≤ 65535 }
+    requires opened { (k : ℕ) → 0 < times k (files_on descriptors.now)
+        → IsSome (at_number files.old.files k) }
+    requires room { (k : ℕ)
+        → slice_index files.old.users k + times k (files_on descriptors.now) ≤ 65535 }
     ensures { Shares (files_on descriptors.now) [] files.old files.new }
 {
     descriptors.invariant();
@@ -151,9 +156,11 @@ fn release_all(tree: &mut Tree, files: &mut OpenFiles, descriptors: &Descriptors
 
 // Removes one user from the open file of each descriptor that is marked close-on-exec.
 fn release_marked(tree: &mut Tree, files: &mut OpenFiles, descriptors: &Descriptors)
-    requires used { (k : ℕ) → times k (files_on (marked_of descriptors.now)) ≤ slice_index files.old.users k }
+    requires used { (k : ℕ)
+        → times k (files_on (marked_of descriptors.now)) ≤ slice_index files.old.users k }
     requires held { HoldsOpened tree.old files.old }
-    ensures { Releases (files_on (marked_of descriptors.now)) [] tree.old files.old tree.new files.new }
+    ensures { Releases (files_on (marked_of descriptors.now))
+        [] tree.old files.old tree.new files.new }
 {
     tree.invariant();
     descriptors.invariant();
@@ -167,10 +174,13 @@ fn release_marked(tree: &mut Tree, files: &mut OpenFiles, descriptors: &Descript
 
 // Adds one reference to the directory of each target.
 fn hold_targets(tree: &mut Tree, table: &Table)
-    requires there { (n : ℕ) → 0 < times n (held_by_table table.now.table) → IsSome (node_at tree.old.tree n) }
-    requires room { (n : ℕ) → holds_at tree.old n + times n (held_by_table table.now.table) ≤ 65535 }
+    requires there { (n : ℕ) → 0 < times n (held_by_table table.now.table)
+        → IsSome (node_at tree.old.tree n) }
+    requires room { (n : ℕ)
+        → holds_at tree.old n + times n (held_by_table table.now.table) ≤ 65535 }
     ensures tree { tree.new.tree ≡ tree.old.tree }
-    ensures holds { (n : ℕ) → holds_at tree.new n ≡ holds_at tree.old n + times n (held_by_table table.now.table) }
+    ensures holds { (n : ℕ)
+        → holds_at tree.new n ≡ holds_at tree.old n + times n (held_by_table table.now.table) }
 {
     for k in 0..table.len() as u8 {
         tree.hold(directory_of(table.target(k)));

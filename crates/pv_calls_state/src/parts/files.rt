@@ -1,16 +1,15 @@
 //! Offsets and bytes of open files.
-ghost use Rattle.std.specs.Prelude.{ℕ, ◌≡◌, ◌≤◌, ◌<◌, take, IsSome, IsTrue, IfErr, OnOk, OnErr, Some, option_map};
+ghost use Rattle.std.specs.Prelude.{◌≡◌, ◌≤◌, ◌<◌, IsSome, IsTrue, IfErr, OnOk, OnErr, Some, option_map};
 ghost use Rattle.pv_laws_states.specs.States.{IsValid};
 ghost use Rattle.pv_model.specs.declared.limits.TheConstants.{BUFFER};
-ghost use Rattle.pv_model.specs.Calls.Descriptors.{with_bytes_written};
 ghost use Rattle.pv_model.specs.Effect.{with_file};
-ghost use Rattle.pv_model.specs.Held.{collect};
 ghost use Rattle.pv_model.specs.Numbered.{at_number};
 ghost use Rattle.pv_model.specs.Sealed.{is_file};
-ghost use Rattle.pv_model.specs.State.{OpenFile, Process, process_at, with_tree};
+ghost use Rattle.pv_model.specs.State.{process_at};
 ghost use Rattle.pv_model.specs.Tree.{node_at};
+ghost use Rattle.pv_calls_state.specs.Changes.{ChangesTree};
+ghost use Rattle.pv_calls_state.specs.Writing.{IsOnFile, LacksRoomForFront, WritesFront};
 ghost use Rattle.pv_tree.specs.Changes.{resized};
-ghost use Rattle.pv_tree.specs.Rooms.{refusal};
 
 use super::Parts;
 use pv_model::Name;
@@ -20,7 +19,8 @@ impl Parts {
     /// Sets the offset of an open file, for all its users.
     pub fn set_offset(&mut self, file: usize, offset: u32)
         requires { IsSome (at_number self.old.files file) }
-        ensures { option_map (λ f. with_file self.old file (record f { offset = offset })) (at_number self.old.files file) ≡ Some self.new }
+        ensures { option_map (λ f. with_file self.old file (record f { offset = offset }))
+            (at_number self.old.files file) ≡ Some self.new }
     {
         self.files.set_offset(file, offset);
     }
@@ -28,7 +28,8 @@ impl Parts {
     /// Sets the last name that getdents(2) gave from an open file.
     pub fn set_last_name(&mut self, file: usize, name: Name)
         requires { IsSome (at_number self.old.files file) }
-        ensures { option_map (λ f. with_file self.old file (record f { listed = Some name })) (at_number self.old.files file) ≡ Some self.new }
+        ensures { option_map (λ f. with_file self.old file (record f { listed = Some name }))
+            (at_number self.old.files file) ≡ Some self.new }
     {
         self.files.set_last_name(file, name);
     }
@@ -47,12 +48,9 @@ impl Parts {
         requires live { IsSome (process_at self.old pid) }
         requires some { 0 < count }
         requires few { count ≤ BUFFER }
-        requires opened { (f : OpenFile) → at_number self.old.files file ≡ Some f → IsTrue (is_file (node_at self.old.tree f.node)) }
-        requires there { IsSome (at_number self.old.files file) }
-        ensures written { OnOk result ((me : Process) (f : OpenFile) → process_at self.old pid ≡ Some me → at_number self.old.files file ≡ Some f
-            → self.new ≡ collect (with_bytes_written self.old pid me file f at (take count me.buffer))) }
-        ensures refused { IfErr result (λ why. (me : Process) (f : OpenFile) → process_at self.old pid ≡ Some me → at_number self.old.files file ≡ Some f
-            → refusal (collect (with_bytes_written self.old pid me file f at (take count me.buffer))).tree ≡ Some why) }
+        requires on_file { IsOnFile self.old file }
+        ensures written { OnOk result (WritesFront self.old pid file at count self.new) }
+        ensures refused { IfErr result (LacksRoomForFront self.old pid file at count) }
         ensures unchanged { OnErr result (self.new ≡ self.old) }
     {
         self.tree.invariant();
@@ -72,9 +70,7 @@ impl Parts {
     pub fn resize(&mut self, node: u16, size: u32) -> Result<(), Space>
         requires whole { IsValid self.old }
         requires file { IsTrue (is_file (node_at self.old.tree node)) }
-        ensures resized { OnOk result (self.new ≡ collect (with_tree self.old (resized self.old.tree node size))) }
-        ensures refused { IfErr result (λ why. refusal (collect (with_tree self.old (resized self.old.tree node size))).tree ≡ Some why) }
-        ensures unchanged { OnErr result (self.new ≡ self.old) }
+        ensures { ChangesTree result self.old self.new (resized self.old.tree node size) }
     {
         self.tree.invariant();
         self.files.invariant();

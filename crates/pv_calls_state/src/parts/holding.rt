@@ -42,8 +42,12 @@ fn put_directory(processes: &mut Processes, pid: u32, directory: u16)
 // Adds an entry for a target to a table, or sets the permissions of the existing entry. Returns whether the entry is
 // new.
 fn add_to_table(table: &mut Table, target: Target, permissions: Perms) -> Result<bool, AddFault>
-    ensures added { OnOk result (IsSomeAnd table.new.table (λ entries. add_to table.old target permissions ≡ give entries)) }
-    ensures longer { IfOk result (λ is_new. is_new ≡ nat_lt (length (entries_of_table table.old.table)) (length (entries_of_table table.new.table))) }
+    ensures added { OnOk result
+        (IsSomeAnd table.new.table
+        (λ entries. add_to table.old target permissions ≡ give entries)) }
+    ensures longer { IfOk result
+        (λ is_new. is_new ≡ nat_lt (length (entries_of_table table.old.table))
+        (length (entries_of_table table.new.table))) }
     ensures lock_stays { table.new.locked ≡ table.old.locked }
     ensures refused { IfErr result (λ fault. add_to table.old target permissions ≡ refusal fault) }
     ensures unchanged { OnErr result (table.new ≡ table.old) }
@@ -62,8 +66,12 @@ fn add_entry(
     permissions: Perms,
 ) -> Result<bool, AddFault>
     requires { IsSome (process_in processes.old pid) }
-    ensures added { IfOk result (λ is_new. (me : Process) → process_in processes.old pid ≡ Some me → AddsEntry processes.old pid me target permissions is_new processes.new) }
-    ensures refused { IfErr result (λ fault. (me : Process) → process_in processes.old pid ≡ Some me → add_to (unveiled_of me) target permissions ≡ refusal fault) }
+    ensures added { IfOk result
+        (λ is_new. (me : Process) → process_in processes.old pid ≡ Some me
+        → AddsEntry processes.old pid me target permissions is_new processes.new) }
+    ensures refused { IfErr result
+        (λ fault. (me : Process) → process_in processes.old pid ≡ Some me
+        → add_to (unveiled_of me) target permissions ≡ refusal fault) }
     ensures unchanged { OnErr result (processes.new ≡ processes.old) }
 {
     processes.invariant();
@@ -75,7 +83,9 @@ fn hold_if(tree: &mut Tree, directory: u16, is_new: bool)
     requires node { IsSome (node_at tree.old.tree directory) }
     requires few { holds_at tree.old directory < 65535 }
     ensures tree { tree.new.tree ≡ tree.old.tree }
-    ensures more { (n : ℕ) → holds_at tree.new n ≡ holds_at tree.old n + times n (if is_new then directory ∷ [] else []) }
+    ensures more { (n : ℕ)
+        → holds_at tree.new n
+        ≡ holds_at tree.old n + times n (if is_new then directory ∷ [] else []) }
 {
     if is_new {
         tree.hold(directory);
@@ -107,8 +117,12 @@ impl Parts {
         requires whole { IsValid self.old }
         requires live { IsSome (process_at self.old pid) }
         requires there { IsSome (node_at self.old.tree (target_directory target)) }
-        ensures added { OnOk result ((me : Process) → process_at self.old pid ≡ Some me → Unveils self.old pid me target permissions self.new) }
-        ensures refused { IfErr result (λ fault. (me : Process) → process_at self.old pid ≡ Some me → add_to (unveiled_of me) target permissions ≡ refusal fault) }
+        ensures added { OnOk result
+            ((me : Process) → process_at self.old pid ≡ Some me
+            → Unveils self.old pid me target permissions self.new) }
+        ensures refused { IfErr result
+            (λ fault. (me : Process) → process_at self.old pid ≡ Some me
+            → add_to (unveiled_of me) target permissions ≡ refusal fault) }
         ensures unchanged { OnErr result (self.new ≡ self.old) }
     {
         self.tree.invariant();

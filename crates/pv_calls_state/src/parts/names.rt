@@ -1,12 +1,12 @@
 //! Names: new nodes, links, unlinking and renaming.
-ghost use Rattle.std.specs.Prelude.{◌≡◌, ◌≢◌, [], IsSome, IsTrue, IfOk, IfErr, IfSome, OnOk, OnErr, Some, None, false};
+ghost use Rattle.std.specs.Prelude.{◌≡◌, [], IsSome, IsTrue, IfSome, None, false};
 ghost use Rattle.pv_laws_states.specs.States.{IsValid};
 ghost use Rattle.pv_model.specs.Calls.Paths.{contains_directory, entries_there};
 ghost use Rattle.pv_model.specs.Held.{collect};
 ghost use Rattle.pv_model.specs.State.{with_tree};
-ghost use Rattle.pv_model.specs.Tree.{node_at, find_entry, is_directory_at, is_name, is_node, new_number, with_entry, without_entry, with_new_node};
-ghost use Rattle.pv_tree.specs.Changes.{moved, new_node};
-ghost use Rattle.pv_tree.specs.Rooms.{refusal};
+ghost use Rattle.pv_model.specs.Tree.{node_at, find_entry, is_directory_at, is_name, is_node, with_entry, without_entry, with_new_node};
+ghost use Rattle.pv_calls_state.specs.Changes.{ChangesTree};
+ghost use Rattle.pv_tree.specs.Changes.{moved, new_node, IsOtherName};
 ghost use Rattle.pv_laws_trees.specs.Tree.{Appears};
 
 use super::Parts;
@@ -28,9 +28,8 @@ impl Parts {
         requires name { IsTrue (is_name self.old.tree.version name.now) }
         requires absent { find_entry self.old.tree directory name.now ≡ None }
         requires text { IsTrue (is_node self.old.tree.version (new_node kind)) }
-        ensures made { OnOk result (self.new ≡ collect (with_tree self.old (with_new_node self.old.tree directory name.now (new_node kind.entry)))) }
-        ensures refused { IfErr result (λ why. refusal (collect (with_tree self.old (with_new_node self.old.tree directory name.now (new_node kind.entry)))).tree ≡ Some why) }
-        ensures unchanged { OnErr result (self.new ≡ self.old) }
+        ensures { ChangesTree result self.old self.new
+            (with_new_node self.old.tree directory name.now (new_node kind.entry)) }
     {
         self.tree.invariant();
         self.files.invariant();
@@ -50,9 +49,8 @@ impl Parts {
         requires absent { find_entry self.old.tree directory name.now ≡ None }
         requires node { IsSome (node_at self.old.tree node) }
         requires other { is_directory_at self.old.tree node ≡ false }
-        ensures linked { OnOk result (self.new ≡ collect (with_tree self.old (with_entry self.old.tree directory name.now node))) }
-        ensures refused { IfErr result (λ why. refusal (collect (with_tree self.old (with_entry self.old.tree directory name.now node))).tree ≡ Some why) }
-        ensures unchanged { OnErr result (self.new ≡ self.old) }
+        ensures { ChangesTree result self.old self.new
+            (with_entry self.old.tree directory name.now node) }
     {
         self.tree.invariant();
         self.files.invariant();
@@ -64,8 +62,10 @@ impl Parts {
         requires whole { IsValid self.old }
         requires directory { IsTrue (is_directory_at self.old.tree directory) }
         requires present { IsSome (find_entry self.old.tree directory name.now) }
-        requires empty { entries_there self.old.tree (find_entry self.old.tree directory name.now) ≡ [] }
-        ensures { self.new ≡ collect (with_tree self.old (without_entry self.old.tree directory name.now)) }
+        requires empty { entries_there self.old.tree
+            (find_entry self.old.tree directory name.now) ≡ [] }
+        ensures { self.new
+            ≡ collect (with_tree self.old (without_entry self.old.tree directory name.now)) }
     {
         self.files.invariant();
         self.tree.unlink(directory, name);
@@ -81,16 +81,14 @@ impl Parts {
     /// The state is unchanged after an error.
     pub fn rename(&mut self, from: u16, name: &[u8], to: u16, other: &[u8]) -> Result<(), Space>
         requires whole { IsValid self.old }
-        requires from { IsTrue (is_directory_at self.old.tree from) }
-        requires present { IsSome (find_entry self.old.tree from name.now) }
+        requires entry { IsOtherName self.old.tree from name.now to other.now }
         requires to { Appears self.old.tree to }
-        requires name { IsTrue (is_name self.old.tree.version other.now) }
-        requires clear { IfSome (find_entry self.old.tree from name.now) (λ n. contains_directory self.old.tree n to ≡ false) }
-        requires apart { find_entry self.old.tree to other.now ≢ find_entry self.old.tree from name.now }
-        requires empty { entries_there self.old.tree (find_entry self.old.tree to other.now) ≡ [] }
-        ensures moved { OnOk result (self.new ≡ collect (with_tree self.old (moved self.old.tree from name.now to other.now))) }
-        ensures refused { IfErr result (λ why. refusal (collect (with_tree self.old (moved self.old.tree from name.now to other.now))).tree ≡ Some why) }
-        ensures unchanged { OnErr result (self.new ≡ self.old) }
+        requires clear { IfSome (find_entry self.old.tree from name.now)
+            (λ n. contains_directory self.old.tree n to ≡ false) }
+        requires empty { entries_there self.old.tree
+            (find_entry self.old.tree to other.now) ≡ [] }
+        ensures { ChangesTree result self.old self.new
+            (moved self.old.tree from name.now to other.now) }
     {
         self.files.invariant();
         self.tree.rename(from, name, to, other)

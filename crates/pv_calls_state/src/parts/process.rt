@@ -20,7 +20,8 @@ fn read_part(tree: &Tree, node: u16, at: u32, count: usize, buffer: &mut [u8]) -
     requires file { IsTrue (is_file (node_at tree.now.tree node)) }
     requires room { count ≤ length buffer.old }
     ensures count { result ≡ length (bytes_read tree.now.tree node at count) }
-    ensures front { let bytes = bytes_read tree.now.tree node at count in buffer.new ≡ bytes ++ drop (length bytes) buffer.old }
+    ensures front { let bytes = bytes_read tree.now.tree node at count in
+        buffer.new ≡ bytes ++ drop (length bytes) buffer.old }
 {
     tree.read_at(node, at, &mut buffer[..count])
 }
@@ -81,7 +82,8 @@ impl Parts {
         requires file { IsTrue (is_file (node_at self.old.tree node)) }
         requires few { count ≤ BUFFER }
         ensures count { result ≡ length (bytes_read self.old.tree node at count) }
-        ensures front { self.new ≡ update self.old pid (with_front (bytes_read self.old.tree node at count)) }
+        ensures front { self.new
+            ≡ update self.old pid (with_front (bytes_read self.old.tree node at count)) }
     {
         self.processes.invariant();
         let buffer = self.processes.record_mut(pid).context.buffer_mut();
@@ -91,7 +93,8 @@ impl Parts {
     /// Sets the promises and execpromises of a live process.
     pub fn set_pledge(&mut self, pid: u32, pledge: Pledge)
         requires { IsSome (process_at self.old pid) }
-        ensures { self.new ≡ update self.old pid (λ p. record p { promises = pledge.promises; execpromises = pledge.execpromises }) }
+        ensures { self.new ≡ update self.old pid
+            (λ p. record p { promises = pledge.promises; execpromises = pledge.execpromises }) }
     {
         self.processes.invariant();
         self.processes.record_mut(pid).pledge = pledge;

@@ -1,5 +1,5 @@
 //! Writing the contents of files.
-ghost use Rattle.std.specs.Prelude.{◌≡◌, ◌+◌, ◌<◌, ◌≤◌, false, length, IsTrue, None, Some, IfErr, OnOk, OnErr};
+ghost use Rattle.std.specs.Prelude.{◌≡◌, ◌+◌, ◌<◌, ◌≤◌, false, length, IsTrue, OnOk};
 ghost use Rattle.std.specs.Result.{is_err};
 ghost use Rattle.pv_dirs.specs.Trees.{bytes_at};
 ghost use Rattle.pv_model.specs.Room.{greatest_length};
@@ -8,7 +8,7 @@ ghost use Rattle.pv_model.specs.Tree.{node_at, find_entry};
 ghost use Rattle.pv_laws_trees.specs.Found.{Alike};
 ghost use Rattle.pv_tree.specs.Changes.{overwritten, resized};
 ghost use Rattle.pv_tree.specs.Holding.{with_tree};
-ghost use Rattle.pv_tree.specs.Rooms.{refusal};
+ghost use Rattle.pv_tree.specs.Rooms.{HeldTreeChanges};
 
 use super::Tree;
 use pv_inodes::Space;
@@ -23,11 +23,10 @@ impl Tree {
     /// free blocks. If the call fails, nothing changes.
     pub fn write_at(&mut self, node: u16, at: u32, bytes: &[u8]) -> Result<(), Space>
         requires { IsTrue (is_file (node_at self.old.tree node)) }
-        ensures ok { OnOk result (self.new ≡ with_tree self.old (overwritten self.old.tree node at bytes.now)) }
-        ensures err { OnErr result (self.new ≡ self.old) }
-        ensures allowed { OnOk result (refusal (overwritten self.old.tree node at bytes.now) ≡ None) }
-        ensures refused { IfErr result (λ why. refusal (overwritten self.old.tree node at bytes.now) ≡ Some why) }
-        ensures end { OnOk result (0 < length bytes.now → at + length bytes.now ≤ greatest_length self.old.tree.version) }
+        ensures change { HeldTreeChanges result self.old self.new
+            (with_tree self.old (overwritten self.old.tree node at bytes.now)) }
+        ensures end { OnOk result (0 < length bytes.now
+            → at + length bytes.now ≤ greatest_length self.old.tree.version) }
         ensures found { Alike (find_entry self.old.tree) (find_entry self.new.tree) }
     {
         self.directories.write_at(node, at, bytes)
@@ -41,11 +40,10 @@ impl Tree {
     /// free blocks. If the call fails, nothing changes. A truncation never fails.
     pub fn cut(&mut self, node: u16, size: u32) -> Result<(), Space>
         requires { IsTrue (is_file (node_at self.old.tree node)) }
-        ensures ok { OnOk result (self.new ≡ with_tree self.old (resized self.old.tree node size)) }
-        ensures err { OnErr result (self.new ≡ self.old) }
-        ensures allowed { OnOk result (refusal (resized self.old.tree node size) ≡ None) }
-        ensures refused { IfErr result (λ why. refusal (resized self.old.tree node size) ≡ Some why) }
-        ensures shorter { size ≤ length (bytes_at self.old.tree node) → is_err result ≡ false }
+        ensures change { HeldTreeChanges result self.old self.new
+            (with_tree self.old (resized self.old.tree node size)) }
+        ensures shorter { size ≤ length (bytes_at self.old.tree node)
+            → is_err result ≡ false }
         ensures found { Alike (find_entry self.old.tree) (find_entry self.new.tree) }
     {
         self.directories.cut(node, size)

@@ -27,7 +27,8 @@ impl Tree {
         ensures tree { self.new.tree ≡ self.old.tree }
         ensures holds { self.new.holds ≡ held_more self.old.holds node }
         ensures more { holds_at self.new node ≡ holds_at self.old node + 1 }
-        ensures others { (other : ℕ) → other ≢ node → holds_at self.new other ≡ holds_at self.old other }
+        ensures others { (other : ℕ) → other ≢ node
+            → holds_at self.new other ≡ holds_at self.old other }
     {
         self.holds[node as usize] += 1;
     }
@@ -38,7 +39,8 @@ impl Tree {
         ensures tree { self.new.tree ≡ collected self.old.tree (held_less self.old.holds node) }
         ensures holds { self.new.holds ≡ held_less self.old.holds node }
         ensures less { holds_at self.new node + 1 ≡ holds_at self.old node }
-        ensures others { (other : ℕ) → other ≢ node → holds_at self.new other ≡ holds_at self.old other }
+        ensures others { (other : ℕ) → other ≢ node
+            → holds_at self.new other ≡ holds_at self.old other }
         ensures found { Alike (find_entry self.old.tree) (find_entry self.new.tree) }
     {
         let at = node as usize;

@@ -23,7 +23,8 @@ impl Tree {
         version: Version,
     ) -> Result<Tree, AllocError>
         requires { IsImage version inodes bytes.items }
-        ensures tree { IfOk result (λ tree. (t : Nodes) → IsImageOf bytes.items t → tree.tree ≡ t) }
+        ensures tree { IfOk result
+            (λ tree. (t : Nodes) → IsImageOf bytes.items t → tree.tree ≡ t) }
         ensures holds { IfOk result (λ tree. tree.holds ≡ replicate NUMBERS 0) }
     {
         let directories = Directories::of_image(alloc, bytes, inodes, version)?;

@@ -1,14 +1,14 @@
 //! Creating nodes.
-ghost use Rattle.std.specs.Prelude.{◌≡◌, ◌<◌, length, IsTrue, false, None, Some, IsSome, IfOk, IfErr, OnOk, OnErr};
+ghost use Rattle.std.specs.Prelude.{◌≡◌, ◌<◌, length, IsTrue, false, None, Some, IsSome, IfOk, OnOk, OnErr};
 ghost use Rattle.pv_model.specs.Room.{greatest_entries, is_too_long};
-ghost use Rattle.pv_model.specs.Tree.{node_at, entries_at, find_entry, is_directory_at, is_name, is_node, with_node, with_entry, with_new_node, new_number, IsWellFormed};
+ghost use Rattle.pv_model.specs.Tree.{node_at, entries_at, find_entry, is_name, is_node, with_node, with_entry, with_new_node, new_number, IsWellFormed};
 ghost use Rattle.pv_laws_trees.specs.Found.{AlikeBut};
 ghost use Rattle.pv_laws_trees.specs.Encoded.{are_bytes, has_bytes};
 ghost use Rattle.pv_laws_trees.specs.Tree.{Appears};
 ghost use Rattle.pv_dirs.specs.Trees.{new_node as empty_node, LacksRoom, without_node};
-ghost use Rattle.pv_tree.specs.Changes.{new_node, sort_of};
+ghost use Rattle.pv_tree.specs.Changes.{new_node, sort_of, IsNewName};
 ghost use Rattle.pv_tree.specs.Holding.{with_tree};
-ghost use Rattle.pv_tree.specs.Rooms.{refusal};
+ghost use Rattle.pv_tree.specs.Rooms.{TreeChanges, HeldTreeChanges};
 ghost use Rattle.pv_tree.specs.Present.{IsShaped};
 
 use super::Tree;
@@ -40,7 +40,8 @@ fn as_read(text: &[u8]) -> &[u8]
 fn fill(directories: &mut Directories, node: u16, kind: NewNode) -> Result<(), Space>
     requires fresh { node_at directories.old node ≡ Some (empty_node (sort_of kind)) }
     requires text { IsTrue (is_node directories.old.version (new_node kind)) }
-    ensures ok { OnOk result (directories.new ≡ with_node directories.old node (new_node kind.entry)) }
+    ensures ok { OnOk result
+        (directories.new ≡ with_node directories.old node (new_node kind.entry)) }
     ensures err { OnErr result (directories.new ≡ directories.old) }
     ensures full { OnErr result (LacksRoom (with_node directories.old node (new_node kind.entry))) }
     ensures bytes { OnOk result (IsTrue (has_bytes (new_node kind.entry))) }
@@ -60,13 +61,9 @@ pub(crate) fn enter(
     node: u16,
 ) -> Result<(), Space>
     requires shaped { IsShaped directories.old }
-    requires directory { IsTrue (is_directory_at directories.old directory) }
-    requires name { IsTrue (is_name directories.old.version name.now) }
-    requires absent { find_entry directories.old directory name.now ≡ None }
-    ensures ok { OnOk result (directories.new ≡ with_entry directories.old directory name.now node) }
-    ensures err { OnErr result (directories.new ≡ directories.old) }
-    ensures allowed { OnOk result (refusal (with_entry directories.old directory name.now node) ≡ None) }
-    ensures refused { IfErr result (λ why. refusal (with_entry directories.old directory name.now node) ≡ Some why) }
+    requires entry { IsNewName directories.old directory name.now }
+    ensures { TreeChanges result directories.old directories.new
+        (with_entry directories.old directory name.now node) }
 {
     directories.add(directory, name, node)
 }
@@ -82,15 +79,13 @@ fn furnish(
     requires fresh { node_at directories.old node ≡ Some (empty_node (sort_of kind)) }
     requires text { IsTrue (is_node directories.old.version (new_node kind)) }
     requires shaped { IsShaped (with_node directories.old node (new_node kind)) }
-    requires directory { IsTrue (is_directory_at (with_node directories.old node (new_node kind)) directory) }
-    requires name { IsTrue (is_name directories.old.version name.now) }
-    requires absent { find_entry (with_node directories.old node (new_node kind)) directory name.now ≡ None }
-    requires few { length (entries_at (with_node directories.old node (new_node kind)) directory) < greatest_entries directories.old.version }
-    ensures ok { OnOk result (directories.new ≡ with_entry (with_node directories.old node (new_node kind.entry)) directory name.now node) }
-    ensures err { OnErr result (directories.new ≡ without_node directories.old node) }
+    requires entry { IsNewName (with_node directories.old node (new_node kind)) directory name.now }
+    requires few { length (entries_at (with_node directories.old node (new_node kind)) directory)
+        < greatest_entries directories.old.version }
+    ensures change { TreeChanges result (without_node directories.old node) directories.new
+        (with_entry (with_node directories.old node (new_node kind.entry))
+        directory name.now node) }
     ensures bytes { OnOk result (IsTrue (has_bytes (new_node kind.entry))) }
-    ensures allowed { OnOk result (refusal (with_entry (with_node directories.old node (new_node kind.entry)) directory name.now node) ≡ None) }
-    ensures refused { IfErr result (λ why. refusal (with_entry (with_node directories.old node (new_node kind.entry)) directory name.now node) ≡ Some why) }
 {
     if fill(directories, node, kind).is_err() {
         directories.drop_inode(node);
@@ -112,17 +107,13 @@ fn add_node(
 ) -> Result<u16, Space>
     requires well_formed { IsWellFormed directories.old }
     requires short { is_too_long directories.old ≡ false }
-    requires directory { IsTrue (is_directory_at directories.old directory) }
-    requires name { IsTrue (is_name directories.old.version name.now) }
-    requires absent { find_entry directories.old directory name.now ≡ None }
+    requires entry { IsNewName directories.old directory name.now }
     requires text { IsTrue (is_node directories.old.version (new_node kind)) }
     ensures number { IfOk result (λ n. n ≡ new_number directories.old) }
     ensures within { IfOk result (λ n. n < length directories.old.nodes) }
     ensures bytes { OnOk result (IsTrue (has_bytes (new_node kind.entry))) }
-    ensures ok { OnOk result (directories.new ≡ with_new_node directories.old directory name.now (new_node kind.entry)) }
-    ensures err { OnErr result (directories.new ≡ directories.old) }
-    ensures allowed { OnOk result (refusal (with_new_node directories.old directory name.now (new_node kind.entry)) ≡ None) }
-    ensures refused { IfErr result (λ why. refusal (with_new_node directories.old directory name.now (new_node kind.entry)) ≡ Some why) }
+    ensures change { TreeChanges result directories.old directories.new
+        (with_new_node directories.old directory name.now (new_node kind.entry)) }
 {
     let most = directories.version().layout().greatest_entries;
     if directories.size(directory) >= most {
@@ -150,11 +141,11 @@ impl Tree {
         requires absent { find_entry self.old.tree directory name.now ≡ None }
         requires text { IsTrue (is_node self.old.tree.version (new_node kind)) }
         ensures number { IfOk result (λ n. n ≡ new_number self.old.tree) }
-        ensures ok { OnOk result (self.new ≡ with_tree self.old (with_new_node self.old.tree directory name.now (new_node kind.entry))) }
-        ensures err { OnErr result (self.new ≡ self.old) }
-        ensures allowed { OnOk result (refusal (with_new_node self.old.tree directory name.now (new_node kind.entry)) ≡ None) }
-        ensures refused { IfErr result (λ why. refusal (with_new_node self.old.tree directory name.now (new_node kind.entry)) ≡ Some why) }
-        ensures elsewhere { AlikeBut directory name.now (find_entry self.old.tree) (find_entry self.new.tree) }
+        ensures change { HeldTreeChanges result self.old self.new
+            (with_tree self.old
+            (with_new_node self.old.tree directory name.now (new_node kind.entry))) }
+        ensures elsewhere { AlikeBut directory name.now
+            (find_entry self.old.tree) (find_entry self.new.tree) }
         ensures there { IfOk result (λ n. IsSome (node_at self.new.tree n)) }
     {
         let node = add_node(&mut self.directories, directory, name, kind)?;

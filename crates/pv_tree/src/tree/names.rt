@@ -1,13 +1,13 @@
 //! Adding and removing names.
-ghost use Rattle.std.specs.Prelude.{◌≡◌, ◌≢◌, [], IsTrue, IsFalse, false, None, Some, IsSome, IfSome, IfOk, IfErr, OnOk, OnErr};
+ghost use Rattle.std.specs.Prelude.{◌≡◌, [], IsTrue, false, None, IsSome, IfSome, IfOk, OnErr};
 ghost use Rattle.pv_model.specs.Calls.Paths.{contains_directory, entries_there};
 ghost use Rattle.pv_model.specs.Room.{fits};
 ghost use Rattle.pv_model.specs.Tree.{node_at, find_entry, is_directory_at, is_name, with_entry, without_entry, IsWellFormed};
 ghost use Rattle.pv_laws_trees.specs.Found.{AlikeBut, AlikeButTwo};
 ghost use Rattle.pv_laws_trees.specs.Tree.{Appears};
-ghost use Rattle.pv_tree.specs.Changes.{moved};
-ghost use Rattle.pv_tree.specs.Holding.{with_tree, after, collected};
-ghost use Rattle.pv_tree.specs.Rooms.{refusal};
+ghost use Rattle.pv_tree.specs.Changes.{moved, AreMoved, IsOtherName};
+ghost use Rattle.pv_tree.specs.Holding.{with_tree, after};
+ghost use Rattle.pv_tree.specs.Rooms.{TreeChanges, HeldTreeChanges};
 ghost use Rattle.pv_tree.specs.Present.{IsShaped};
 
 use super::Tree;
@@ -38,18 +38,13 @@ fn move_entry(
     requires well_formed { IsWellFormed directories.old }
     requires shaped { IsShaped directories.old }
     requires fits { IsTrue (fits directories.old) }
-    requires from { IsTrue (is_directory_at directories.old from) }
-    requires present { IsSome (find_entry directories.old from name.now) }
+    requires entry { IsOtherName directories.old from name.now to other.now }
     requires to { IsTrue (is_directory_at directories.old to) }
-    requires name { IsTrue (is_name directories.old.version other.now) }
-    requires apart { find_entry directories.old to other.now ≢ find_entry directories.old from name.now }
-    ensures node { IfOk result (λ m. find_entry directories.old from name.now ≡ Some m.node) }
-    ensures gone { IfOk result (λ m. m.gone ≡ find_entry directories.old to other.now) }
-    ensures ok { IfOk result (λ m. directories.new ≡ with_entry (without_entry directories.old from name.now) to other.now m.node) }
-    ensures allowed { IfOk result (λ m. refusal (with_entry (without_entry directories.old from name.now) to other.now m.node) ≡ None) }
-    ensures err { OnErr result (directories.new ≡ directories.old) }
+    ensures nodes { IfOk result
+        (λ m. AreMoved directories.old from name.now to other.now m.node m.gone) }
+    ensures change { TreeChanges result directories.old directories.new
+        (moved directories.old from name.now to other.now) }
     ensures free { OnErr result (find_entry directories.old to other.now ≡ None) }
-    ensures refused { IfErr result (λ why. IfSome (find_entry directories.old from name.now) (λ n. refusal (with_entry (without_entry directories.old from name.now) to other.now n) ≡ Some why)) }
 {
     let Some(node) = directories.remove(from, name) else {
         unreachable!()
@@ -83,11 +78,10 @@ impl Tree {
         requires absent { find_entry self.old.tree directory name.now ≡ None }
         requires node { IsSome (node_at self.old.tree node) }
         requires other { is_directory_at self.old.tree node ≡ false }
-        ensures ok { OnOk result (self.new ≡ with_tree self.old (with_entry self.old.tree directory name.now node)) }
-        ensures err { OnErr result (self.new ≡ self.old) }
-        ensures allowed { OnOk result (refusal (with_entry self.old.tree directory name.now node) ≡ None) }
-        ensures refused { IfErr result (λ why. refusal (with_entry self.old.tree directory name.now node) ≡ Some why) }
-        ensures elsewhere { AlikeBut directory name.now (find_entry self.old.tree) (find_entry self.new.tree) }
+        ensures change { HeldTreeChanges result self.old self.new
+            (with_tree self.old (with_entry self.old.tree directory name.now node)) }
+        ensures elsewhere { AlikeBut directory name.now
+            (find_entry self.old.tree) (find_entry self.new.tree) }
     {
         enter(&mut self.directories, directory, name, node)?;
         self.names[node as usize] += 1;
@@ -99,9 +93,12 @@ impl Tree {
     pub fn unlink(&mut self, directory: u16, name: &[u8])
         requires directory { IsTrue (is_directory_at self.old.tree directory) }
         requires present { IsSome (find_entry self.old.tree directory name.now) }
-        requires empty { entries_there self.old.tree (find_entry self.old.tree directory name.now) ≡ [] }
-        ensures tree { self.new ≡ after self.old (without_entry self.old.tree directory name.now) }
-        ensures elsewhere { AlikeBut directory name.now (find_entry self.old.tree) (find_entry self.new.tree) }
+        requires empty { entries_there self.old.tree
+            (find_entry self.old.tree directory name.now) ≡ [] }
+        ensures tree { self.new
+            ≡ after self.old (without_entry self.old.tree directory name.now) }
+        ensures elsewhere { AlikeBut directory name.now
+            (find_entry self.old.tree) (find_entry self.new.tree) }
     {
         let Some(node) = self.directories.remove(directory, name) else {
             unreachable!()
@@ -121,18 +118,16 @@ impl Tree {
     /// Returns `TooBig` if the directory would exceed the maximum length. Otherwise returns `Full` if the image has too
     /// few free blocks. If the call fails, nothing changes.
     pub fn rename(&mut self, from: u16, name: &[u8], to: u16, other: &[u8]) -> Result<(), Space>
-        requires from { IsTrue (is_directory_at self.old.tree from) }
-        requires present { IsSome (find_entry self.old.tree from name.now) }
+        requires entry { IsOtherName self.old.tree from name.now to other.now }
         requires to { Appears self.old.tree to }
-        requires name { IsTrue (is_name self.old.tree.version other.now) }
-        requires clear { IfSome (find_entry self.old.tree from name.now) (λ n. contains_directory self.old.tree n to ≡ false) }
-        requires apart { find_entry self.old.tree to other.now ≢ find_entry self.old.tree from name.now }
-        requires empty { entries_there self.old.tree (find_entry self.old.tree to other.now) ≡ [] }
-        ensures ok { OnOk result (self.new ≡ after self.old (moved self.old.tree from name.now to other.now)) }
-        ensures err { OnErr result (self.new ≡ self.old) }
-        ensures allowed { OnOk result (refusal (collected (moved self.old.tree from name.now to other.now) self.old.holds) ≡ None) }
-        ensures refused { IfErr result (λ why. refusal (collected (moved self.old.tree from name.now to other.now) self.old.holds) ≡ Some why) }
-        ensures elsewhere { AlikeButTwo from name.now to other.now (find_entry self.old.tree) (find_entry self.new.tree) }
+        requires clear { IfSome (find_entry self.old.tree from name.now)
+            (λ n. contains_directory self.old.tree n to ≡ false) }
+        requires empty { entries_there self.old.tree
+            (find_entry self.old.tree to other.now) ≡ [] }
+        ensures change { HeldTreeChanges result self.old self.new
+            (after self.old (moved self.old.tree from name.now to other.now)) }
+        ensures elsewhere { AlikeButTwo from name.now to other.now
+            (find_entry self.old.tree) (find_entry self.new.tree) }
     {
         let moved = move_entry(&mut self.directories, from, name, to, other)?;
         self.parents[moved.node as usize] = to;

@@ -36,7 +36,8 @@ impl Tree {
     pub fn next_name(&self, node: u16, last: Option<(u16, &[u8])>) -> Option<(u16, Name)>
         ensures value { result ≡ first_after (last_of last.entry) (names_of self.now.tree node) }
         ensures least { IsNextNameOfNode self.now.tree node (last_of last.entry) result }
-        ensures rest { names_after (last_of last.entry) (names_of self.now.tree node) ≡ names_from result (names_of self.now.tree node) }
+        ensures rest { names_after (last_of last.entry) (names_of self.now.tree node)
+            ≡ names_from result (names_of self.now.tree node) }
     {
         let (first, past) = match last {
             Some((directory, name)) => (directory, Some(name)),

@@ -1,19 +1,16 @@
 use Rattle.pv_model.specs.CallRef.{call_of}
-use Rattle.pv_calls.proofs.Carrying.{next-live, next-whole, carried-on, next-continues, blocked-carried}
+use Rattle.pv_calls.proofs.Carrying.{next-caller, carried-on, next-continues, blocked-carried}
 use Rattle.pv_calls.proofs.carry.carry_on.Goals as goal
 
-pub perform-requires-clause-whole : goal.perform-requires-clause-whole
-perform-requires-clause-whole g c = next-whole c.args.system.now.parts c.advance.new.self c.args.pid c.advance.ensures c.requires.live c.requires.whole
-
-pub perform-requires-clause-live : goal.perform-requires-clause-live
-perform-requires-clause-live g c = next-live c.args.system.now.parts c.advance.new.self c.args.pid c.advance.ensures c.requires.live
+pub perform-requires-clause-caller : goal.perform-requires-clause-caller
+perform-requires-clause-caller g c = next-caller (g.L.Lookup.agrees c.args.system.now.lookup) c.args.system.now.parts c.advance.new.self c.args.pid c.advance.ensures c.requires.caller
 
 pub perform-requires-clause-continues : goal.perform-requires-clause-continues
 perform-requires-clause-continues g c =
-    next-continues c.args.system.now.parts c.advance.new.self c.args.pid (call_of c.args.call) c.advance.ensures c.requires.live c.requires.whole.processes.ascending (c.is_blocked.ensures.continues c.if-is_blocked.false)
+    next-continues c.args.system.now.parts c.advance.new.self c.args.pid (call_of c.args.call) c.advance.ensures c.requires.caller.live c.requires.caller.whole.processes.ascending (c.is_blocked.ensures.continues c.if-is_blocked.false)
 
 pub returns-then-is_blocked-clause-carried : goal.returns-then-is_blocked-clause-carried
-returns-then-is_blocked-clause-carried g c = blocked-carried c.args.system.now.parts c.args.pid (call_of c.args.call) c.requires.whole.processes.ascending (c.is_blocked.ensures.blocked c.if-is_blocked.true)
+returns-then-is_blocked-clause-carried g c = blocked-carried c.args.system.now.parts c.args.pid (call_of c.args.call) c.requires.caller.whole.processes.ascending (c.is_blocked.ensures.blocked c.if-is_blocked.true)
 
 pub returns-clause-carried : goal.returns-clause-carried
 returns-clause-carried g c =

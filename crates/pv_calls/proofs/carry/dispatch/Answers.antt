@@ -179,83 +179,83 @@ pub returns-in-Exit-clause-agrees : goal.returns-in-Exit-clause-agrees
 unfolding effect
 returns-in-Exit-clause-agrees g c =
     let s = c.args.system.now.parts in
-    g.met.L.Lookup.same_answers c.args.system.now.lookup (find_entry s.tree) (find_entry c.exit.new.parts.tree) c.requires.agrees
-    (names-answered (λ s me. effect program_of s c.args.pid me (Exit (to_z w32 (of_z w32 c.in-Exit.code)))) s c.exit.new.parts c.args.pid c.requires.live c.exit.result c.exit.ensures.performed (λ me at. quiet s c.args.pid me c.requires.whole at))
+    g.met.L.Lookup.same_answers c.args.system.now.lookup (find_entry s.tree) (find_entry c.exit.new.parts.tree) c.requires.caller.agrees
+    (names-answered (λ s me. effect program_of s c.args.pid me (Exit (to_z w32 (of_z w32 c.in-Exit.code)))) s c.exit.new.parts c.args.pid c.requires.caller.live c.exit.result c.exit.ensures.performed (λ me at. quiet s c.args.pid me c.requires.caller.whole at))
 
 pub returns-in-Fork-clause-agrees : goal.returns-in-Fork-clause-agrees
 returns-in-Fork-clause-agrees g c =
     let s = c.args.system.now.parts in
-    g.met.L.Lookup.same_answers c.args.system.now.lookup (find_entry s.tree) (find_entry c.fork.new.parts.tree) c.requires.agrees
-    (names-performed (λ s me. fork s c.args.pid me) s c.fork.new.parts c.args.pid c.requires.live c.fork.result c.fork.ensures.performed (λ me at. stays-fork s c.args.pid me c.requires.whole at))
+    g.met.L.Lookup.same_answers c.args.system.now.lookup (find_entry s.tree) (find_entry c.fork.new.parts.tree) c.requires.caller.agrees
+    (names-performed (λ s me. fork s c.args.pid me) s c.fork.new.parts c.args.pid c.requires.caller.live c.fork.result c.fork.ensures.performed (λ me at. stays-fork s c.args.pid me c.requires.caller.whole at))
 
 pub returns-in-Wait-clause-agrees : goal.returns-in-Wait-clause-agrees
 returns-in-Wait-clause-agrees g c =
     let s = c.args.system.now.parts in
-    g.met.L.Lookup.same_answers c.args.system.now.lookup (find_entry s.tree) (find_entry c.wait.new.parts.tree) c.requires.agrees
-    (names-answered (λ s me. wait s c.args.pid me) s c.wait.new.parts c.args.pid c.requires.live c.wait.result c.wait.ensures.performed (λ me at. quiet-wait s c.args.pid me c.requires.whole at))
+    g.met.L.Lookup.same_answers c.args.system.now.lookup (find_entry s.tree) (find_entry c.wait.new.parts.tree) c.requires.caller.agrees
+    (names-answered (λ s me. wait s c.args.pid me) s c.wait.new.parts c.args.pid c.requires.caller.live c.wait.result c.wait.ensures.performed (λ me at. quiet-wait s c.args.pid me c.requires.caller.whole at))
 
 pub returns-in-Pledge-clause-agrees : goal.returns-in-Pledge-clause-agrees
 returns-in-Pledge-clause-agrees g c =
     let s = c.args.system.now.parts in
-    g.met.L.Lookup.same_answers c.args.system.now.lookup (find_entry s.tree) (find_entry c.pledge.new.parts.tree) c.requires.agrees
-    (names-performed _ s c.pledge.new.parts c.args.pid c.requires.live c.pledge.result c.pledge.ensures.performed (λ me at. stays-pledge s c.args.pid me c.requires.whole at _ _))
+    g.met.L.Lookup.same_answers c.args.system.now.lookup (find_entry s.tree) (find_entry c.pledge.new.parts.tree) c.requires.caller.agrees
+    (names-performed _ s c.pledge.new.parts c.args.pid c.requires.caller.live c.pledge.result c.pledge.ensures.performed (λ me at. stays-pledge s c.args.pid me c.requires.caller.whole at _ _))
 
 pub returns-in-Close-clause-agrees : goal.returns-in-Close-clause-agrees
 returns-in-Close-clause-agrees g c =
     let s = c.args.system.now.parts in
-    g.met.L.Lookup.same_answers c.args.system.now.lookup (find_entry s.tree) (find_entry c.close.new.parts.tree) c.requires.agrees
-    (names-performed (λ s me. close s c.args.pid me (to_z w32 (of_z w32 c.in-Close.d))) s c.close.new.parts c.args.pid c.requires.live c.close.result c.close.ensures.performed (λ me at. stays-close s c.args.pid me c.requires.whole at (to_z w32 (of_z w32 c.in-Close.d))))
+    g.met.L.Lookup.same_answers c.args.system.now.lookup (find_entry s.tree) (find_entry c.close.new.parts.tree) c.requires.caller.agrees
+    (names-performed (λ s me. close s c.args.pid me (to_z w32 (of_z w32 c.in-Close.d))) s c.close.new.parts c.args.pid c.requires.caller.live c.close.result c.close.ensures.performed (λ me at. stays-close s c.args.pid me c.requires.caller.whole at (to_z w32 (of_z w32 c.in-Close.d))))
 
 pub returns-in-Dup-clause-agrees : goal.returns-in-Dup-clause-agrees
 returns-in-Dup-clause-agrees g c =
     let s = c.args.system.now.parts in
-    g.met.L.Lookup.same_answers c.args.system.now.lookup (find_entry s.tree) (find_entry c.dup.new.parts.tree) c.requires.agrees
-    (names-performed (λ s me. dup s c.args.pid me (to_z w32 (of_z w32 c.in-Dup.d))) s c.dup.new.parts c.args.pid c.requires.live c.dup.result c.dup.ensures.performed (λ me at. stays-dup s c.args.pid me c.requires.whole at (to_z w32 (of_z w32 c.in-Dup.d))))
+    g.met.L.Lookup.same_answers c.args.system.now.lookup (find_entry s.tree) (find_entry c.dup.new.parts.tree) c.requires.caller.agrees
+    (names-performed (λ s me. dup s c.args.pid me (to_z w32 (of_z w32 c.in-Dup.d))) s c.dup.new.parts c.args.pid c.requires.caller.live c.dup.result c.dup.ensures.performed (λ me at. stays-dup s c.args.pid me c.requires.caller.whole at (to_z w32 (of_z w32 c.in-Dup.d))))
 
 pub returns-in-Dup2-clause-agrees : goal.returns-in-Dup2-clause-agrees
 returns-in-Dup2-clause-agrees g c =
     let s = c.args.system.now.parts in
-    g.met.L.Lookup.same_answers c.args.system.now.lookup (find_entry s.tree) (find_entry c.dup2.new.parts.tree) c.requires.agrees
-    (names-performed (λ s me. dup2 s c.args.pid me (to_z w32 (of_z w32 c.in-Dup2.d)) (to_z w32 (of_z w32 c.in-Dup2.e))) s c.dup2.new.parts c.args.pid c.requires.live c.dup2.result c.dup2.ensures.performed (λ me at. stays-dup2 s c.args.pid me c.requires.whole at (to_z w32 (of_z w32 c.in-Dup2.d)) (to_z w32 (of_z w32 c.in-Dup2.e))))
+    g.met.L.Lookup.same_answers c.args.system.now.lookup (find_entry s.tree) (find_entry c.dup2.new.parts.tree) c.requires.caller.agrees
+    (names-performed (λ s me. dup2 s c.args.pid me (to_z w32 (of_z w32 c.in-Dup2.d)) (to_z w32 (of_z w32 c.in-Dup2.e))) s c.dup2.new.parts c.args.pid c.requires.caller.live c.dup2.result c.dup2.ensures.performed (λ me at. stays-dup2 s c.args.pid me c.requires.caller.whole at (to_z w32 (of_z w32 c.in-Dup2.d)) (to_z w32 (of_z w32 c.in-Dup2.e))))
 
 pub returns-in-Read-clause-agrees : goal.returns-in-Read-clause-agrees
 returns-in-Read-clause-agrees g c =
     let s = c.args.system.now.parts in
-    g.met.L.Lookup.same_answers c.args.system.now.lookup (find_entry s.tree) (find_entry c.read.new.parts.tree) c.requires.agrees
-    (names-answered (λ s me. read s c.args.pid me (to_z w32 (of_z w32 c.in-Read.d)) (to_z w32 (of_z w32 c.in-Read.n))) s c.read.new.parts c.args.pid c.requires.live c.read.result c.read.ensures.performed (λ me at. still s c.args.pid me c.requires.whole at (read s c.args.pid me (to_z w32 (of_z w32 c.in-Read.d)) (to_z w32 (of_z w32 c.in-Read.n))) (stays-read s c.args.pid me c.requires.whole at (to_z w32 (of_z w32 c.in-Read.d)) (to_z w32 (of_z w32 c.in-Read.n)))))
+    g.met.L.Lookup.same_answers c.args.system.now.lookup (find_entry s.tree) (find_entry c.read.new.parts.tree) c.requires.caller.agrees
+    (names-answered (λ s me. read s c.args.pid me (to_z w32 (of_z w32 c.in-Read.d)) (to_z w32 (of_z w32 c.in-Read.n))) s c.read.new.parts c.args.pid c.requires.caller.live c.read.result c.read.ensures.performed (λ me at. still s c.args.pid me c.requires.caller.whole at (read s c.args.pid me (to_z w32 (of_z w32 c.in-Read.d)) (to_z w32 (of_z w32 c.in-Read.n))) (stays-read s c.args.pid me c.requires.caller.whole at (to_z w32 (of_z w32 c.in-Read.d)) (to_z w32 (of_z w32 c.in-Read.n)))))
 
 pub returns-in-Write-clause-agrees : goal.returns-in-Write-clause-agrees
 returns-in-Write-clause-agrees g c =
     let s = c.args.system.now.parts in
-    g.met.L.Lookup.same_answers c.args.system.now.lookup (find_entry s.tree) (find_entry c.write.new.parts.tree) c.requires.agrees
-    (names-performed (λ s me. write s c.args.pid me (to_z w32 (of_z w32 c.in-Write.d)) (to_z w32 (of_z w32 c.in-Write.n))) s c.write.new.parts c.args.pid c.requires.live c.write.result c.write.ensures.performed (λ me at. stays-write s c.args.pid me c.requires.whole at (to_z w32 (of_z w32 c.in-Write.d)) (to_z w32 (of_z w32 c.in-Write.n))))
+    g.met.L.Lookup.same_answers c.args.system.now.lookup (find_entry s.tree) (find_entry c.write.new.parts.tree) c.requires.caller.agrees
+    (names-performed (λ s me. write s c.args.pid me (to_z w32 (of_z w32 c.in-Write.d)) (to_z w32 (of_z w32 c.in-Write.n))) s c.write.new.parts c.args.pid c.requires.caller.live c.write.result c.write.ensures.performed (λ me at. stays-write s c.args.pid me c.requires.caller.whole at (to_z w32 (of_z w32 c.in-Write.d)) (to_z w32 (of_z w32 c.in-Write.n))))
 
 pub returns-in-Lseek-clause-agrees : goal.returns-in-Lseek-clause-agrees
 returns-in-Lseek-clause-agrees g c =
     let s = c.args.system.now.parts in
-    g.met.L.Lookup.same_answers c.args.system.now.lookup (find_entry s.tree) (find_entry c.lseek.new.parts.tree) c.requires.agrees
-    (names-performed (λ s me. lseek s c.args.pid me (to_z w32 (of_z w32 c.in-Lseek.d)) (to_z w32 (of_z w32 c.in-Lseek.by)) c.in-Lseek.whence) s c.lseek.new.parts c.args.pid c.requires.live c.lseek.result c.lseek.ensures.performed (λ me at. stays-lseek s c.args.pid me c.requires.whole at (to_z w32 (of_z w32 c.in-Lseek.d)) (to_z w32 (of_z w32 c.in-Lseek.by)) c.in-Lseek.whence))
+    g.met.L.Lookup.same_answers c.args.system.now.lookup (find_entry s.tree) (find_entry c.lseek.new.parts.tree) c.requires.caller.agrees
+    (names-performed (λ s me. lseek s c.args.pid me (to_z w32 (of_z w32 c.in-Lseek.d)) (to_z w32 (of_z w32 c.in-Lseek.by)) c.in-Lseek.whence) s c.lseek.new.parts c.args.pid c.requires.caller.live c.lseek.result c.lseek.ensures.performed (λ me at. stays-lseek s c.args.pid me c.requires.caller.whole at (to_z w32 (of_z w32 c.in-Lseek.d)) (to_z w32 (of_z w32 c.in-Lseek.by)) c.in-Lseek.whence))
 
 pub returns-in-Fstat-clause-agrees : goal.returns-in-Fstat-clause-agrees
 returns-in-Fstat-clause-agrees g c =
     let s = c.args.system.now.parts in
-    g.met.L.Lookup.same_answers c.args.system.now.lookup (find_entry s.tree) (find_entry c.fstat.new.parts.tree) c.requires.agrees
-    (names-answered (λ s me. fstat s c.args.pid me (to_z w32 (of_z w32 c.in-Fstat.d))) s c.fstat.new.parts c.args.pid c.requires.live c.fstat.result c.fstat.ensures.performed (λ me at. still s c.args.pid me c.requires.whole at (fstat s c.args.pid me (to_z w32 (of_z w32 c.in-Fstat.d))) (stays-fstat s c.args.pid me c.requires.whole at (to_z w32 (of_z w32 c.in-Fstat.d)))))
+    g.met.L.Lookup.same_answers c.args.system.now.lookup (find_entry s.tree) (find_entry c.fstat.new.parts.tree) c.requires.caller.agrees
+    (names-answered (λ s me. fstat s c.args.pid me (to_z w32 (of_z w32 c.in-Fstat.d))) s c.fstat.new.parts c.args.pid c.requires.caller.live c.fstat.result c.fstat.ensures.performed (λ me at. still s c.args.pid me c.requires.caller.whole at (fstat s c.args.pid me (to_z w32 (of_z w32 c.in-Fstat.d))) (stays-fstat s c.args.pid me c.requires.caller.whole at (to_z w32 (of_z w32 c.in-Fstat.d)))))
 
 pub returns-in-Ftruncate-clause-agrees : goal.returns-in-Ftruncate-clause-agrees
 returns-in-Ftruncate-clause-agrees g c =
     let s = c.args.system.now.parts in
-    g.met.L.Lookup.same_answers c.args.system.now.lookup (find_entry s.tree) (find_entry c.ftruncate.new.parts.tree) c.requires.agrees
-    (names-performed (λ s me. ftruncate s c.args.pid me (to_z w32 (of_z w32 c.in-Ftruncate.d)) (to_z w32 (of_z w32 c.in-Ftruncate.n))) s c.ftruncate.new.parts c.args.pid c.requires.live c.ftruncate.result c.ftruncate.ensures.performed (λ me at. stays-ftruncate s c.args.pid me c.requires.whole at (to_z w32 (of_z w32 c.in-Ftruncate.d)) (to_z w32 (of_z w32 c.in-Ftruncate.n))))
+    g.met.L.Lookup.same_answers c.args.system.now.lookup (find_entry s.tree) (find_entry c.ftruncate.new.parts.tree) c.requires.caller.agrees
+    (names-performed (λ s me. ftruncate s c.args.pid me (to_z w32 (of_z w32 c.in-Ftruncate.d)) (to_z w32 (of_z w32 c.in-Ftruncate.n))) s c.ftruncate.new.parts c.args.pid c.requires.caller.live c.ftruncate.result c.ftruncate.ensures.performed (λ me at. stays-ftruncate s c.args.pid me c.requires.caller.whole at (to_z w32 (of_z w32 c.in-Ftruncate.d)) (to_z w32 (of_z w32 c.in-Ftruncate.n))))
 
 pub returns-in-Getdents-clause-agrees : goal.returns-in-Getdents-clause-agrees
 returns-in-Getdents-clause-agrees g c =
     let s = c.args.system.now.parts in
-    g.met.L.Lookup.same_answers c.args.system.now.lookup (find_entry s.tree) (find_entry c.getdents.new.parts.tree) c.requires.agrees
-    (names-answered (λ s me. getdents s c.args.pid me (to_z w32 (of_z w32 c.in-Getdents.d))) s c.getdents.new.parts c.args.pid c.requires.live c.getdents.result c.getdents.ensures.performed (λ me at. still s c.args.pid me c.requires.whole at (getdents s c.args.pid me (to_z w32 (of_z w32 c.in-Getdents.d))) (stays-getdents s c.args.pid me c.requires.whole at (to_z w32 (of_z w32 c.in-Getdents.d)))))
+    g.met.L.Lookup.same_answers c.args.system.now.lookup (find_entry s.tree) (find_entry c.getdents.new.parts.tree) c.requires.caller.agrees
+    (names-answered (λ s me. getdents s c.args.pid me (to_z w32 (of_z w32 c.in-Getdents.d))) s c.getdents.new.parts c.args.pid c.requires.caller.live c.getdents.result c.getdents.ensures.performed (λ me at. still s c.args.pid me c.requires.caller.whole at (getdents s c.args.pid me (to_z w32 (of_z w32 c.in-Getdents.d))) (stays-getdents s c.args.pid me c.requires.caller.whole at (to_z w32 (of_z w32 c.in-Getdents.d)))))
 
 pub returns-in-Fchdir-clause-agrees : goal.returns-in-Fchdir-clause-agrees
 returns-in-Fchdir-clause-agrees g c =
     let s = c.args.system.now.parts in
-    g.met.L.Lookup.same_answers c.args.system.now.lookup (find_entry s.tree) (find_entry c.fchdir.new.parts.tree) c.requires.agrees
-    (names-performed (λ s me. fchdir s c.args.pid me (to_z w32 (of_z w32 c.in-Fchdir.d))) s c.fchdir.new.parts c.args.pid c.requires.live c.fchdir.result c.fchdir.ensures.performed (λ me at. stays-fchdir s c.args.pid me c.requires.whole at (to_z w32 (of_z w32 c.in-Fchdir.d))))
+    g.met.L.Lookup.same_answers c.args.system.now.lookup (find_entry s.tree) (find_entry c.fchdir.new.parts.tree) c.requires.caller.agrees
+    (names-performed (λ s me. fchdir s c.args.pid me (to_z w32 (of_z w32 c.in-Fchdir.d))) s c.fchdir.new.parts c.args.pid c.requires.caller.live c.fchdir.result c.fchdir.ensures.performed (λ me at. stays-fchdir s c.args.pid me c.requires.caller.whole at (to_z w32 (of_z w32 c.in-Fchdir.d))))

@@ -19,13 +19,13 @@ pub report-requires-clause-live : goal.report-requires-clause-live
 unfolding effect
 report-requires-clause-live g c =
     let s = c.args.system.now.parts in
-    let mine = some-at (process_at s c.args.pid) c.requires.live in
-    performed-live s c.execve.new.system.parts c.args.pid (Ok c.in-Ok.reported) (execve s c.args.pid mine.0 program_of c.args.path.now) (c.in-Ok.ensures.performed mine.0 mine.1) tt c.requires.live
-    (lives s c.args.pid mine.0 mine.1 c.requires.whole (Execve c.args.path.now))
+    let mine = some-at (process_at s c.args.pid) c.requires.caller.live in
+    performed-live s c.execve.new.system.parts c.args.pid (Ok c.in-Ok.reported) (execve s c.args.pid mine.0 program_of c.args.path.now) (c.in-Ok.ensures.performed mine.0 mine.1) tt c.requires.caller.live
+    (lives s c.args.pid mine.0 mine.1 c.requires.caller.whole (Execve c.args.path.now))
 
 pub report-requires-in-Err-Refused-clause-live : goal.report-requires-in-Err-Refused-clause-live
 report-requires-in-Err-Refused-clause-live g c =
-    next-live c.execve.new.system.parts c.advance.new.self c.args.pid c.advance.ensures (subst (λ x. IsSome (process_at x c.args.pid)) (sym c.in-Err-Refused.ensures.unchanged) c.requires.live)
+    next-live c.execve.new.system.parts c.advance.new.self c.args.pid c.advance.ensures (subst (λ x. IsSome (process_at x c.args.pid)) (sym c.in-Err-Refused.ensures.unchanged) c.requires.caller.live)
 
 pub returns-in-Ok-clause-carried : goal.returns-in-Ok-clause-carried
 unfolding effect

@@ -9,8 +9,8 @@ use Rattle.pv_calls.proofs.carry.perform.Goals as goal
 
 pub report-requires : goal.report-requires
 report-requires g c = record {
-  live = reported-live (λ s me. effect program_of s c.args.pid me (call_of c.args.call)) c.args.system.now.parts c.dispatch.new.system.parts c.args.pid c.in-Performed.performed c.in-Performed.ensures.replied c.requires.live
-      (λ me at. lives c.args.system.now.parts c.args.pid me at c.requires.whole (call_of c.args.call));
+  live = reported-live (λ s me. effect program_of s c.args.pid me (call_of c.args.call)) c.args.system.now.parts c.dispatch.new.system.parts c.args.pid c.in-Performed.performed c.in-Performed.ensures.replied c.requires.caller.live
+      (λ me at. lives c.args.system.now.parts c.args.pid me at c.requires.caller.whole (call_of c.args.call));
   small = c.in-Performed.ensures.replied.small;
 }
 

@@ -27,7 +27,7 @@ returns-then-not-is_directory-clause-performed g c =
     let n = c.in_ok-node.node in
     let other : is_directory_at s.tree n ≡ false = ap (λ t. is_directory_at t n) (sym c.tree.ensures) ∙ sym c.is_directory.ensures ∙ c.if-not-is_directory.true in
     record {
-      as_defined = λ me at. rw c.refusal.ensures (ap collected (chdir_refused s c.args.pid me c.args.path.now n (found-as s me me.directory c.chdir-walk.ensures n (c.in_ok-node.ensures.found me at)) other));
+      as_defined = λ me at. rw c.refusal.ensures (ap collected (chdir_refused s c.args.pid me c.args.path.now n (found-as s me me.directory c.chdir-walk.ensures n (c.in_ok-node.ensures.finds.found me at)) other));
       unchanged = refl;
       small = tt;
     }
@@ -40,7 +40,7 @@ returns-clause-performed g c =
     record {
       as_defined = λ me at. rw c.answer_of.ensures
           (leaves _ (collect (with_process s c.args.pid (with_directory n me))) c.set_directory.new.self
-          (ap collected (chdir_goes s c.args.pid me c.args.path.now n (found-as s me me.directory c.chdir-walk.ensures n (c.in_ok-node.ensures.found me at)) directory))
+          (ap collected (chdir_goes s c.args.pid me c.args.path.now n (found-as s me me.directory c.chdir-walk.ensures n (c.in_ok-node.ensures.finds.found me at)) directory))
           (ap (λ o. collect (update_live s c.args.pid (with_directory n) o)) (sym at) ∙ sym c.set_directory.ensures));
       unchanged = rw c.answer_of.ensures tt;
       small = rw c.answer_of.ensures (omega arith);
@@ -50,4 +50,4 @@ pub returns-clause-agrees : goal.returns-clause-agrees
 returns-clause-agrees g c =
     let s = c.args.system.now.parts in
     g.met.L.Lookup.same_answers c.reach_node.new.lookup (find_entry s.tree) (find_entry c.set_directory.new.self.tree) c.reach_node.ensures.agrees
-    (alike_update s c.requires.whole c.args.pid (with_directory c.in_ok-node.node) c.set_directory.new.self c.set_directory.ensures)
+    (alike_update s c.requires.caller.whole c.args.pid (with_directory c.in_ok-node.node) c.set_directory.new.self c.set_directory.ensures)

@@ -20,7 +20,7 @@ returns-in_err-both-clause-performed g c =
 pub link-requires-clause-node : goal.link-requires-clause-node
 link-requires-clause-node g c =
     let s = c.args.system.now.parts in
-    place-there s.tree c.requires.whole.tree c.in_ok-both.both.first c.in_ok-both.both.node c.in_ok-both.ensures.fine c.in_ok-both.ensures.there
+    place-there s.tree c.requires.caller.whole.tree c.in_ok-both.both.first c.in_ok-both.both.node c.in_ok-both.ensures.first.fine c.in_ok-both.ensures.first.there
 
 pub returns-in-Err-clause-performed : goal.returns-in-Err-clause-performed
 returns-in-Err-clause-performed g c =
@@ -30,9 +30,9 @@ returns-in-Err-clause-performed g c =
     record {
       as_defined = λ me at. rw (c.refusal-in-Err.ensures, c.space_errno.ensures)
           (ap collected (link_crowded s c.args.pid me c.args.path.now c.args.new.now c.in_ok-both.both.first c.in_ok-both.both.second
-          (reached-as s me me.directory c.linked-first.ensures c.in_ok-both.both.first (c.in_ok-both.ensures.first me at)) (reached-as s me me.directory c.new_link-second.ensures c.in_ok-both.both.second (c.in_ok-both.ensures.second me at)) c.in_ok-both.both.node c.in_ok-both.ensures.there plain free
+          (reached-as s me me.directory c.linked-first.ensures c.in_ok-both.both.first (c.in_ok-both.ensures.first.reached me at)) (reached-as s me me.directory c.new_link-second.ensures c.in_ok-both.both.second (c.in_ok-both.ensures.second.reached me at)) c.in_ok-both.both.node c.in_ok-both.ensures.first.there plain free
           c.in_ok-directory.directory c.in_ok-directory.name.now c.in_ok-directory.ensures.name c.in-Err.space c.in-Err.ensures.refused));
-      unchanged = c.in-Err.ensures.unchanged;
+      unchanged = c.in-Err.ensures.err;
       small = tt;
     }
 
@@ -43,5 +43,5 @@ returns-clause-agrees g c =
     let free : is_some (node_of c.in_ok-both.both.second) ≡ false = ap is_some c.in_ok-directory.ensures.free in
     let plain : is_directory_at s.tree n ≡ false = ap (λ t. is_directory_at t n) (sym c.tree.ensures) ∙ sym c.is_directory.ensures ∙ c.if-is_directory.false in
     c.changed.ensures (find_entry s.tree) (find_entry c.link.new.self.tree) c.reach_both.ensures.agrees
-    (names_linked s c.requires.whole c.in_ok-both.both.second c.in_ok-both.ensures.second_fine c.in_ok-directory.directory c.in_ok-directory.name.now c.in_ok-directory.ensures.name free
-    n (place-there s.tree c.requires.whole.tree c.in_ok-both.both.first n c.in_ok-both.ensures.fine c.in_ok-both.ensures.there) plain c.link.new.self c.in_default.ensures.linked)
+    (names_linked s c.requires.caller.whole c.in_ok-both.both.second c.in_ok-both.ensures.second.fine c.in_ok-directory.directory c.in_ok-directory.name.now c.in_ok-directory.ensures.name free
+    n (place-there s.tree c.requires.caller.whole.tree c.in_ok-both.both.first n c.in_ok-both.ensures.first.fine c.in_ok-both.ensures.first.there) plain c.link.new.self c.in_default.ensures.ok)

@@ -14,7 +14,7 @@ pub returns-in_err-place-clause-performed : goal.returns-in_err-place-clause-per
 returns-in_err-place-clause-performed g c =
     let p = err_from_is_err_and c.from_residual.result c.from_residual.ensures.1 in
     record {
-      as_defined = λ me at. rw (p.1, p.2, c.requires.here) (ap collected (c.in_err-place.ensures.stopped me at _));
+      as_defined = λ me at. rw (p.1, p.2, c.requires.here) (ap collected (c.in_err-place.ensures.stops.stopped me at _));
       unchanged = rw p.1 refl;
       small = rw p.1 tt;
     }
@@ -24,9 +24,9 @@ returns-in-Err-clause-performed g c =
     let free : is_some (node_of c.in_ok-place.place) ≡ false = ap is_some c.in_ok-directory.ensures.free in
     record {
       as_defined = λ me at. rw (c.refusal.ensures, c.space_errno.ensures)
-          (ap collected (make_crowded c.args.system.now.parts c.args.pid me (walk_of c.args.walk) c.requires.here (new_node c.args.kind) c.in_ok-place.place (c.in_ok-place.ensures.reached me at) free
+          (ap collected (make_crowded c.args.system.now.parts c.args.pid me (walk_of c.args.walk) c.requires.here (new_node c.args.kind) c.in_ok-place.place (c.in_ok-place.ensures.reaches.reached me at) free
           c.in_ok-directory.directory c.in_ok-directory.name.now c.in_ok-directory.ensures.name c.in-Err.space c.in-Err.ensures.refused));
-      unchanged = c.in-Err.ensures.unchanged;
+      unchanged = c.in-Err.ensures.err;
       small = tt;
     }
 
@@ -36,5 +36,5 @@ returns-clause-agrees g c =
     let free : is_some (node_of c.in_ok-place.place) ≡ false = ap is_some c.in_ok-directory.ensures.free in
     let fit : fits c.make.new.self.tree ≡ true = ap fits (sym c.tree.ensures) ∙ c.invariant.ensures.fits in
     c.changed.ensures (find_entry s.tree) (find_entry c.make.new.self.tree) c.reach.ensures.agrees
-    (names_made s c.requires.whole c.in_ok-place.place c.in_ok-place.ensures.fine c.in_ok-directory.directory c.in_ok-directory.name.now c.in_ok-directory.ensures.name free
-    (new_node c.args.kind) c.requires.node (new-entries c.args.kind) c.make.new.self c.in_default.ensures.made fit)
+    (names_made s c.requires.caller.whole c.in_ok-place.place c.in_ok-place.ensures.reaches.fine c.in_ok-directory.directory c.in_ok-directory.name.now c.in_ok-directory.ensures.name free
+    (new_node c.args.kind) c.requires.node (new-entries c.args.kind) c.make.new.self c.in_default.ensures.ok fit)

@@ -28,7 +28,7 @@ returns-then-not-is_empty-clause-performed g c =
     ap (λ t. is_empty (entries_at t n)) (sym c.tree-2.ensures) ∙ some_left (entries_at c.tree-2.result.now.tree n) c.is_empty.result c.is_empty.ensures.1 c.if-not-is_empty.true in
     record {
       as_defined = λ me at. rw c.refusal-then-not-is_empty.ensures
-          (ap collected (rmdir_full s c.args.pid me c.args.path.now fine c.in_ok-found.found.place (reached-as s me me.directory c.rmdir-walk.ensures c.in_ok-found.found.place (c.in_ok-found.ensures.reached me at)) n c.in_ok-found.ensures.there directory
+          (ap collected (rmdir_full s c.args.pid me c.args.path.now fine c.in_ok-found.found.place (reached-as s me me.directory c.rmdir-walk.ensures c.in_ok-found.found.place (c.in_ok-found.ensures.reaches.reached me at)) n c.in_ok-found.ensures.reaches.there directory
           c.in-Some.directory c.in-Some.name.now c.in-Some.ensures full));
       unchanged = refl;
       small = tt;
@@ -39,5 +39,5 @@ returns-clause-agrees g c =
     let s = c.args.system.now.parts in
     let bare = ap (λ t. entries_at t c.in_ok-found.found.node) (sym c.tree-2.ensures) ∙ c.is_empty.ensures.0 c.if-not-is_empty.false in
     c.changed.ensures (find_entry s.tree) (find_entry c.unlink.new.self.tree) c.reach_found.ensures.agrees
-    (names_left s c.requires.whole c.in_ok-found.found.place c.in_ok-found.ensures.fine c.in-Some.directory c.in-Some.name.now c.in-Some.ensures
-    c.in_ok-found.found.node c.in_ok-found.ensures.there bare c.unlink.new.self c.unlink.ensures)
+    (names_left s c.requires.caller.whole c.in_ok-found.found.place c.in_ok-found.ensures.reaches.fine c.in-Some.directory c.in-Some.name.now c.in-Some.ensures
+    c.in_ok-found.found.node c.in_ok-found.ensures.reaches.there bare c.unlink.new.self c.unlink.ensures)

@@ -20,5 +20,5 @@ returns-clause-agrees g c =
     let s = c.args.system.now.parts in
     let plain : is_directory_at s.tree c.in_ok-found.found.node ≡ false = ap (λ t. is_directory_at t c.in_ok-found.found.node) (sym c.tree.ensures) ∙ sym c.is_directory.ensures ∙ c.if-is_directory.false in
     c.changed.ensures (find_entry s.tree) (find_entry c.unlink.new.self.tree) c.reach_found.ensures.agrees
-    (names_left s c.requires.whole c.in_ok-found.found.place c.in_ok-found.ensures.fine c.in-Some.directory c.in-Some.name.now c.in-Some.ensures
-    c.in_ok-found.found.node c.in_ok-found.ensures.there (no_entries (node_at s.tree c.in_ok-found.found.node) plain) c.unlink.new.self c.unlink.ensures)
+    (names_left s c.requires.caller.whole c.in_ok-found.found.place c.in_ok-found.ensures.reaches.fine c.in-Some.directory c.in-Some.name.now c.in-Some.ensures
+    c.in_ok-found.found.node c.in_ok-found.ensures.reaches.there (no_entries (node_at s.tree c.in_ok-found.found.node) plain) c.unlink.new.self c.unlink.ensures)

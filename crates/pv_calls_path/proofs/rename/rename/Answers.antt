@@ -1,4 +1,4 @@
-use Rattle.std.proofs.Common.{◌≡◌, ◌∙◌, ap, sym, true, false, arith, refl}
+use Rattle.std.proofs.Common.{◌≡◌, ◌∙◌, ap, sym, true, false, arith, refl, rules}
 use Rattle.std.proofs.lemmas.Result.{err_from_is_err_and}
 use Rattle.pv_calls_state.specs.Attempts.{collected}
 use Rattle.pv_calls_path.specs.Moving.{check_move}
@@ -33,7 +33,7 @@ returns-in-Err-clause-performed g c =
     record {
       as_defined = λ me at. rw c.refusal-in-Err.ensures
           (ap collected (rename_refused s c.args.pid me c.args.path.now c.args.new.now fine other c.in_ok-both.both.first c.in_ok-both.both.second
-          (reached-as s me me.directory c.rename-first.ensures c.in_ok-both.both.first (c.in_ok-both.ensures.first me at)) (reached-as s me me.directory c.rename-second.ensures c.in_ok-both.both.second (c.in_ok-both.ensures.second me at)) c.in_ok-both.both.node c.in_ok-both.ensures.there
+          (reached-as s me me.directory c.rename-first.ensures c.in_ok-both.both.first (c.in_ok-both.ensures.first.reached me at)) (reached-as s me me.directory c.rename-second.ensures c.in_ok-both.both.second (c.in_ok-both.ensures.second.reached me at)) c.in_ok-both.both.node c.in_ok-both.ensures.first.there
           c.in-Some-Some.from c.in-Some-Some.name.now c.in-Some-Some.ensures c.in-Some-Some.to c.in-Some-Some.other.now c.in-Some-Some.ensures' differs c.in-Err.errno
           (move_refused s c.args.pid me c.in_ok-both.both.node c.in-Some-Some.from c.in-Some-Some.name.now c.in-Some-Some.to c.in-Some-Some.other.now o c.in-Err.errno
           (ap (λ t. check_move t c.in_ok-both.both.node c.in-Some-Some.to o) (sym c.tree.ensures) ∙ ap (check_move c.tree.result.now.tree c.in_ok-both.both.node c.in-Some-Some.to) (sym c.node-there.ensures) ∙ c.in-Err.ensures))));
@@ -41,14 +41,19 @@ returns-in-Err-clause-performed g c =
       small = tt;
     }
 
-pub rename-requires-clause-apart : goal.rename-requires-clause-apart
-rename-requires-clause-apart g c =
+pub rename-requires-clause-entry : goal.rename-requires-clause-entry
+rename-requires-clause-entry g c =
     let s = c.args.system.now.parts in
     let o = node_of c.in_ok-both.both.second in
     let differs : same_node o c.in_ok-both.both.node ≡ false = ap (λ x. same_node x c.in_ok-both.both.node) (sym c.node-there.ensures) ∙ sym c.is_same_node.ensures ∙ c.if-is_same_node.false in
-    let named = named-place s.tree c.in_ok-both.both.first (c.in-Some-Some.from, c.in-Some-Some.name.now) c.in_ok-both.ensures.fine c.in-Some-Some.ensures in
-    let new_named = named-place s.tree c.in_ok-both.both.second (c.in-Some-Some.to, c.in-Some-Some.other.now) c.in_ok-both.ensures.second_fine c.in-Some-Some.ensures' in
-    λ is. apart_from o c.in_ok-both.both.node differs (sym new_named.found ∙ is ∙ named.found ∙ c.in_ok-both.ensures.there)
+    let named = named-place s.tree c.in_ok-both.both.first (c.in-Some-Some.from, c.in-Some-Some.name.now) c.in_ok-both.ensures.first.fine c.in-Some-Some.ensures in
+    let new_named = named-place s.tree c.in_ok-both.both.second (c.in-Some-Some.to, c.in-Some-Some.other.now) c.in_ok-both.ensures.second.fine c.in-Some-Some.ensures' in
+    record {
+      from = named.directory;
+      present = search rules;
+      name = new_named.name;
+      apart = λ is. apart_from o c.in_ok-both.both.node differs (sym new_named.found ∙ is ∙ named.found ∙ c.in_ok-both.ensures.first.there);
+    }
 
 pub returns-in-Err-rename-clause-performed : goal.returns-in-Err-rename-clause-performed
 returns-in-Err-rename-clause-performed g c =
@@ -60,15 +65,15 @@ returns-in-Err-rename-clause-performed g c =
     let passes : check_move s.tree c.in_ok-both.both.node c.in-Some-Some.to o ≡ give tt =
     ap (λ t. check_move t c.in_ok-both.both.node c.in-Some-Some.to o) (sym c.tree.ensures) ∙ ap (check_move c.tree.result.now.tree c.in_ok-both.both.node c.in-Some-Some.to) (sym c.node-there.ensures) ∙ c.in_default-check_move.ensures in
     let named : FineName s.tree (c.in-Some-Some.from, c.in-Some-Some.name.now) (node_of c.in_ok-both.both.first) =
-    named-place s.tree c.in_ok-both.both.first (c.in-Some-Some.from, c.in-Some-Some.name.now) c.in_ok-both.ensures.fine c.in-Some-Some.ensures in
+    named-place s.tree c.in_ok-both.both.first (c.in-Some-Some.from, c.in-Some-Some.name.now) c.in_ok-both.ensures.first.fine c.in-Some-Some.ensures in
     record {
       as_defined = λ me at. rw (c.refusal-in-Err-rename.ensures, c.space_errno.ensures)
           (ap collected (rename_refused s c.args.pid me c.args.path.now c.args.new.now fine other c.in_ok-both.both.first c.in_ok-both.both.second
-          (reached-as s me me.directory c.rename-first.ensures c.in_ok-both.both.first (c.in_ok-both.ensures.first me at)) (reached-as s me me.directory c.rename-second.ensures c.in_ok-both.both.second (c.in_ok-both.ensures.second me at)) c.in_ok-both.both.node c.in_ok-both.ensures.there
+          (reached-as s me me.directory c.rename-first.ensures c.in_ok-both.both.first (c.in_ok-both.ensures.first.reached me at)) (reached-as s me me.directory c.rename-second.ensures c.in_ok-both.both.second (c.in_ok-both.ensures.second.reached me at)) c.in_ok-both.both.node c.in_ok-both.ensures.first.there
           c.in-Some-Some.from c.in-Some-Some.name.now c.in-Some-Some.ensures c.in-Some-Some.to c.in-Some-Some.other.now c.in-Some-Some.ensures' differs _
           (move_crowded s c.args.pid me c.in_ok-both.both.node c.in-Some-Some.from c.in-Some-Some.name.now c.in-Some-Some.to c.in-Some-Some.other.now o c.in-Err-rename.space passes
-          (named.found ∙ c.in_ok-both.ensures.there) c.in-Err-rename.ensures.refused)));
-      unchanged = c.in-Err-rename.ensures.unchanged;
+          (named.found ∙ c.in_ok-both.ensures.first.there) c.in-Err-rename.ensures.refused)));
+      unchanged = c.in-Err-rename.ensures.err;
       small = tt;
     }
 
@@ -82,15 +87,15 @@ returns-clause-performed g c =
     let passes : check_move s.tree c.in_ok-both.both.node c.in-Some-Some.to o ≡ give tt =
     ap (λ t. check_move t c.in_ok-both.both.node c.in-Some-Some.to o) (sym c.tree.ensures) ∙ ap (check_move c.tree.result.now.tree c.in_ok-both.both.node c.in-Some-Some.to) (sym c.node-there.ensures) ∙ c.in_default-check_move.ensures in
     let named : FineName s.tree (c.in-Some-Some.from, c.in-Some-Some.name.now) (node_of c.in_ok-both.both.first) =
-    named-place s.tree c.in_ok-both.both.first (c.in-Some-Some.from, c.in-Some-Some.name.now) c.in_ok-both.ensures.fine c.in-Some-Some.ensures in
+    named-place s.tree c.in_ok-both.both.first (c.in-Some-Some.from, c.in-Some-Some.name.now) c.in_ok-both.ensures.first.fine c.in-Some-Some.ensures in
     let short : is_too_long c.rename.new.self.tree ≡ false = ap is_too_long (sym c.tree-2.ensures) ∙ c.invariant.ensures.short in
     let roomy : fits c.rename.new.self.tree ≡ true = ap fits (sym c.tree-2.ensures) ∙ c.invariant.ensures.fits in
     record {
       as_defined = λ me at. rw c.answer_of-2.ensures
           (rename_goes s c.args.pid me c.args.path.now c.args.new.now fine other c.in_ok-both.both.first c.in_ok-both.both.second
-          (reached-as s me me.directory c.rename-first.ensures c.in_ok-both.both.first (c.in_ok-both.ensures.first me at)) (reached-as s me me.directory c.rename-second.ensures c.in_ok-both.both.second (c.in_ok-both.ensures.second me at)) c.in_ok-both.both.node c.in_ok-both.ensures.there
+          (reached-as s me me.directory c.rename-first.ensures c.in_ok-both.both.first (c.in_ok-both.ensures.first.reached me at)) (reached-as s me me.directory c.rename-second.ensures c.in_ok-both.both.second (c.in_ok-both.ensures.second.reached me at)) c.in_ok-both.both.node c.in_ok-both.ensures.first.there
           c.in-Some-Some.from c.in-Some-Some.name.now c.in-Some-Some.ensures c.in-Some-Some.to c.in-Some-Some.other.now c.in-Some-Some.ensures' differs
-          c.rename.new.self passes (named.found ∙ c.in_ok-both.ensures.there) c.in_default-rename.ensures.moved short roomy);
+          c.rename.new.self passes (named.found ∙ c.in_ok-both.ensures.first.there) c.in_default-rename.ensures.ok short roomy);
       unchanged = rw c.answer_of-2.ensures tt;
       small = rw c.answer_of-2.ensures (omega arith);
     }
@@ -104,10 +109,10 @@ returns-clause-agrees g c =
     let passes : check_move s.tree n c.in-Some-Some.to o ≡ give tt =
     ap (λ t. check_move t n c.in-Some-Some.to o) (sym c.tree.ensures) ∙ ap (check_move c.tree.result.now.tree n c.in-Some-Some.to) (sym c.node-there.ensures) ∙ c.in_default-check_move.ensures in
     let named : FineName s.tree (c.in-Some-Some.from, c.in-Some-Some.name.now) (node_of c.in_ok-both.both.first) =
-    named-place s.tree c.in_ok-both.both.first (c.in-Some-Some.from, c.in-Some-Some.name.now) c.in_ok-both.ensures.fine c.in-Some-Some.ensures in
+    named-place s.tree c.in_ok-both.both.first (c.in-Some-Some.from, c.in-Some-Some.name.now) c.in_ok-both.ensures.first.fine c.in-Some-Some.ensures in
     let new_named : FineName s.tree (c.in-Some-Some.to, c.in-Some-Some.other.now) o =
-    named-place s.tree c.in_ok-both.both.second (c.in-Some-Some.to, c.in-Some-Some.other.now) c.in_ok-both.ensures.second_fine c.in-Some-Some.ensures' in
-    let e = names_moved s c.requires.whole c.in-Some-Some.from c.in-Some-Some.name.now c.in-Some-Some.to c.in-Some-Some.other.now n named.directory (named.found ∙ c.in_ok-both.ensures.there)
+    named-place s.tree c.in_ok-both.both.second (c.in-Some-Some.to, c.in-Some-Some.other.now) c.in_ok-both.ensures.second.fine c.in-Some-Some.ensures' in
+    let e = names_moved s c.requires.caller.whole c.in-Some-Some.from c.in-Some-Some.name.now c.in-Some-Some.to c.in-Some-Some.other.now n named.directory (named.found ∙ c.in_ok-both.ensures.first.there)
     (new_named.directory, new_named.appears) new_named.name (move_clear s.tree n c.in-Some-Some.to o passes) (λ is. apart_from o n differs (sym new_named.found ∙ is))
-    (ap (entries_there s.tree) new_named.found ∙ move_empty s.tree n c.in-Some-Some.to o passes) c.rename.new.self c.in_default-rename.ensures.moved in
+    (ap (entries_there s.tree) new_named.found ∙ move_empty s.tree n c.in-Some-Some.to o passes) c.rename.new.self c.in_default-rename.ensures.ok in
     c.changed-2.ensures e.0 (find_entry c.rename.new.self.tree) (c.changed.ensures (find_entry s.tree) e.0 c.reach_both.ensures.agrees e.1) e.2

@@ -18,7 +18,7 @@ unveil-requires-clause-there g c =
     let s = c.args.system.now.parts in
     let target = c.target_of-target.ensures ∙ ap (λ (t : Tree). target_of t c.to_place.result) c.tree.ensures ∙ ap (target_of s.tree) c.to_place.ensures in
     subst (λ (x : Target). is_some (node_at s.tree (target_directory x)) ≡ true) (sym target)
-    (place_target s.tree c.in_ok-place.place c.in_ok-place.ensures.fine)
+    (place_target s.tree c.in_ok-place.place c.in_ok-place.ensures.leads.fine)
 
 pub returns-in-Ok-clause-performed : goal.returns-in-Ok-clause-performed
 returns-in-Ok-clause-performed g c =
@@ -26,7 +26,7 @@ returns-in-Ok-clause-performed g c =
     let target = c.target_of-target.ensures ∙ ap (λ (t : Tree). target_of t c.to_place.result) c.tree.ensures ∙ ap (target_of s.tree) c.to_place.ensures in
     record {
       as_defined = λ me at.
-          let walked = walked_by s c.args.pid me at c.record-record.result.now c.record-record.ensures c.args.path.now c.in_ok-place.place c.in_ok-place.ensures.walked in
+          let walked = walked_by s c.args.pid me at c.record-record.result.now c.record-record.ensures c.args.path.now c.in_ok-place.place c.in_ok-place.ensures.leads.walked in
           let unlocked = is_unlocked s c.args.pid me at c.record-record.result.now c.record-record.ensures (sym c.is_locked.ensures ∙ c.if-is_locked.false) in
           let added = c.in-Ok.ensures.added me at in
           rw c.answer_of.ensures
@@ -40,7 +40,7 @@ returns-in-Ok-clause-performed g c =
 pub returns-in-Ok-clause-agrees : goal.returns-in-Ok-clause-agrees
 returns-in-Ok-clause-agrees g c =
     let s = c.args.system.now.parts in
-    let me = some-at (process_at s c.args.pid) c.requires.live in
+    let me = some-at (process_at s c.args.pid) c.requires.caller.live in
     g.met.L.Lookup.same_answers c.walk_to.new.lookup (find_entry s.tree) (find_entry c.unveil.new.self.tree)
     c.walk_to.ensures.agrees
     (λ d n. ap (λ (x : State). find_entry x.tree d n) (c.in-Ok.ensures.added me.0 me.1).only)
@@ -52,7 +52,7 @@ returns-in-Err-clause-performed g c =
     let reported = c.answer_to-in-Err in
     record {
       as_defined = λ me at.
-          let walked = walked_by s c.args.pid me at c.record-record.result.now c.record-record.ensures c.args.path.now c.in_ok-place.place c.in_ok-place.ensures.walked in
+          let walked = walked_by s c.args.pid me at c.record-record.result.now c.record-record.ensures c.args.path.now c.in_ok-place.place c.in_ok-place.ensures.leads.walked in
           let unlocked = is_unlocked s c.args.pid me at c.record-record.result.now c.record-record.ensures (sym c.is_locked.ensures ∙ c.if-is_locked.false) in
           ap collected (unveil_refused s c.args.pid me c.args.path.now c.args.permissions.now c.in-Some.permissions (sym c.in-Some.ensures) unlocked c.in_ok-place.place walked reported.result.errno reported.result.cause
           (ap (λ (x : Target). add_to (unveiled_of me) x c.in-Some.permissions) (sym target) ∙ c.in-Err.ensures.refused me at ∙ reported.ensures.fault))
@@ -68,7 +68,7 @@ returns-in_err-place-clause-performed g c =
     record {
       as_defined = λ me at.
           let unlocked = is_unlocked s c.args.pid me at c.record-record.result.now c.record-record.ensures (sym c.is_locked.ensures ∙ c.if-is_locked.false) in
-          let lost = lost_by s c.args.pid me at c.record-record.result.now c.record-record.ensures c.args.path.now _ c.in_err-place.ensures.lost in
+          let lost = lost_by s c.args.pid me at c.record-record.result.now c.record-record.ensures c.args.path.now _ c.in_err-place.ensures.nowhere.lost in
           rw (p.1, p.2) (ap collected (unveil_lost s c.args.pid me c.args.path.now c.args.permissions.now c.in-Some.permissions (sym c.in-Some.ensures) unlocked _ lost));
       unchanged = rw p.1 refl;
       small = rw p.1 tt;

@@ -13,11 +13,15 @@ use Rattle.pv_model.specs.Tree.{is_directory_at}
 use Rattle.pv_calls_plain.proofs.FileCalls.{file-part, lseek-out, lseek-to, part-is}
 use Rattle.pv_calls_plain.proofs.files.lseek.Goals as goal
 
-pub seek_base-base-requires-clause-plain : goal.seek_base-base-requires-clause-plain
-seek_base-base-requires-clause-plain c = λ f at.
+pub seek_base-base-requires-clause-seekable : goal.seek_base-base-requires-clause-seekable
+seek_base-base-requires-clause-seekable c =
     let s = c.args.parts.now in
-    let node = file-part (λ (f : OpenFile). f.node) c.files.result.now.files s.files c.in-Some.file f c.node-node.result c.files.ensures c.node-node.ensures at in
-    ap₂ is_directory_at (sym c.tree.ensures) (sym node) ∙ sym c.is_directory.ensures ∙ c.if-is_directory.false
+    record {
+      opened = search rules;
+      plain = λ f at.
+          let node = file-part (λ (f : OpenFile). f.node) c.files.result.now.files s.files c.in-Some.file f c.node-node.result c.files.ensures c.node-node.ensures at in
+          ap₂ is_directory_at (sym c.tree.ensures) (sym node) ∙ sym c.is_directory.ensures ∙ c.if-is_directory.false;
+    }
 
 pub returns-in_default-offset_from : goal.returns-in_default-offset_from
 returns-in_default-offset_from c = record {

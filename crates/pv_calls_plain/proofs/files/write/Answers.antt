@@ -1,4 +1,4 @@
-use Rattle.std.proofs.Common.{◌∙◌, ap, arith, sym, subst, w32}
+use Rattle.std.proofs.Common.{◌∙◌, ap, arith, rules, sym, subst, w32}
 use Rattle.std.proofs.lemmas.Int.{to_z-of_z}
 use Rattle.std.proofs.lemmas.Result.{IfOk-weaker}
 use Rattle.pv_calls_state.specs.Attempts.{collected}
@@ -9,12 +9,16 @@ use Rattle.pv_model.specs.State.{OpenFile, writes}
 use Rattle.pv_calls_plain.proofs.FileCalls.{file-part, is-written, write-is}
 use Rattle.pv_calls_plain.proofs.files.write.Goals as goal
 
-pub write_bytes-requires-clause-plain : goal.write_bytes-requires-clause-plain
-write_bytes-requires-clause-plain c = λ f at.
+pub write_bytes-requires-clause-on_file : goal.write_bytes-requires-clause-on_file
+write_bytes-requires-clause-on_file c =
     let s = c.args.parts.now in
     let k = c.in-Some.file in
-    let mode = file-part (λ (f : OpenFile). f.mode) c.files.result.now.files s.files k f c.mode.result c.files.ensures c.mode.ensures at in
-    is-written s c.requires.whole k f at (ap writes (sym mode) ∙ sym c.writes.ensures ∙ c.if-not-writes.false)
+    record {
+      there = search rules;
+      opened = λ f at.
+          let mode = file-part (λ (f : OpenFile). f.mode) c.files.result.now.files s.files k f c.mode.result c.files.ensures c.mode.ensures at in
+          is-written s c.requires.whole k f at (ap writes (sym mode) ∙ sym c.writes.ensures ∙ c.if-not-writes.false);
+    }
 
 pub returns : goal.returns
 returns c = record {

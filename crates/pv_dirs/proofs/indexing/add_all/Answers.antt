@@ -24,8 +24,8 @@ loop-inode-preserved c = λ n held_there below there sort.
             rw here (subst (AreLed w.add_slots.new.index f.version c.loop-inode.inode) bytes w.add_slots.ensures.led)
         | inr other ↦
             led_like c.loop-inode.inode n c.loop-inode.index w.add_slots.new.index f.version held_there.bytes record {
-              leads = λ m k name apart leads. w.add_slots.ensures.others m k name leads;
-              known_before = λ m apart is. sym (w.add_slots.ensures.known m apart) ∙ is;
+              leads = λ m k name apart leads. w.add_slots.ensures.leads.others m k name leads;
+              known_before = λ m apart is. sym (w.add_slots.ensures.leads.known m apart) ∙ is;
             } other (before (omega arith))
       ])
       | else-is_directory w ↦ rw w.index-is (elim (cases_eq n c.loop-inode.inode) [

@@ -13,14 +13,12 @@ use Rattle.pv_dirs.proofs.indexing.add_slots.Goals.{After-name_in_run-name}
 pub loop-k-init : goal.loop-k-init
 loop-k-init c = record {
   run = refl;
-  some = tt;
-  last = tt;
+  before = record { some = tt; last = tt };
   led = record {
     slots = λ k below. absurd (omega arith);
     ordered = λ is j k less below. absurd (omega arith);
   };
-  others = λ d k other leads. leads;
-  known = λ d other. refl;
+  leads = record { others = λ d k other leads. leads; known = λ d other. refl };
 }
 
 -- the name in the run, if it contains a whole one, is that of the slot
@@ -45,11 +43,15 @@ loop-k-preserved c =
     let here : c.loop-k.k ≡ c.loop-k.k + 1 - 1 = omega arith in
     record {
       run = rw c.rest_of-left.ensures (run_after v bytes c.run_at-run.result.now c.loop-k.k c.layout-length.result.slot_length whole c.run_at-run.ensures);
-      some = IfSome_then c.name_in_run-name.result (named (goal.at.loop-k-preserved c).After-name_in_run-name) (λ name is. omega arith);
-      last = subst (λ k. IfSome c.name_in_run-name.result (λ name. name.now ≡ slot_name (slot_at v bytes k))) here (named (goal.at.loop-k-preserved c).After-name_in_run-name);
+      before = record {
+        some = IfSome_then c.name_in_run-name.result (named (goal.at.loop-k-preserved c).After-name_in_run-name) (λ name is. omega arith);
+        last = subst (λ k. IfSome c.name_in_run-name.result (λ name. name.now ≡ slot_name (slot_at v bytes k))) here (named (goal.at.loop-k-preserved c).After-name_in_run-name);
+      };
       led = c.add_slot.ensures.led;
-      others = λ d k other leads. c.add_slot.ensures.others d k other (c.loop-k.invariant.others d k other leads);
-      known = λ d other. c.add_slot.ensures.known d other ∙ c.loop-k.invariant.known d other;
+      leads = record {
+        others = λ d k other leads. c.add_slot.ensures.leads.others d k other (c.loop-k.invariant.leads.others d k other leads);
+        known = λ d other. c.add_slot.ensures.leads.known d other ∙ c.loop-k.invariant.leads.known d other;
+      };
     }
 
 pub returns-clause-led : goal.returns-clause-led

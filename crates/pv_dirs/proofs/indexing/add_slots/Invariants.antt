@@ -1,18 +1,13 @@
-use Rattle.std.proofs.Common.{◌≡◌, ◌≢◌, ◌-◌, ◌≤◌, ℕ}
-use Rattle.std.specs.Prelude.{IfSome}
-use Rattle.pv_model.specs.Bytes.{Bytes}
-use Rattle.pv_dirs.specs.Dirs.{bytes_in}
-use Rattle.pv_dirs.specs.Index.{known, Leads, AreLedUpTo}
-use Rattle.pv_dirs.specs.Slots.{IsRun, slot_at, slot_name}
+use Rattle.pv_dirs.specs.Dirs.{bytes_in, IsNameBefore}
+use Rattle.pv_dirs.specs.Index.{AreLedUpTo, LeadsAsBefore}
+use Rattle.pv_dirs.specs.Slots.{IsRun}
 use Rattle.pv_dirs.proofs.indexing.add_slots.Given as goal
 
 -- the index leads to the entries in the slots so far, and to those of other directories as before
 abbrev pub invariant-loop-k : goal.invariant-loop-k
 invariant-loop-k l = record {
   run : IsRun l.dir.inodes.now.version (bytes_in l.dir) l.k l.left;
-  some : IfSome l.last (λ _. 1 ≤ l.k);
-  last : IfSome l.last (λ before. before.now ≡ slot_name (slot_at l.dir.inodes.now.version (bytes_in l.dir) (l.k - 1)));
+  before : IsNameBefore l.dir l.k l.last;
   led : AreLedUpTo l.index l.dir.inodes.now.version l.dir.directory (bytes_in l.dir) l.k;
-  others : (d k : ℕ) (other : Bytes) → Leads l.fn.index d other k → Leads l.index d other k;
-  known : (d : ℕ) → d ≢ l.dir.directory → known l.index d ≡ known l.fn.index d;
+  leads : LeadsAsBefore l.dir.directory l.fn.index l.index;
 }

@@ -13,8 +13,8 @@ pub returns-then-ascends : goal.returns-then-ascends
 returns-then-ascends c = λ is.
     let v = c.args.dir.now.inodes.now.version in
     let bytes = bytes_in c.args.dir.now in
-    let some : 1 ≤ c.args.count = subst (λ (r : Option (Bor (List ℕ))). IfSome r (λ _. 1 ≤ c.args.count)) c.in-Some.is c.requires.some in
+    let some : 1 ≤ c.args.count = subst (λ (r : Option (Bor (List ℕ))). IfSome r (λ _. 1 ≤ c.args.count)) c.in-Some.is c.requires.before.some in
     let last : c.in-Some.last.now ≡ slot_name (slot_at v bytes (c.args.count - 1)) =
-    subst (λ (r : Option (Bor (List ℕ))). IfSome r (λ before. before.now ≡ slot_name (slot_at v bytes (c.args.count - 1)))) c.in-Some.is c.requires.last in
+    subst (λ (r : Option (Bor (List ℕ))). IfSome r (λ before. before.now ≡ slot_name (slot_at v bytes (c.args.count - 1)))) c.in-Some.is c.requires.before.last in
     let less = ap (λ (q : Bytes). is_lt (by_name q c.args.name.now)) (sym last) ∙ sym (bytes_less c.in-Some.last.now c.args.name.now) ∙ sym c.lt.ensures ∙ is in
     ascend_to v bytes c.args.count c.args.name.now some (c.requires.ordered (sym c.ascends.ensures ∙ c.if-ascends.true)) (less_from _ less)

@@ -6,17 +6,18 @@ use Rattle.pv_model.specs.Tree.{Tree}
 use Rattle.pv_host_copy.proofs.Imports.{reports-tree, begins-tree}
 use Rattle.pv_host_copy.proofs.image.write_store.Goals as goal
 
-pub returns-clause-whole : goal.returns-clause-whole
-returns-clause-whole g c =
+pub returns : goal.returns
+returns g c =
     let before = g.W.Sink.written c.args.image.now in
     let after = g.W.Sink.written c.write_tree.new.image in
-    on_ok_weaker c.write_tree.result
-    (λ image. reports-tree c.args.store.now before after c.invariant.ensures.named (subst (λ (t : Tree). WritesImage (named_tree t) before after) c.tree.ensures.tree image))
-    c.write_tree.ensures.whole
-
-pub returns-clause-cut : goal.returns-clause-cut
-returns-clause-cut g c = λ is.
-    let before = g.W.Sink.written c.args.image.now in
-    let after = g.W.Sink.written c.write_tree.new.image in
-    begins-tree c.args.store.now before after c.invariant.ensures.named
-    (subst (λ (t : Tree). BeginsImage (named_tree t) before after) c.tree.ensures.tree (c.write_tree.ensures.cut is))
+    let named = c.invariant.ensures.named in
+    record {
+      whole = on_ok_weaker c.write_tree.result
+          (λ image. reports-tree c.args.store.now before after named (subst (λ (t : Tree). WritesImage (named_tree t) before after) c.tree.ensures.tree image))
+          c.write_tree.ensures.whole;
+      cut = λ is. begins-tree c.args.store.now before after named
+          (subst (λ (t : Tree). BeginsImage (named_tree t) before after) c.tree.ensures.tree (c.write_tree.ensures.cut is));
+      failed = c.write_tree.ensures.failed;
+      memory = c.write_tree.ensures.memory;
+      flushed = c.write_tree.ensures.flushed;
+    }

@@ -31,14 +31,16 @@ write_bytes-requires g c =
       writable = placed-writable c.args.tree.now c.invariant.ensures c.args.version c.args.blocks c.args.inodes c.requires.inodes c.requires.names c.requires.sizes c.requires.room;
     }
 
-pub returns-clause-whole : goal.returns-clause-whole
-returns-clause-whole g c =
+pub returns : goal.returns
+returns g c =
     let u = placed c.args.tree.now.tree c.args.version c.args.blocks c.args.inodes in
     let w = placed-writable c.args.tree.now c.invariant.ensures c.args.version c.args.blocks c.args.inodes c.requires.inodes c.requires.names c.requires.sizes c.requires.room in
-    on_ok_weaker c.write_bytes.result (reports u w (g.O.Sink.written c.args.image.now) (g.O.Sink.written c.write_bytes.new.image)) c.write_bytes.ensures.whole
-
-pub returns-clause-cut : goal.returns-clause-cut
-returns-clause-cut g c failed =
-    let u = placed c.args.tree.now.tree c.args.version c.args.blocks c.args.inodes in
-    let w = placed-writable c.args.tree.now c.invariant.ensures c.args.version c.args.blocks c.args.inodes c.requires.inodes c.requires.names c.requires.sizes c.requires.room in
-    begins u w (g.O.Sink.written c.args.image.now) (g.O.Sink.written c.write_bytes.new.image) (c.write_bytes.ensures.cut failed)
+    let before = g.O.Sink.written c.args.image.now in
+    let after = g.O.Sink.written c.write_bytes.new.image in
+    record {
+      whole = on_ok_weaker c.write_bytes.result (reports u w before after) c.write_bytes.ensures.whole;
+      cut = λ failed. begins u w before after (c.write_bytes.ensures.cut failed);
+      failed = c.write_bytes.ensures.failed;
+      memory = c.write_bytes.ensures.memory;
+      flushed = c.write_bytes.ensures.flushed;
+    }

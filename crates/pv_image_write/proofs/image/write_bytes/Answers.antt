@@ -17,7 +17,7 @@ returns-clause-whole g c =
     let u = placed c.args.tree.now.tree c.args.version c.args.blocks c.args.inodes in
     let whole = whole-image c.args.blocks (inode_blocks c.args.version c.args.inodes) c.requires.sizes in
     let is = image-as_written u c.requires.writable c.args.blocks c.in_ok-window.window.items whole c.in_ok-window.ensures.items in
-    subst (λ (xs : Bytes). g.O.Sink.written c.write_contents.new.image ≡ and_all (g.O.Sink.written c.args.image.now) xs) is c.in_ok-write_contents.ensures.whole
+    subst (λ (xs : Bytes). g.O.Sink.written c.write_contents.new.image ≡ and_all (g.O.Sink.written c.args.image.now) xs) is c.in_ok-write_contents.ensures.written.whole
 
 pub returns-in_err-write_contents-clause-cut : goal.returns-in_err-write_contents-clause-cut
 unfolding placed
@@ -25,4 +25,4 @@ returns-in_err-write_contents-clause-cut g c failed =
     let u = placed c.args.tree.now.tree c.args.version c.args.blocks c.args.inodes in
     let whole = whole-image c.args.blocks (inode_blocks c.args.version c.args.inodes) c.requires.sizes in
     let is = image-as_written u c.requires.writable c.args.blocks c.in_ok-window.window.items whole c.in_ok-window.ensures.items in
-    subst (λ (xs : Bytes). WritesPrefix xs (g.O.Sink.written c.args.image.now) (g.O.Sink.written c.write_contents.new.image)) is c.in_err-write_contents.ensures.cut
+    subst (λ (xs : Bytes). WritesPrefix xs (g.O.Sink.written c.args.image.now) (g.O.Sink.written c.write_contents.new.image)) is c.in_err-write_contents.ensures.written.prefix

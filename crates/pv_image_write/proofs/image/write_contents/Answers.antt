@@ -1,4 +1,4 @@
-use Rattle.std.proofs.Common.{◌≡◌, ℕ, suc, ◌+◌, ◌-◌, ◌*◌, ◌≤◌, ◌++◌, replicate, sym, ap, subst, ◌∙◌, add-one, arith}
+use Rattle.std.proofs.Common.{◌≡◌, ℕ, suc, ◌+◌, ◌-◌, ◌*◌, ◌≤◌, ◌++◌, replicate, sym, ap, subst, ◌∙◌, add-one, arith, rules}
 use Rattle.std.proofs.lemmas.Result.{on_err_weaker, on_ok_weaker}
 use Rattle.pv_model.specs.declared.version.Version.{Version}
 use Rattle.pv_model.specs.Bytes.{Bytes}
@@ -24,13 +24,13 @@ next-node h s v blocks inodes more longer n =
 
 pub table_blocks-next-requires : goal.table_blocks-next-requires
 unfolding placed
-table_blocks-next-requires g c = c.requires.writable.few
+table_blocks-next-requires g c = c.requires.image.writable.few
 
 pub loop-slot-init : goal.loop-slot-init
 unfolding placed
 loop-slot-init g c = record {
   put =
-      put-none (placed c.args.tree.now.tree c.args.version c.args.blocks c.args.inodes) c.requires.writable c.args.window.now.items (g.O.Sink.written c.args.image.now)
+      put-none (placed c.args.tree.now.tree c.args.version c.args.blocks c.args.inodes) c.requires.image.writable c.args.window.now.items (g.O.Sink.written c.args.image.now)
       (c.table_blocks-next.result + 1) (ap (λ k. k + 1) c.table_blocks-next.ensures);
   room = omega arith;
   quiet = λ _. g.O.Sink.failures c.args.image.now;
@@ -41,18 +41,18 @@ unfolding placed
 add_blocks-requires-clause-blocks g c =
     let n = c.loop-slot.slot in
     let u = placed c.args.tree.now.tree c.args.version c.args.blocks c.args.inodes in
-    let is = next-node c.args.tree.now c.invariant.ensures c.args.version c.args.blocks c.args.inodes c.requires.inodes c.requires.names n in
-    as_written-room u c.requires.writable n c.loop-slot.next (written_at c.args.tree.now.tree (n + 1)) c.loop-slot.invariant.put.as_written.block_after c.loop-slot-test.true is
+    let is = next-node c.args.tree.now c.invariant.ensures c.args.version c.args.blocks c.args.inodes c.requires.image.inodes c.requires.image.names n in
+    as_written-room u c.requires.image.writable n c.loop-slot.next (written_at c.args.tree.now.tree (n + 1)) c.loop-slot.invariant.put.as_written.block_after c.loop-slot-test.true is
 
 pub add_blocks-requires-clause-room : goal.add_blocks-requires-clause-room
 unfolding placed
 add_blocks-requires-clause-room g c =
     let n = c.loop-slot.slot in
     let u = placed c.args.tree.now.tree c.args.version c.args.blocks c.args.inodes in
-    let is = next-node c.args.tree.now c.invariant.ensures c.args.version c.args.blocks c.args.inodes c.requires.inodes c.requires.names n in
-    let whole = whole-image c.args.blocks (inode_blocks c.args.version c.args.inodes) c.requires.sizes in
+    let is = next-node c.args.tree.now c.invariant.ensures c.args.version c.args.blocks c.args.inodes c.requires.image.inodes c.requires.image.names n in
+    let whole = whole-image c.args.blocks (inode_blocks c.args.version c.args.inodes) c.requires.image.sizes in
     let room =
-    node-room u c.requires.writable n c.args.window.now.items (g.O.Sink.written c.args.image.now) (g.O.Sink.written c.loop-slot.image) c.loop-slot.window.items c.loop-slot.next c.args.blocks
+    node-room u c.requires.image.writable n c.args.window.now.items (g.O.Sink.written c.args.image.now) (g.O.Sink.written c.loop-slot.image) c.loop-slot.window.items c.loop-slot.next c.args.blocks
     (written_at c.args.tree.now.tree (n + 1)) c.loop-slot.invariant.put c.loop-slot-test.true is c.requires.following whole in
     omega (arith, room, c.loop-slot.window.ok.0, c.loop-slot.invariant.room, c.requires.room)
 
@@ -61,8 +61,8 @@ unfolding placed
 overflow_cast-next g c =
     let n = c.loop-slot.slot in
     let u = placed c.args.tree.now.tree c.args.version c.args.blocks c.args.inodes in
-    let is = next-node c.args.tree.now c.invariant.ensures c.args.version c.args.blocks c.args.inodes c.requires.inodes c.requires.names n in
-    let room = as_written-room u c.requires.writable n c.loop-slot.next (written_at c.args.tree.now.tree (n + 1)) c.loop-slot.invariant.put.as_written.block_after c.loop-slot-test.true is in
+    let is = next-node c.args.tree.now c.invariant.ensures c.args.version c.args.blocks c.args.inodes c.requires.image.inodes c.requires.image.names n in
+    let room = as_written-room u c.requires.image.writable n c.loop-slot.next (written_at c.args.tree.now.tree (n + 1)) c.loop-slot.invariant.put.as_written.block_after c.loop-slot-test.true is in
     omega (arith, room, c.taken_blocks.ensures)
 
 pub overflow_add-next-in-loop-slot : goal.overflow_add-next-in-loop-slot
@@ -70,24 +70,29 @@ unfolding placed
 overflow_add-next-in-loop-slot g c =
     let n = c.loop-slot.slot in
     let u = placed c.args.tree.now.tree c.args.version c.args.blocks c.args.inodes in
-    let is = next-node c.args.tree.now c.invariant.ensures c.args.version c.args.blocks c.args.inodes c.requires.inodes c.requires.names n in
-    let room = as_written-room u c.requires.writable n c.loop-slot.next (written_at c.args.tree.now.tree (n + 1)) c.loop-slot.invariant.put.as_written.block_after c.loop-slot-test.true is in
+    let is = next-node c.args.tree.now c.invariant.ensures c.args.version c.args.blocks c.args.inodes c.requires.image.inodes c.requires.image.names n in
+    let room = as_written-room u c.requires.image.writable n c.loop-slot.next (written_at c.args.tree.now.tree (n + 1)) c.loop-slot.invariant.put.as_written.block_after c.loop-slot-test.true is in
     omega (arith, room, c.taken_blocks.ensures)
 
-pub returns-in_err-write_full-clause-cut : goal.returns-in_err-write_full-clause-cut
+pub returns-in_err-write_full-clause-written : goal.returns-in_err-write_full-clause-written
 unfolding placed
-returns-in_err-write_full-clause-cut g c =
+returns-in_err-write_full-clause-written g c =
     let n = c.loop-slot.slot in
     let u = placed c.args.tree.now.tree c.args.version c.args.blocks c.args.inodes in
     let had = c.args.window.now.items in
     let entry = g.O.Sink.written c.args.image.now in
     let mid = g.O.Sink.written c.loop-slot.image in
     let after = g.O.Sink.written c.write_full.new.image in
-    let is = next-node c.args.tree.now c.invariant.ensures c.args.version c.args.blocks c.args.inodes c.requires.inodes c.requires.names n in
+    let is = next-node c.args.tree.now c.invariant.ensures c.args.version c.args.blocks c.args.inodes c.requires.image.inodes c.requires.image.names n in
     let put =
-    put-node u c.requires.writable n had entry mid c.loop-slot.window.items c.add_blocks.new.bytes.items c.loop-slot.next c.taken_blocks.result (written_at c.args.tree.now.tree (n + 1))
+    put-node u c.requires.image.writable n had entry mid c.loop-slot.window.items c.add_blocks.new.bytes.items c.loop-slot.next c.taken_blocks.result (written_at c.args.tree.now.tree (n + 1))
     c.loop-slot.invariant.put is c.add_blocks.ensures.items c.taken_blocks.ensures in
-    on_err c.from_residual.result (cut-node u c.requires.writable (n + 1) had entry mid after c.add_blocks.new.bytes.items (c.loop-slot.next + c.taken_blocks.result) (omega (arith, c.loop-slot-test.true)) put c.in_err-write_full.ensures.cut)
+    record {
+      whole = search rules;
+      prefix = on_err c.from_residual.result (cut-node u c.requires.image.writable (n + 1) had entry mid after c.add_blocks.new.bytes.items (c.loop-slot.next + c.taken_blocks.result) (omega (arith, c.loop-slot-test.true)) put c.in_err-write_full.ensures.cut);
+      failed = on_err c.from_residual.result (rw (← c.loop-slot.invariant.quiet) c.in_err-write_full.ensures.failed);
+      quiet = search rules;
+    }
 
 pub loop-slot-preserved : goal.loop-slot-preserved
 unfolding placed
@@ -98,12 +103,12 @@ loop-slot-preserved g c =
     let entry = g.O.Sink.written c.args.image.now in
     let mid = g.O.Sink.written c.loop-slot.image in
     let after = g.O.Sink.written c.write_full.new.image in
-    let is = next-node c.args.tree.now c.invariant.ensures c.args.version c.args.blocks c.args.inodes c.requires.inodes c.requires.names n in
+    let is = next-node c.args.tree.now c.invariant.ensures c.args.version c.args.blocks c.args.inodes c.requires.image.inodes c.requires.image.names n in
     let put =
-    put-node u c.requires.writable n had entry mid c.loop-slot.window.items c.add_blocks.new.bytes.items c.loop-slot.next c.taken_blocks.result (written_at c.args.tree.now.tree (n + 1))
+    put-node u c.requires.image.writable n had entry mid c.loop-slot.window.items c.add_blocks.new.bytes.items c.loop-slot.next c.taken_blocks.result (written_at c.args.tree.now.tree (n + 1))
     c.loop-slot.invariant.put is c.add_blocks.ensures.items c.taken_blocks.ensures in
     record {
-      put = written-node u c.requires.writable (n + 1) had entry mid after c.add_blocks.new.bytes.items c.write_full.new.window.items (c.loop-slot.next + c.taken_blocks.result) put c.in_ok-write_full.ensures.put;
+      put = written-node u c.requires.image.writable (n + 1) had entry mid after c.add_blocks.new.bytes.items c.write_full.new.window.items (c.loop-slot.next + c.taken_blocks.result) put c.in_ok-write_full.ensures.put;
       room = omega (arith, c.loop-slot.invariant.room, c.add_blocks.ensures.capacity, c.write_full.ensures.capacity);
       quiet = c.in_ok-write_full.ensures.quiet ∙ c.loop-slot.invariant.quiet;
     }
@@ -113,37 +118,42 @@ unfolding placed
 overflow_sub-blocks g c =
     let u = placed c.args.tree.now.tree c.args.version c.args.blocks c.args.inodes in
     let all : c.loop-slot.slot ≡ c.args.inodes = omega arith in
-    let whole = whole-image c.args.blocks (inode_blocks c.args.version c.args.inodes) c.requires.sizes in
-    blocks-left u c.requires.writable c.loop-slot.slot c.loop-slot.next c.args.blocks all c.loop-slot.invariant.put.as_written.block_after whole
+    let whole = whole-image c.args.blocks (inode_blocks c.args.version c.args.inodes) c.requires.image.sizes in
+    blocks-left u c.requires.image.writable c.loop-slot.slot c.loop-slot.next c.args.blocks all c.loop-slot.invariant.put.as_written.block_after whole
 
 pub write_zeros-requires : goal.write_zeros-requires
 unfolding placed
 write_zeros-requires g c =
     let u = placed c.args.tree.now.tree c.args.version c.args.blocks c.args.inodes in
     let all : c.loop-slot.slot ≡ c.args.inodes = omega arith in
-    let whole = whole-image c.args.blocks (inode_blocks c.args.version c.args.inodes) c.requires.sizes in
+    let whole = whole-image c.args.blocks (inode_blocks c.args.version c.args.inodes) c.requires.image.sizes in
     let room =
-    zeros-room u c.requires.writable c.loop-slot.slot c.args.window.now.items (g.O.Sink.written c.args.image.now) (g.O.Sink.written c.loop-slot.image) c.loop-slot.window.items c.loop-slot.next
+    zeros-room u c.requires.image.writable c.loop-slot.slot c.args.window.now.items (g.O.Sink.written c.args.image.now) (g.O.Sink.written c.loop-slot.image) c.loop-slot.window.items c.loop-slot.next
     c.args.blocks c.loop-slot.invariant.put all c.requires.following whole in
     omega (arith, room, c.loop-slot.window.ok.0, c.loop-slot.invariant.room, c.requires.room)
 
-pub returns-in_err-write_zeros-clause-cut : goal.returns-in_err-write_zeros-clause-cut
+pub returns-in_err-write_zeros-clause-written : goal.returns-in_err-write_zeros-clause-written
 unfolding placed
-returns-in_err-write_zeros-clause-cut g c =
+returns-in_err-write_zeros-clause-written g c =
     let u = placed c.args.tree.now.tree c.args.version c.args.blocks c.args.inodes in
     let had = c.args.window.now.items in
     let entry = g.O.Sink.written c.args.image.now in
     let mid = g.O.Sink.written c.loop-slot.image in
     let after = g.O.Sink.written c.write_zeros.new.image in
     let all : c.loop-slot.slot ≡ c.args.inodes = omega arith in
-    let whole = whole-image c.args.blocks (inode_blocks c.args.version c.args.inodes) c.requires.sizes in
-    let put = put-zeros u c.requires.writable c.loop-slot.slot had entry mid c.loop-slot.window.items c.loop-slot.next c.args.blocks c.loop-slot.invariant.put all whole in
-    on_err c.from_residual-in_err-write_zeros.result (put-cut entry mid after (c.loop-slot.window.items ++ replicate (512 * (c.args.blocks - c.loop-slot.next)) 0) (had ++ padded (512 * u.blocks) (all_contents u u.inodes)) put
-    c.in_err-write_zeros.ensures.cut)
+    let whole = whole-image c.args.blocks (inode_blocks c.args.version c.args.inodes) c.requires.image.sizes in
+    let put = put-zeros u c.requires.image.writable c.loop-slot.slot had entry mid c.loop-slot.window.items c.loop-slot.next c.args.blocks c.loop-slot.invariant.put all whole in
+    record {
+      whole = search rules;
+      prefix = on_err c.from_residual-in_err-write_zeros.result (put-cut entry mid after (c.loop-slot.window.items ++ replicate (512 * (c.args.blocks - c.loop-slot.next)) 0) (had ++ padded (512 * u.blocks) (all_contents u u.inodes)) put
+          c.in_err-write_zeros.ensures.cut);
+      failed = on_err c.from_residual-in_err-write_zeros.result (rw (← c.loop-slot.invariant.quiet) c.in_err-write_zeros.ensures.failed);
+      quiet = search rules;
+    }
 
-pub returns-clause-whole : goal.returns-clause-whole
+pub returns-clause-written : goal.returns-clause-written
 unfolding placed
-returns-clause-whole g c =
+returns-clause-written g c =
     let u = placed c.args.tree.now.tree c.args.version c.args.blocks c.args.inodes in
     let had = c.args.window.now.items in
     let entry = g.O.Sink.written c.args.image.now in
@@ -152,28 +162,16 @@ returns-clause-whole g c =
     let after = g.O.Sink.written c.write_through.new.sink in
     let image = had ++ padded (512 * u.blocks) (all_contents u u.inodes) in
     let all : c.loop-slot.slot ≡ c.args.inodes = omega arith in
-    let whole = whole-image c.args.blocks (inode_blocks c.args.version c.args.inodes) c.requires.sizes in
-    let put = put-zeros u c.requires.writable c.loop-slot.slot had entry mid c.loop-slot.window.items c.loop-slot.next c.args.blocks c.loop-slot.invariant.put all whole in
+    let whole = whole-image c.args.blocks (inode_blocks c.args.version c.args.inodes) c.requires.image.sizes in
+    let put = put-zeros u c.requires.image.writable c.loop-slot.slot had entry mid c.loop-slot.window.items c.loop-slot.next c.args.blocks c.loop-slot.invariant.put all whole in
     let left = c.write_zeros.new.window.items in
     let zeros = c.loop-slot.window.items ++ replicate (512 * (c.args.blocks - c.loop-slot.next)) 0 in
     let now = put-on entry mid last zeros image left put c.in_ok-write_zeros.ensures.put in
-    on_ok_weaker c.write_through.result (λ written. put-all entry last after left image now (written ∙ ap (and_all last) c.as_slice.ensures.value)) c.write_through.ensures.written.whole
-
-pub returns-clause-cut : goal.returns-clause-cut
-unfolding placed
-returns-clause-cut g c =
-    let u = placed c.args.tree.now.tree c.args.version c.args.blocks c.args.inodes in
-    let had = c.args.window.now.items in
-    let entry = g.O.Sink.written c.args.image.now in
-    let mid = g.O.Sink.written c.loop-slot.image in
-    let last = g.O.Sink.written c.write_zeros.new.image in
-    let after = g.O.Sink.written c.write_through.new.sink in
-    let image = had ++ padded (512 * u.blocks) (all_contents u u.inodes) in
-    let all : c.loop-slot.slot ≡ c.args.inodes = omega arith in
-    let whole = whole-image c.args.blocks (inode_blocks c.args.version c.args.inodes) c.requires.sizes in
-    let put = put-zeros u c.requires.writable c.loop-slot.slot had entry mid c.loop-slot.window.items c.loop-slot.next c.args.blocks c.loop-slot.invariant.put all whole in
-    let left = c.write_zeros.new.window.items in
-    let zeros = c.loop-slot.window.items ++ replicate (512 * (c.args.blocks - c.loop-slot.next)) 0 in
-    let now = put-on entry mid last zeros image left put c.in_ok-write_zeros.ensures.put in
-    on_err_weaker c.write_through.result
-    (λ begun. put-cut entry last after left image now (subst (λ (xs : Bytes). WritesPrefix xs last after) c.as_slice.ensures.value begun)) c.write_through.ensures.written.prefix
+    let quiet = c.in_ok-write_zeros.ensures.quiet ∙ c.loop-slot.invariant.quiet in
+    record {
+      whole = on_ok_weaker c.write_through.result (λ written. put-all entry last after left image now (written ∙ ap (and_all last) c.as_slice.ensures.value)) c.write_through.ensures.written.whole;
+      prefix = on_err_weaker c.write_through.result
+          (λ begun. put-cut entry last after left image now (subst (λ (xs : Bytes). WritesPrefix xs last after) c.as_slice.ensures.value begun)) c.write_through.ensures.written.prefix;
+      failed = rw (← quiet) c.write_through.ensures.written.failed;
+      quiet = on_ok_weaker c.write_through.result (λ same. same ∙ quiet) c.write_through.ensures.written.quiet;
+    }

@@ -1,5 +1,4 @@
 use Rattle.std.proofs.Common.{◌≡◌, ℕ, ◌+◌, ◌≤◌, true, le_refl, sym, ap, subst, ◌∙◌, arith}
-use Rattle.std.proofs.lemmas.Result.{on_ok_weaker}
 use Rattle.pv_model.specs.declared.version.Version.{Version}
 use Rattle.pv_model.specs.Held.{named_tree}
 use Rattle.pv_model.specs.Image.{inode_blocks}
@@ -8,7 +7,7 @@ use Rattle.pv_model.specs.Tree.{Tree, greatest_name}
 use Rattle.pv_tree.specs.Holding.{HeldTree}
 use Rattle.pv_tree.specs.Present.{IsPresent}
 use Rattle.pv_image_write.specs.Placed.{placed, named_need}
-use Rattle.pv_image_write.specs.Written.{BeginsImage, WritesImage}
+use Rattle.pv_image_write.specs.Written.{WritesTree}
 use Rattle.pv_image_write.proofs.PlacedTrees.{named-fits, own-sizes, placed-itself}
 use Rattle.pv_image_write.proofs.image.write_tree.Goals as goal
 
@@ -58,22 +57,12 @@ write_as-requires g c =
       room = roomy h s v all n o;
     }
 
-pub returns-clause-whole : goal.returns-clause-whole
-returns-clause-whole g c =
+pub returns : goal.returns
+returns g c =
     let h = c.args.tree.now in
     let s = c.sizes-sizes.ensures.present in
     let v = c.sizes-sizes.result.version in
     let n = c.sizes-sizes.result.inodes in
     let o = own h.tree v c.table_blocks.result c.sizes-sizes.result.blocks n c.sizes-sizes.ensures.version c.sizes-sizes.ensures.blocks c.sizes-sizes.ensures.inodes c.table_blocks.ensures in
     let all = c.table_blocks.result + 1 + c.sizes-sizes.result.blocks in
-    on_ok_weaker c.write_as.result (subst (λ (u : Tree). WritesImage u (g.O.Sink.written c.args.image.now) (g.O.Sink.written c.write_as.new.image)) (itself h s v all n o)) c.write_as.ensures.whole
-
-pub returns-clause-cut : goal.returns-clause-cut
-returns-clause-cut g c failed =
-    let h = c.args.tree.now in
-    let s = c.sizes-sizes.ensures.present in
-    let v = c.sizes-sizes.result.version in
-    let n = c.sizes-sizes.result.inodes in
-    let o = own h.tree v c.table_blocks.result c.sizes-sizes.result.blocks n c.sizes-sizes.ensures.version c.sizes-sizes.ensures.blocks c.sizes-sizes.ensures.inodes c.table_blocks.ensures in
-    let all = c.table_blocks.result + 1 + c.sizes-sizes.result.blocks in
-    subst (λ (u : Tree). BeginsImage u (g.O.Sink.written c.args.image.now) (g.O.Sink.written c.write_as.new.image)) (itself h s v all n o) (c.write_as.ensures.cut failed)
+    subst (λ (u : Tree). WritesTree g.O.Sink u c.args.image.now c.write_as.new.image c.write_as.result) (itself h s v all n o) c.write_as.ensures

@@ -20,8 +20,8 @@ returns-in_err-summary g c =
     let now = g.W.Sink.failures c.make_turns.new.trace in
     let refused = stops_on (image_started c.args.bytes.items c.args.schedule.now) c.in_ok-ready.ready.session c.in_ok-ready.ready.schedule c.in_ok-ready.ensures.asked
     c.in_ok-ready.ensures.machine tb ta ib ib c.make_turns.new.ready.session c.in_err-summary.field-0.0 p.0 p.2 failures now
-    c.in_err-summary.ensures.failed c.in_err-summary.ensures.prefix c.in_err-summary.ensures.memory in
-    let unwritten = no_image_written tb ta ib ib c.in_err-summary.field-0.0 p.0 p.2 failures now c.in_err-summary.ensures.failed in
+    c.in_err-summary.ensures.written.failed c.in_err-summary.ensures.written.prefix c.in_err-summary.ensures.memory in
+    let unwritten = no_image_written tb ta ib ib c.in_err-summary.field-0.0 p.0 p.2 failures now c.in_err-summary.ensures.written.failed in
     rw p.1 (search (rules, refused, unwritten))
 
 pub returns-in_err-write_image : goal.returns-in_err-write_image
@@ -33,7 +33,7 @@ returns-in_err-write_image g c =
     let ia = g.O.Sink.written c.write_image.new.image in
     let refused = unwritten (image_started c.args.bytes.items c.args.schedule.now) c.in_ok-ready.ready.session c.in_ok-ready.ready.schedule c.in_ok-ready.ensures.asked
     c.in_ok-ready.ensures.machine tb ta ib ia c.tree.result.now.tree c.make_turns.new.ready.session c.tree.ensures c.in_ok-summary.ensures.after
-    c.in_ok-summary.summary c.in_ok-summary.ensures.ran c.in_ok-summary.ensures.whole c.in_err-write_image.field-0.0 p.0 p.2
+    c.in_ok-summary.summary c.in_ok-summary.ensures.ran c.in_ok-summary.ensures.written.whole c.in_err-write_image.field-0.0 p.0 p.2
     c.in_err-write_image.ensures.kind c.in_err-write_image.ensures.cut c.in_err-write_image.ensures.memory in
     let written = image_written tb ta ib ia c.in_err-write_image.field-0.0 p.0 p.2 c.in_err-write_image.ensures.kind c.in_err-write_image.ensures.memory in
     rw p.1 (search (rules, refused, written, none_buffered))
@@ -43,5 +43,5 @@ returns g c =
     let ran = has_run_on c.args.bytes.items c.args.schedule.now c.in_ok-ready.ready.session c.in_ok-ready.ready.schedule c.in_ok-ready.ensures.asked
     (g.W.Sink.written c.args.trace.now) (g.W.Sink.written c.make_turns.new.trace) (g.O.Sink.written c.args.image.now) (g.O.Sink.written c.write_image.new.image)
     c.tree.result.now.tree c.make_turns.new.ready.session c.tree.ensures c.in_ok-summary.ensures.after c.in_ok-summary.summary c.in_ok-summary.ensures.ran
-    c.in_ok-summary.ensures.whole c.in_ok-write_image.ensures.whole in
+    c.in_ok-summary.ensures.written.whole c.in_ok-write_image.ensures.whole in
     search (rules, ran)

@@ -1,4 +1,4 @@
-use Rattle.std.proofs.Common.{◌∙◌, subst}
+use Rattle.std.proofs.Common.{◌∙◌, subst, rules}
 use Rattle.pv_model.specs.Step.{Schedule}
 use Rattle.pv_model.specs.Trace.{trace_bytes}
 use Rattle.pv_session.specs.Running.{WrittenLines, run_of}
@@ -6,10 +6,15 @@ use Rattle.pv_streams.proofs.Sinks.{begins_whole}
 use Rattle.pv_streams.proofs.Reporting.{on_err}
 use Rattle.pv_run.proofs.turns.make_turns.Goals as goal
 
-pub returns-in_err-flush_buffer-in-Ok-clause-prefix : goal.returns-in_err-flush_buffer-in-Ok-clause-prefix
-returns-in_err-flush_buffer-in-Ok-clause-prefix g c =
+pub returns-in_err-flush_buffer-in-Ok-clause-written : goal.returns-in_err-flush_buffer-in-Ok-clause-written
+returns-in_err-flush_buffer-in-Ok-clause-written g c =
     let s = c.args.ready.now.session in
-    on_err c.from_residual.result
-    (begins_whole (trace_bytes (run_of s c.args.ready.now.schedule).lines) (g.W.Sink.written c.args.trace.now) (g.W.Sink.written c.flush_buffer.new.trace)
-    (subst (λ (sch : Schedule). WrittenLines (run_of s sch).lines (g.W.Sink.written c.args.trace.now) (g.W.Sink.written c.flush_buffer.new.trace)) c.turns-2.ensures.value
-    (c.flush_buffer.ensures.preserved ∙ c.in-Ok.ensures.whole)))
+    record {
+      whole = search rules;
+      prefix = on_err c.from_residual.result
+          (begins_whole (trace_bytes (run_of s c.args.ready.now.schedule).lines) (g.W.Sink.written c.args.trace.now) (g.W.Sink.written c.flush_buffer.new.trace)
+          (subst (λ (sch : Schedule). WrittenLines (run_of s sch).lines (g.W.Sink.written c.args.trace.now) (g.W.Sink.written c.flush_buffer.new.trace)) c.turns-2.ensures.value
+          (c.flush_buffer.ensures.preserved ∙ c.in-Ok.ensures.written.whole)));
+      failed = search rules;
+      quiet = search rules;
+    }

@@ -1,4 +1,4 @@
-use Rattle.std.proofs.Common.{◌≡◌, ◌≤◌, ◌∙◌, ap, sym, subst, length, arith, ◌+◌, ◌-◌, ℕ}
+use Rattle.std.proofs.Common.{◌≡◌, ◌≤◌, ◌∙◌, ap, sym, subst, length, arith, rules, ◌+◌, ◌-◌, ℕ}
 use Rattle.std.proofs.lemmas.Result.{err_from_is_err_and}
 use Rattle.pv_model.specs.State.{State}
 use Rattle.pv_model.specs.Step.{Run}
@@ -50,25 +50,30 @@ loop-made-preserved g c =
       after = sym (ap (λ r. r.final) on.run);
       written = subst (λ (r : Run). WrittenLines r.lines (g.W.Sink.written c.args.trace.now) (g.W.Sink.written c.trace_step.new.trace)) (sym on.run)
           (subst (λ (r : Run). WrittenLines r.lines (g.W.Sink.written c.args.trace.now) (g.W.Sink.written c.trace_step.new.trace)) (sym more)
-          (written_after first step _ _ _ c.loop-made.invariant.written c.in_ok-written.ensures.whole));
+          (written_after first step _ _ _ c.loop-made.invariant.written c.in_ok-written.ensures.written.whole));
       lines = lines_after first step _ _ c.loop-made.invariant.lines (c.from-lines.ensures ∙ c.in_ok-written.ensures.lines)
           ∙ sym (ap (λ r. length r.lines) more) ∙ sym (ap (λ r. length r.lines) on.run);
       few = omega (arith, c.in_ok-written.ensures.few, c.loop-made.invariant.few, c.from-lines.ensures, far);
-      quiet = c.in_ok-written.ensures.quiet ∙ c.loop-made.invariant.quiet;
+      quiet = c.in_ok-written.ensures.written.quiet ∙ c.loop-made.invariant.quiet;
     }
 
-pub returns-in_err-written-clause-prefix : goal.returns-in_err-written-clause-prefix
-returns-in_err-written-clause-prefix g c =
+pub returns-in_err-written-clause-written : goal.returns-in_err-written-clause-written
+returns-in_err-written-clause-written g c =
     let s = c.args.session.now in
     let pid = c.args.pid in
     let n = c.loop-made.made in
     let more = turn_more s c.loop-made.session pid n c.loop-made.invariant.after in
     let rest = turn_rest s pid (n + 1) c.args.count (omega (arith, c.loop-made-test.true)) in
-    on_err c.from_residual.result
-    (subst (λ (r : Run). BeginsLines r.lines (g.W.Sink.written c.args.trace.now) (g.W.Sink.written c.trace_step.new.trace)) (sym rest)
-    (begun_before (turn s pid (n + 1)) (turn (turn s pid (n + 1)).final pid (c.args.count - (n + 1))) _ _
-    (subst (λ (r : Run). BeginsLines r.lines (g.W.Sink.written c.args.trace.now) (g.W.Sink.written c.trace_step.new.trace)) (sym more)
-    (begun_after (turn s pid n) (one_step c.loop-made.session pid) _ _ _ c.loop-made.invariant.written c.in_err-written.ensures.prefix))))
+    record {
+      whole = search rules;
+      prefix = on_err c.from_residual.result
+          (subst (λ (r : Run). BeginsLines r.lines (g.W.Sink.written c.args.trace.now) (g.W.Sink.written c.trace_step.new.trace)) (sym rest)
+          (begun_before (turn s pid (n + 1)) (turn (turn s pid (n + 1)).final pid (c.args.count - (n + 1))) _ _
+          (subst (λ (r : Run). BeginsLines r.lines (g.W.Sink.written c.args.trace.now) (g.W.Sink.written c.trace_step.new.trace)) (sym more)
+          (begun_after (turn s pid n) (one_step c.loop-made.session pid) _ _ _ c.loop-made.invariant.written c.in_err-written.ensures.written.prefix))));
+      failed = search rules;
+      quiet = search rules;
+    }
 
 pub returns-in_err-written-clause-stopped : goal.returns-in_err-written-clause-stopped
 returns-in_err-written-clause-stopped g c =

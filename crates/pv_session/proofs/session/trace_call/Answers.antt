@@ -1,4 +1,4 @@
-use Rattle.std.proofs.Common.{ap, sym, ◌∙◌, subst, length, List}
+use Rattle.std.proofs.Common.{ap, sym, ◌∙◌, subst, length, List, rules}
 use Rattle.std.proofs.lemmas.Result.{err_from_is_err_and}
 use Rattle.pv_calls.specs.Kernel.{Running}
 use Rattle.pv_model.specs.CallRef.{call_of}
@@ -10,28 +10,42 @@ use Rattle.pv_session.proofs.Stepping.{begins-none, called-is, called-lines}
 use Rattle.pv_session.proofs.Stopped.{stops-called}
 use Rattle.pv_session.proofs.session.trace_call.Goals as goal
 
-pub returns-in_err-outcome-clause-prefix : goal.returns-in_err-outcome-clause-prefix
-returns-in_err-outcome-clause-prefix g c =
-    on_err c.from_residual.result (begins-none (stepped c.args.kernel.now.state c.args.pid).lines (g.W.Sink.written c.args.trace.now))
+pub returns-in_err-outcome-clause-written : goal.returns-in_err-outcome-clause-written
+returns-in_err-outcome-clause-written g c = record {
+  whole = search rules;
+  prefix = on_err c.from_residual.result (begins-none (stepped c.args.kernel.now.state c.args.pid).lines (g.W.Sink.written c.args.trace.now));
+  failed = search rules;
+  quiet = search rules;
+}
 
-pub returns-in_err-write_call_lines-clause-prefix : goal.returns-in_err-write_call_lines-clause-prefix
-returns-in_err-write_call_lines-clause-prefix g c =
+pub returns-in_err-write_call_lines-clause-written : goal.returns-in_err-write_call_lines-clause-written
+returns-in_err-write_call_lines-clause-written g c =
     let same =
     called-lines c.args.kernel.now.state c.args.pid (call_of c.args.call) c.call.new.self c.in_ok-outcome.outcome c.requires.next c.in_ok-outcome.ensures.answered
     c.buffer-front.result.now c.walks-walks.result c.buffer-front.ensures.value c.walks-walks.ensures in
-    on_err c.from_residual-in_err-write_call_lines.result
-    (subst (λ (ls : List Line). BeginsLines ls (g.W.Sink.written c.args.trace.now) (g.W.Sink.written c.write_call_lines.new.out)) same c.in_err-write_call_lines.ensures.written.prefix)
+    record {
+      whole = search rules;
+      prefix = on_err c.from_residual-in_err-write_call_lines.result
+          (subst (λ (ls : List Line). BeginsLines ls (g.W.Sink.written c.args.trace.now) (g.W.Sink.written c.write_call_lines.new.out)) same c.in_err-write_call_lines.ensures.written.prefix);
+      failed = search rules;
+      quiet = search rules;
+    }
 
 pub returns-clause-after : goal.returns-clause-after
 returns-clause-after g c =
     sym (ap (λ (x : Stepped). x.after) (called-is c.args.kernel.now.state c.args.pid (call_of c.args.call) c.call.new.self c.in_ok-outcome.outcome c.requires.next c.in_ok-outcome.ensures.answered))
 
-pub returns-clause-whole : goal.returns-clause-whole
-returns-clause-whole g c =
+pub returns-clause-written : goal.returns-clause-written
+returns-clause-written g c =
     let same =
     called-lines c.args.kernel.now.state c.args.pid (call_of c.args.call) c.call.new.self c.in_ok-outcome.outcome c.requires.next c.in_ok-outcome.ensures.answered
     c.buffer-front.result.now c.walks-walks.result c.buffer-front.ensures.value c.walks-walks.ensures in
-    subst (λ (ls : List Line). WrittenLines ls (g.W.Sink.written c.args.trace.now) (g.W.Sink.written c.write_call_lines.new.out)) same c.in_ok-write_call_lines.ensures.written.whole
+    record {
+      whole = subst (λ (ls : List Line). WrittenLines ls (g.W.Sink.written c.args.trace.now) (g.W.Sink.written c.write_call_lines.new.out)) same c.in_ok-write_call_lines.ensures.written.whole;
+      prefix = tt;
+      failed = tt;
+      quiet = c.in_ok-write_call_lines.ensures.written.quiet;
+    }
 
 pub returns-clause-lines : goal.returns-clause-lines
 returns-clause-lines g c =

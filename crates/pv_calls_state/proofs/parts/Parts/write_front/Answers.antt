@@ -21,7 +21,7 @@ overflow_add-at c =
 pub invariant_of-self-2 : goal.invariant_of-self-2
 invariant_of-self-2 c =
     let i = c.self.inside in
-    let up = subst (λ h. IsCountedUp h i.files i.processes) (sym c.in_ok-write_at.ensures.ok) (record { users = c.self.invariant.users; holds = c.self.invariant.holds }) in
+    let up = subst (λ h. IsCountedUp h i.files i.processes) (sym c.in_ok-write_at.ensures.change.ok) (record { users = c.self.invariant.users; holds = c.self.invariant.holds }) in
     counted-changed c.write_at.new.self i.files c.set_offset.new.self i.processes up c.args.file _ (λ f. refl) c.set_offset.ensures
 
 pub returns-clause-written : goal.returns-clause-written
@@ -31,7 +31,7 @@ returns-clause-written c = λ me f lives there.
     let long = length-take-le c.args.count buffer (subst (λ n. c.args.count ≤ n) (sym c.buffer-buffer.ensures.size) c.requires.few) in
     let moved = subst (λ n. option_map (λ f. with_file i.files c.args.file (record f { offset = c.args.at + n })) (at_number i.files.files c.args.file) ≡ Some c.set_offset.new.self) (sym long) c.set_offset.ensures in
     write-changed i.tree i.files i.processes c.args.self.now c.self.view_is c.self.invariant c.invariant-2.ensures c.invariant.ensures c.requires.whole.tree.well_formed c.args.file c.node-node.result c.args.at (take c.args.count buffer)
-    (subst (λ n. 0 < n) (sym long) c.requires.some) c.node-node.ensures c.write_at.new.self c.set_offset.new.self c.in_ok-write_at.ensures.ok moved f there
+    (subst (λ n. 0 < n) (sym long) c.requires.some) c.node-node.ensures c.write_at.new.self c.set_offset.new.self c.in_ok-write_at.ensures.change.ok moved f there
     ∙ ap (λ b. collect (with_bytes_written c.args.self.now c.args.pid me c.args.file f c.args.at (take c.args.count b)))
     (own-buffer i.tree i.files i.processes c.args.self.now c.self.view_is c.args.pid me c.record.result.now buffer lives c.record.ensures c.buffer-buffer.ensures.value)
 

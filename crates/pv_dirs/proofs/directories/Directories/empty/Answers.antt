@@ -11,7 +11,7 @@ invariant_of-result c =
     record {
       holding = holding-empty c.empty-inodes.result c.args.inodes c.empty-inodes.ensures.nodes c.free-block_count.result c.args.blocks c.free-block_count.ensures
           (ap (λ v. c.empty-inodes.result.blocks + inode_blocks v c.args.inodes + 1) version ∙ c.empty-inodes.ensures.blocks)
-          (subst (λ v. c.args.blocks ≤ greatest_blocks v) (sym version) c.requires.few_blocks);
+          (subst (λ v. c.args.blocks ≤ greatest_blocks v) (sym version) c.requires.sizes.few_blocks);
       indexed = indexed-empty c.empty-inodes.result c.args.inodes c.in_ok-index.index.value c.empty-inodes.ensures.nodes;
     }
 

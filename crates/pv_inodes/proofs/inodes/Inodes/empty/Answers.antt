@@ -16,7 +16,7 @@ over_zeros c =
       long = omega (arith, c.requires.whole);
       zeros = c.requires.zeros;
       none = c.new.ensures.empty;
-      fits = omega (arith, c.requires.some_blocks, first_data-is c.args.version c.args.inodes);
+      fits = omega (arith, c.requires.sizes.some_blocks, first_data-is c.args.version c.args.inodes);
       blocks = c.of_bytes.ensures.blocks ∙ ap (λ n. blocks_of n c.args.zeros.items) count;
       free = c.of_bytes.ensures.free ∙ ap (λ n. free_from (c.div_ceil.result + 1) c.new.result n) count ∙ ap (λ n. free_from n c.new.result c.args.blocks) first;
       first = c.of_bytes.ensures.first ∙ first;
@@ -32,4 +32,4 @@ pub returns-clause-nodes : goal.returns-clause-nodes
 returns-clause-nodes c = ap (λ (f : Files). f.nodes) (files_of-empty c.args.version _ _ _ _ _ (over_zeros c))
 
 pub returns-clause-blocks : goal.returns-clause-blocks
-returns-clause-blocks c = omega (arith, ap (λ (f : Files). f.blocks) (files_of-empty c.args.version _ _ _ _ _ (over_zeros c)), c.requires.some_blocks, first_data-is c.args.version c.args.inodes)
+returns-clause-blocks c = omega (arith, ap (λ (f : Files). f.blocks) (files_of-empty c.args.version _ _ _ _ _ (over_zeros c)), c.requires.sizes.some_blocks, first_data-is c.args.version c.args.inodes)

@@ -1,4 +1,4 @@
-use Rattle.std.proofs.Common.{ap, sym, ◌∙◌, subst, length, List}
+use Rattle.std.proofs.Common.{ap, sym, ◌∙◌, refl, subst, length, List, rules}
 use Rattle.pv_model.specs.Step.{Stepped}
 use Rattle.pv_model.specs.Trace.{Line}
 use Rattle.pv_streams.proofs.Reporting.{on_err}
@@ -7,21 +7,31 @@ use Rattle.pv_session.proofs.Stepping.{step-gone, gone-lines, inside-is, inside-
 use Rattle.pv_calls.specs.Kernel.{Running}
 use Rattle.pv_session.proofs.session.Session.trace_step.Goals as goal
 
-pub returns-in_err-write_gone_line-in-Gone-clause-prefix : goal.returns-in_err-write_gone_line-in-Gone-clause-prefix
-returns-in_err-write_gone_line-in-Gone-clause-prefix g c =
+pub returns-in_err-write_gone_line-in-Gone-clause-written : goal.returns-in_err-write_gone_line-in-Gone-clause-written
+returns-in_err-write_gone_line-in-Gone-clause-written g c =
     let is = gone-lines c.deref_mut-kernel.result.now.state c.args.self.now c.args.pid (ap (λ (k : Running). k.state) c.deref_mut-kernel.ensures.value ∙ c.self.view_is) c.in-Gone.ensures.state.0 in
-    on_err c.from_residual.result
-    (subst (λ (ls : List Line). BeginsLines ls (g.W.Sink.written c.args.trace.now) (g.W.Sink.written c.write_gone_line.new.out)) (sym is) c.in_err-write_gone_line-in-Gone.ensures.prefix)
+    record {
+      whole = search rules;
+      prefix = on_err c.from_residual.result
+          (subst (λ (ls : List Line). BeginsLines ls (g.W.Sink.written c.args.trace.now) (g.W.Sink.written c.write_gone_line.new.out)) (sym is) c.in_err-write_gone_line-in-Gone.ensures.prefix);
+      failed = search rules;
+      quiet = search rules;
+    }
 
 pub returns-in_ok-write_gone_line-in-Gone-clause-after : goal.returns-in_ok-write_gone_line-in-Gone-clause-after
 returns-in_ok-write_gone_line-in-Gone-clause-after g c =
     let gone = c.in-Gone.ensures.state in
     gone.1 ∙ sym (ap (λ (x : Stepped). x.after) (step-gone c.deref_mut-kernel.result.now.state c.args.pid gone.0)) ∙ ap (λ s. (stepped s c.args.pid).after) (ap (λ (k : Running). k.state) c.deref_mut-kernel.ensures.value ∙ c.self.view_is)
 
-pub returns-in_ok-write_gone_line-in-Gone-clause-whole : goal.returns-in_ok-write_gone_line-in-Gone-clause-whole
-returns-in_ok-write_gone_line-in-Gone-clause-whole g c =
+pub returns-in_ok-write_gone_line-in-Gone-clause-written : goal.returns-in_ok-write_gone_line-in-Gone-clause-written
+returns-in_ok-write_gone_line-in-Gone-clause-written g c =
     let is = gone-lines c.deref_mut-kernel.result.now.state c.args.self.now c.args.pid (ap (λ (k : Running). k.state) c.deref_mut-kernel.ensures.value ∙ c.self.view_is) c.in-Gone.ensures.state.0 in
-    subst (λ (ls : List Line). WrittenLines ls (g.W.Sink.written c.args.trace.now) (g.W.Sink.written c.write_gone_line.new.out)) (sym is) c.in_ok-write_gone_line-in-Gone.ensures.whole
+    record {
+      whole = subst (λ (ls : List Line). WrittenLines ls (g.W.Sink.written c.args.trace.now) (g.W.Sink.written c.write_gone_line.new.out)) (sym is) c.in_ok-write_gone_line-in-Gone.ensures.whole;
+      prefix = tt;
+      failed = tt;
+      quiet = c.in_ok-write_gone_line-in-Gone.ensures.quiet;
+    }
 
 pub returns-in_ok-write_gone_line-in-Gone-clause-lines : goal.returns-in_ok-write_gone_line-in-Gone-clause-lines
 returns-in_ok-write_gone_line-in-Gone-clause-lines g c =
@@ -31,11 +41,16 @@ pub returns-in-Register-clause-after : goal.returns-in-Register-clause-after
 returns-in-Register-clause-after g c =
     inside-after c.deref_mut-kernel.result.now.state c.args.pid c.step_or_fetch.new.self.state c.in-Register.ensures.state ∙ ap (λ s. (stepped s c.args.pid).after) (ap (λ (k : Running). k.state) c.deref_mut-kernel.ensures.value ∙ c.self.view_is)
 
-pub returns-in-Register-clause-whole : goal.returns-in-Register-clause-whole
-returns-in-Register-clause-whole g c =
+pub returns-in-Register-clause-written : goal.returns-in-Register-clause-written
+returns-in-Register-clause-written g c =
     let is = sym (ap (λ (x : Stepped). x.lines) (inside-is c.deref_mut-kernel.result.now.state c.args.pid c.step_or_fetch.new.self.state c.in-Register.ensures.state))
     ∙ ap (λ s. (stepped s c.args.pid).lines) (ap (λ (k : Running). k.state) c.deref_mut-kernel.ensures.value ∙ c.self.view_is) in
-    subst (λ (ls : List Line). WrittenLines ls (g.W.Sink.written c.args.trace.now) (g.W.Sink.written c.args.trace.now)) is (written-none (g.W.Sink.written c.args.trace.now))
+    record {
+      whole = subst (λ (ls : List Line). WrittenLines ls (g.W.Sink.written c.args.trace.now) (g.W.Sink.written c.args.trace.now)) is (written-none (g.W.Sink.written c.args.trace.now));
+      prefix = tt;
+      failed = tt;
+      quiet = refl;
+    }
 
 pub returns-in-Register-clause-lines : goal.returns-in-Register-clause-lines
 returns-in-Register-clause-lines g c =

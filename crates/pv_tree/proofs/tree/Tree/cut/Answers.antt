@@ -1,9 +1,11 @@
 use Rattle.std.proofs.Common.{◌≡◌, ◌≤◌, None, Some, length, refl, ap, sym, subst, ◌∙◌}
 use Rattle.std.specs.Prelude.{OnOk, IfErr}
+use Rattle.std.proofs.lemmas.Result.{on_ok_weaker, on_err_weaker}
 use Rattle.pv_model.specs.Sealed.{is_file}
 use Rattle.pv_model.specs.Tree.{Tree, node_at}
 use Rattle.pv_dirs.specs.Trees.{bytes_at}
 use Rattle.pv_tree.specs.Changes.{resized}
+use Rattle.pv_tree.specs.Holding.{HeldTree, with_tree}
 use Rattle.pv_tree.specs.Rooms.{refusal}
 use Rattle.pv_tree.proofs.Contents.{IsAnswer, file-of, not-refused, resize-answer, resize-shorter}
 use Rattle.pv_tree.proofs.Elsewhere.{alike-along, alike-answered, alike-resized}
@@ -20,13 +22,14 @@ answer c =
 pub invariant_of-self : goal.invariant_of-self
 invariant_of-self c = (answer c).tied
 
-pub returns-clause-allowed : goal.returns-clause-allowed
-returns-clause-allowed c =
-    subst (λ (t : Tree). OnOk c.cut.result (refusal (resized t c.args.node c.args.size) ≡ None)) (ap (λ h. h.tree) c.self.view_is) (answer c).allowed
-
-pub returns-clause-refused : goal.returns-clause-refused
-returns-clause-refused c =
-    subst (λ (t : Tree). IfErr c.cut.result (λ why. refusal (resized t c.args.node c.args.size) ≡ Some why)) (ap (λ h. h.tree) c.self.view_is) (answer c).refused
+pub returns-clause-change : goal.returns-clause-change
+returns-clause-change c = record {
+  ok = on_ok_weaker c.cut.result
+      (λ same. ap (λ (t : Tree). record { tree = t; holds = c.self.inside.holds }) same ∙ ap (λ (h : HeldTree). with_tree h (resized h.tree c.args.node c.args.size)) c.self.view_is) (answer c).ok;
+  err = on_err_weaker c.cut.result (λ same. ap (λ (t : Tree). record { tree = t; holds = c.self.inside.holds }) same ∙ c.self.view_is) c.cut.ensures.err;
+  allowed = subst (λ (t : Tree). OnOk c.cut.result (refusal (resized t c.args.node c.args.size) ≡ None)) (ap (λ h. h.tree) c.self.view_is) (answer c).allowed;
+  refused = subst (λ (t : Tree). IfErr c.cut.result (λ why. refusal (resized t c.args.node c.args.size) ≡ Some why)) (ap (λ h. h.tree) c.self.view_is) (answer c).refused;
+}
 
 pub returns-clause-found : goal.returns-clause-found
 returns-clause-found c =

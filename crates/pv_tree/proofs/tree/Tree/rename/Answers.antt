@@ -1,5 +1,5 @@
-use Rattle.std.proofs.Common.{◌≡◌, ℕ, ◌-◌, Some, is_some, ap, sym, subst, ◌∙◌, arith}
-use Rattle.std.specs.Prelude.{slice_index, slice_set, IfSome}
+use Rattle.std.proofs.Common.{◌≡◌, ℕ, ◌-◌, None, Some, is_some, refl, ap, sym, subst, ◌∙◌, arith}
+use Rattle.std.specs.Prelude.{slice_index, slice_set}
 use Rattle.std.proofs.lemmas.Result.{err_from_is_err_and}
 use Rattle.pv_model.specs.Tree.{Tree, node_at, find_entry, is_directory_at, with_entry, without_entry}
 use Rattle.pv_tree.specs.Changes.{moved, settled}
@@ -19,17 +19,26 @@ use Rattle.pv_tree.proofs.tree.Tree.rename.Goals.{After-from_residual, In_ok-mov
 -- the facts about the move
 move : (c : In_ok-moved) → IsMove c.self.inside.directories c.args.from c.args.name.now c.args.to c.args.other.now c.in_ok-moved.moved.node
 move c =
-    is-move c.self.inside.directories c.args.self.now.tree (ap (λ h. h.tree) c.self.view_is) c.args.from c.args.name.now c.args.to c.args.other.now c.in_ok-moved.moved.node c.in_ok-moved.ensures.node
-    c.requires.to c.requires.name (bytes-all c.args.other.now (λ i. (c.type_inv.other i).fits)) c.requires.clear c.requires.apart c.requires.empty
+    is-move c.self.inside.directories c.args.self.now.tree (ap (λ h. h.tree) c.self.view_is) c.args.from c.args.name.now c.args.to c.args.other.now c.in_ok-moved.moved.node c.in_ok-moved.ensures.nodes.node
+    c.requires.to c.requires.entry.name (bytes-all c.args.other.now (λ i. (c.type_inv.other i).fits)) c.requires.clear c.requires.entry.apart c.requires.empty
+
+-- the tree after the move
+entered : (c : In_ok-moved) → c.move_entry.new.directories ≡ with_entry (without_entry c.self.inside.directories c.args.from c.args.name.now) c.args.to c.args.other.now c.in_ok-moved.moved.node
+entered c =
+    c.in_ok-moved.ensures.change.ok ∙ sym (moved-is c.self.inside.directories c.self.inside.directories refl c.args.from c.args.name.now c.args.to c.args.other.now c.in_ok-moved.moved.node c.in_ok-moved.ensures.nodes.node)
+
+fits : (c : In_ok-moved) → refusal (with_entry (without_entry c.self.inside.directories c.args.from c.args.name.now) c.args.to c.args.other.now c.in_ok-moved.moved.node) ≡ None
+fits c =
+    ap refusal (moved-is c.self.inside.directories c.self.inside.directories refl c.args.from c.args.name.now c.args.to c.args.other.now c.in_ok-moved.moved.node c.in_ok-moved.ensures.nodes.node) ∙ c.in_ok-moved.ensures.change.allowed
 
 -- the same for the tree that a caller sees
 seen : (c : In_ok-moved) → collected (with_entry (without_entry c.self.inside.directories c.args.from c.args.name.now) c.args.to c.args.other.now c.in_ok-moved.moved.node) c.self.inside.holds ≡ collected (moved c.args.self.now.tree c.args.from c.args.name.now c.args.to c.args.other.now) c.args.self.now.holds
 seen c =
-    ap (λ (t : Tree). collected t c.self.inside.holds) (moved-is c.self.inside.directories c.args.self.now.tree (ap (λ h. h.tree) c.self.view_is) c.args.from c.args.name.now c.args.to c.args.other.now c.in_ok-moved.moved.node c.in_ok-moved.ensures.node)
+    ap (λ (t : Tree). collected t c.self.inside.holds) (moved-is c.self.inside.directories c.args.self.now.tree (ap (λ h. h.tree) c.self.view_is) c.args.from c.args.name.now c.args.to c.args.other.now c.in_ok-moved.moved.node c.in_ok-moved.ensures.nodes.node)
     ∙ ap (λ holds. collected (moved c.args.self.now.tree c.args.from c.args.name.now c.args.to c.args.other.now) holds) (ap (λ h. h.holds) c.self.view_is)
 
 was : (c : In-Some) → find_entry c.self.inside.directories c.args.to c.args.other.now ≡ Some c.in-Some.gone
-was c = sym c.in_ok-moved.ensures.gone ∙ c.in-Some.is
+was c = sym c.in_ok-moved.ensures.nodes.gone ∙ c.in-Some.is
 
 pub move_entry-requires-clause-shaped : goal.move_entry-requires-clause-shaped
 move_entry-requires-clause-shaped c =
@@ -37,50 +46,57 @@ move_entry-requires-clause-shaped c =
 
 -- some node has the name
 named : (c : After-from_residual) → (m : ℕ) × (find_entry c.self.inside.directories c.args.from c.args.name.now ≡ Some m)
-named c = value-of (find_entry c.self.inside.directories c.args.from c.args.name.now) (ap (λ h. is_some (find_entry h.tree c.args.from c.args.name.now)) c.self.view_is ∙ c.requires.present)
+named c = value-of (find_entry c.self.inside.directories c.args.from c.args.name.now) (ap (λ h. is_some (find_entry h.tree c.args.from c.args.name.now)) c.self.view_is ∙ c.requires.entry.present)
 
 refused : (c : After-from_residual) (m : ℕ) → find_entry c.self.inside.directories c.args.from c.args.name.now ≡ Some m → refusal (collected (moved c.args.self.now.tree c.args.from c.args.name.now c.args.to c.args.other.now) c.args.self.now.holds) ≡ Some c.in_err-moved.field-0.0
 refused c m found =
     let view = ap (λ h. h.tree) c.self.view_is in
-    let move = is-move c.self.inside.directories c.args.self.now.tree view c.args.from c.args.name.now c.args.to c.args.other.now m found c.requires.to c.requires.name (bytes-all c.args.other.now (λ i. (c.type_inv.other i).fits)) c.requires.clear c.requires.apart c.requires.empty in
+    let move = is-move c.self.inside.directories c.args.self.now.tree view c.args.from c.args.name.now c.args.to c.args.other.now m found c.requires.to c.requires.entry.name (bytes-all c.args.other.now (λ i. (c.type_inv.other i).fits)) c.requires.clear c.requires.entry.apart c.requires.empty in
     let seen = ap (λ (t : Tree). collected t c.self.inside.holds) (moved-is c.self.inside.directories c.args.self.now.tree view c.args.from c.args.name.now c.args.to c.args.other.now m found) ∙ ap (λ holds. collected (moved c.args.self.now.tree c.args.from c.args.name.now c.args.to c.args.other.now) holds) (ap (λ h. h.holds) c.self.view_is) in
-    ap refusal (sym seen ∙ moved-collected c.self.inside.directories c.self.inside.parents c.self.inside.names c.self.inside.holds c.self.invariant c.args.from c.args.name.now c.args.to c.args.other.now m move c.in_err-moved.ensures.free)
-    ∙ subst (λ o. IfSome o (λ k. refusal (with_entry (without_entry c.self.inside.directories c.args.from c.args.name.now) c.args.to c.args.other.now k) ≡ Some c.in_err-moved.field-0.0)) found c.in_err-moved.ensures.refused
+    ap refusal (sym seen ∙ moved-collected c.self.inside.directories c.self.inside.parents c.self.inside.names c.self.inside.holds c.self.invariant c.args.from c.args.name.now c.args.to c.args.other.now m move c.in_err-moved.ensures.free
+    ∙ moved-is c.self.inside.directories c.self.inside.directories refl c.args.from c.args.name.now c.args.to c.args.other.now m found)
+    ∙ c.in_err-moved.ensures.change.refused
 
-pub returns-in_err-moved-clause-refused : goal.returns-in_err-moved-clause-refused
-returns-in_err-moved-clause-refused c =
+pub returns-in_err-moved-clause-change : goal.returns-in_err-moved-clause-change
+returns-in_err-moved-clause-change c =
     let p = err_from_is_err_and c.from_residual.result c.from_residual.ensures.1 in
-    rw (p.1, p.2) (refused c (named c).0 (named c).1)
+    rw (p.1, p.2)
+    (record {
+      ok = tt;
+      err = ap (λ (t : Tree). record { tree = t; holds = c.self.inside.holds }) c.in_err-moved.ensures.change.err ∙ c.self.view_is;
+      allowed = tt;
+      refused = refused c (named c).0 (named c).1;
+    })
 
 pub returns-in_err-moved-clause-elsewhere : goal.returns-in_err-moved-clause-elsewhere
 returns-in_err-moved-clause-elsewhere c =
-    alike-refused c.args.from c.args.name.now c.args.to c.args.other.now c.move_entry.new.directories c.args.self.now.tree (c.in_err-moved.ensures.err ∙ ap (λ h. h.tree) c.self.view_is)
+    alike-refused c.args.from c.args.name.now c.args.to c.args.other.now c.move_entry.new.directories c.args.self.now.tree (c.in_err-moved.ensures.change.err ∙ ap (λ h. h.tree) c.self.view_is)
 
 pub bounds-self-inside-moved : goal.bounds-self-inside-moved
 bounds-self-inside-moved c =
-    found-place c.self.inside.directories c.self.inside.parents c.self.inside.names c.self.inside.holds c.self.invariant c.args.from c.args.name.now c.in_ok-moved.moved.node c.in_ok-moved.ensures.node
+    found-place c.self.inside.directories c.self.inside.parents c.self.inside.names c.self.inside.holds c.self.invariant c.args.from c.args.name.now c.in_ok-moved.moved.node c.in_ok-moved.ensures.nodes.node
 
 pub invariant_of-self-in_default : goal.invariant_of-self-in_default
 invariant_of-self-in_default c =
-    subst (λ (t : Tree). IsTied t (slice_set c.self.inside.parents c.in_ok-moved.moved.node c.args.to) c.self.inside.names c.self.inside.holds) (sym c.in_ok-moved.ensures.ok)
-    (moved-tied c.self.inside.directories c.self.inside.parents c.self.inside.names c.self.inside.holds c.self.invariant c.args.from c.args.name.now c.args.to c.args.other.now c.in_ok-moved.moved.node (move (goal.at.invariant_of-self-in_default c).In_ok-moved) (sym c.in_ok-moved.ensures.gone ∙ c.in_default.is) c.in_ok-moved.ensures.allowed)
+    subst (λ (t : Tree). IsTied t (slice_set c.self.inside.parents c.in_ok-moved.moved.node c.args.to) c.self.inside.names c.self.inside.holds) (sym (entered (goal.at.invariant_of-self-in_default c).In_ok-moved))
+    (moved-tied c.self.inside.directories c.self.inside.parents c.self.inside.names c.self.inside.holds c.self.invariant c.args.from c.args.name.now c.args.to c.args.other.now c.in_ok-moved.moved.node (move (goal.at.invariant_of-self-in_default c).In_ok-moved) (sym c.in_ok-moved.ensures.nodes.gone ∙ c.in_default.is) (fits (goal.at.invariant_of-self-in_default c).In_ok-moved))
 
-pub returns-in_default-clause-ok : goal.returns-in_default-clause-ok
-returns-in_default-clause-ok c =
-    ap (λ (t : Tree). record { tree = t; holds = c.self.inside.holds }) (c.in_ok-moved.ensures.ok ∙ sym (moved-collected c.self.inside.directories c.self.inside.parents c.self.inside.names c.self.inside.holds c.self.invariant c.args.from c.args.name.now c.args.to c.args.other.now c.in_ok-moved.moved.node (move (goal.at.returns-in_default-clause-ok c).In_ok-moved) (sym c.in_ok-moved.ensures.gone ∙ c.in_default.is)) ∙ seen (goal.at.returns-in_default-clause-ok c).In_ok-moved)
-    ∙ ap (λ holds. record { tree = collected (moved c.args.self.now.tree c.args.from c.args.name.now c.args.to c.args.other.now) c.args.self.now.holds; holds = holds }) (ap (λ h. h.holds) c.self.view_is)
-
-pub returns-in_default-clause-allowed : goal.returns-in_default-clause-allowed
-returns-in_default-clause-allowed c =
-    ap refusal (sym (seen (goal.at.returns-in_default-clause-allowed c).In_ok-moved) ∙ moved-collected c.self.inside.directories c.self.inside.parents c.self.inside.names c.self.inside.holds c.self.invariant c.args.from c.args.name.now c.args.to c.args.other.now c.in_ok-moved.moved.node (move (goal.at.returns-in_default-clause-allowed c).In_ok-moved) (sym c.in_ok-moved.ensures.gone ∙ c.in_default.is)) ∙ c.in_ok-moved.ensures.allowed
+pub returns-in_default-clause-change : goal.returns-in_default-clause-change
+returns-in_default-clause-change c = record {
+  ok = ap (λ (t : Tree). record { tree = t; holds = c.self.inside.holds }) (entered (goal.at.returns-in_default-clause-change c).In_ok-moved ∙ sym (moved-collected c.self.inside.directories c.self.inside.parents c.self.inside.names c.self.inside.holds c.self.invariant c.args.from c.args.name.now c.args.to c.args.other.now c.in_ok-moved.moved.node (move (goal.at.returns-in_default-clause-change c).In_ok-moved) (sym c.in_ok-moved.ensures.nodes.gone ∙ c.in_default.is)) ∙ seen (goal.at.returns-in_default-clause-change c).In_ok-moved)
+      ∙ ap (λ holds. record { tree = collected (moved c.args.self.now.tree c.args.from c.args.name.now c.args.to c.args.other.now) c.args.self.now.holds; holds = holds }) (ap (λ h. h.holds) c.self.view_is);
+  err = tt;
+  allowed = ap refusal (sym (seen (goal.at.returns-in_default-clause-change c).In_ok-moved) ∙ moved-collected c.self.inside.directories c.self.inside.parents c.self.inside.names c.self.inside.holds c.self.invariant c.args.from c.args.name.now c.args.to c.args.other.now c.in_ok-moved.moved.node (move (goal.at.returns-in_default-clause-change c).In_ok-moved) (sym c.in_ok-moved.ensures.nodes.gone ∙ c.in_default.is)) ∙ (fits (goal.at.returns-in_default-clause-change c).In_ok-moved);
+  refused = tt;
+}
 
 pub returns-in_default-clause-elsewhere : goal.returns-in_default-clause-elsewhere
 returns-in_default-clause-elsewhere c =
     let t = c.self.inside.directories in
     let view : t ≡ c.args.self.now.tree = ap (λ h. h.tree) c.self.view_is in
-    two-along c.args.from c.args.name.now c.args.to c.args.other.now t c.args.self.now.tree (with_entry (without_entry t c.args.from c.args.name.now) c.args.to c.args.other.now c.in_ok-moved.moved.node) c.move_entry.new.directories view c.in_ok-moved.ensures.ok
+    two-along c.args.from c.args.name.now c.args.to c.args.other.now t c.args.self.now.tree (with_entry (without_entry t c.args.from c.args.name.now) c.args.to c.args.other.now c.in_ok-moved.moved.node) c.move_entry.new.directories view (entered (goal.at.returns-in_default-clause-elsewhere c).In_ok-moved)
     (alike-moved t c.self.invariant.counted.well_formed c.args.from c.args.name.now c.args.to c.args.other.now c.in_ok-moved.moved.node
-    (ap (λ (u : Tree). is_directory_at u c.args.from) view ∙ c.requires.from) (ap (λ (u : Tree). is_directory_at u c.args.to) view ∙ c.requires.to.0))
+    (ap (λ (u : Tree). is_directory_at u c.args.from) view ∙ c.requires.entry.from) (ap (λ (u : Tree). is_directory_at u c.args.to) view ∙ c.requires.to.0))
 
 pub bounds-self-inside-at : goal.bounds-self-inside-at
 bounds-self-inside-at c =
@@ -109,13 +125,13 @@ bounds-self-inside-at-5 c =
 
 pub settle-requires : goal.settle-requires
 settle-requires c =
-    ap (λ (t : Tree). is_some (node_at t c.in-Some.gone)) c.in_ok-moved.ensures.ok ∙ gone-there c.self.inside.directories c.self.inside.parents c.self.inside.names c.self.inside.holds c.self.invariant c.args.from c.args.name.now c.args.to c.args.other.now c.in_ok-moved.moved.node (move (goal.at.settle-requires c).In_ok-moved) c.in-Some.gone (was (goal.at.settle-requires c).In-Some)
+    ap (λ (t : Tree). is_some (node_at t c.in-Some.gone)) (entered (goal.at.settle-requires c).In_ok-moved) ∙ gone-there c.self.inside.directories c.self.inside.parents c.self.inside.names c.self.inside.holds c.self.invariant c.args.from c.args.name.now c.args.to c.args.other.now c.in_ok-moved.moved.node (move (goal.at.settle-requires c).In_ok-moved) c.in-Some.gone (was (goal.at.settle-requires c).In-Some)
 
 -- the tree after the node that had the name is settled
 left : (c : After-settle) → c.settle.new.directories ≡ collected (with_entry (without_entry c.self.inside.directories c.args.from c.args.name.now) c.args.to c.args.other.now c.in_ok-moved.moved.node) c.self.inside.holds
 left c =
     c.settle.ensures
-    ∙ ap (λ (t : Tree). settled t c.in-Some.gone (slice_index (slice_set c.self.inside.names c.in-Some.gone (slice_index c.self.inside.names c.in-Some.gone - 1)) c.in-Some.gone) (slice_index c.self.inside.holds c.in-Some.gone)) c.in_ok-moved.ensures.ok
+    ∙ ap (λ (t : Tree). settled t c.in-Some.gone (slice_index (slice_set c.self.inside.names c.in-Some.gone (slice_index c.self.inside.names c.in-Some.gone - 1)) c.in-Some.gone) (slice_index c.self.inside.holds c.in-Some.gone)) (entered (goal.at.invariant_of-self-2 c).In_ok-moved)
     ∙ settled-replaced c.self.inside.directories c.self.inside.parents c.self.inside.names c.self.inside.holds c.self.invariant c.args.from c.args.name.now c.args.to c.args.other.now c.in_ok-moved.moved.node (move (goal.at.invariant_of-self-2 c).In_ok-moved) c.in-Some.gone (was (goal.at.invariant_of-self-2 c).In-Some)
 
 pub invariant_of-self-2 : goal.invariant_of-self-2
@@ -125,15 +141,15 @@ invariant_of-self-2 c =
     subst (λ (t : Tree). IsTied t parents names c.self.inside.holds) (sym (left c))
     (collected-tied (with_entry (without_entry c.self.inside.directories c.args.from c.args.name.now) c.args.to c.args.other.now c.in_ok-moved.moved.node) parents names c.self.inside.holds (replaced-counted c.self.inside.directories c.self.inside.parents c.self.inside.names c.self.inside.holds c.self.invariant c.args.from c.args.name.now c.args.to c.args.other.now c.in_ok-moved.moved.node (move (goal.at.invariant_of-self-2 c).In_ok-moved) c.in-Some.gone (was (goal.at.invariant_of-self-2 c).In-Some)))
 
-pub returns-clause-ok : goal.returns-clause-ok
-returns-clause-ok c =
-    ap (λ (t : Tree). record { tree = t; holds = c.self.inside.holds }) (left c ∙ seen (goal.at.returns-clause-ok c).In_ok-moved)
-    ∙ ap (λ holds. record { tree = collected (moved c.args.self.now.tree c.args.from c.args.name.now c.args.to c.args.other.now) c.args.self.now.holds; holds = holds }) (ap (λ h. h.holds) c.self.view_is)
-
-pub returns-clause-allowed : goal.returns-clause-allowed
-returns-clause-allowed c =
-    ap refusal (sym (seen (goal.at.returns-clause-allowed c).In_ok-moved))
-    ∙ collected-allowed (with_entry (without_entry c.self.inside.directories c.args.from c.args.name.now) c.args.to c.args.other.now c.in_ok-moved.moved.node) c.self.inside.holds (moved-allowed c.self.inside.directories c.self.inside.parents c.self.inside.names c.self.inside.holds c.self.invariant c.args.from c.args.name.now c.args.to c.args.other.now c.in_ok-moved.moved.node (move (goal.at.returns-clause-allowed c).In_ok-moved) c.in-Some.gone (was (goal.at.returns-clause-allowed c).In-Some))
+pub returns-clause-change : goal.returns-clause-change
+returns-clause-change c = record {
+  ok = ap (λ (t : Tree). record { tree = t; holds = c.self.inside.holds }) (left c ∙ seen (goal.at.returns-clause-change c).In_ok-moved)
+      ∙ ap (λ holds. record { tree = collected (moved c.args.self.now.tree c.args.from c.args.name.now c.args.to c.args.other.now) c.args.self.now.holds; holds = holds }) (ap (λ h. h.holds) c.self.view_is);
+  err = tt;
+  allowed = ap refusal (sym (seen (goal.at.returns-clause-change c).In_ok-moved))
+      ∙ collected-allowed (with_entry (without_entry c.self.inside.directories c.args.from c.args.name.now) c.args.to c.args.other.now c.in_ok-moved.moved.node) c.self.inside.holds (moved-allowed c.self.inside.directories c.self.inside.parents c.self.inside.names c.self.inside.holds c.self.invariant c.args.from c.args.name.now c.args.to c.args.other.now c.in_ok-moved.moved.node (move (goal.at.returns-clause-change c).In_ok-moved) c.in-Some.gone (was (goal.at.returns-clause-change c).In-Some));
+  refused = tt;
+}
 
 pub returns-clause-elsewhere : goal.returns-clause-elsewhere
 returns-clause-elsewhere c =
@@ -141,5 +157,5 @@ returns-clause-elsewhere c =
     let view : t ≡ c.args.self.now.tree = ap (λ h. h.tree) c.self.view_is in
     two-along c.args.from c.args.name.now c.args.to c.args.other.now t c.args.self.now.tree (collected (with_entry (without_entry t c.args.from c.args.name.now) c.args.to c.args.other.now c.in_ok-moved.moved.node) c.self.inside.holds) c.settle.new.directories view (left c)
     (alike-renamed t c.self.invariant.counted.well_formed c.args.from c.args.name.now c.args.to c.args.other.now c.in_ok-moved.moved.node c.self.inside.holds
-    (ap (λ (u : Tree). is_directory_at u c.args.from) view ∙ c.requires.from) (ap (λ (u : Tree). is_directory_at u c.args.to) view ∙ c.requires.to.0)
+    (ap (λ (u : Tree). is_directory_at u c.args.from) view ∙ c.requires.entry.from) (ap (λ (u : Tree). is_directory_at u c.args.to) view ∙ c.requires.to.0)
     (replaced-counted c.self.inside.directories c.self.inside.parents c.self.inside.names c.self.inside.holds c.self.invariant c.args.from c.args.name.now c.args.to c.args.other.now c.in_ok-moved.moved.node (move (goal.at.returns-clause-elsewhere c).In_ok-moved) c.in-Some.gone (was (goal.at.returns-clause-elsewhere c).In-Some)).well_formed)

@@ -1,9 +1,11 @@
 use Rattle.std.proofs.Common.{◌≡◌, ◌+◌, ◌<◌, ◌≤◌, None, Some, length, refl, ap, subst, ◌∙◌}
 use Rattle.std.specs.Prelude.{OnOk, IfErr}
+use Rattle.std.proofs.lemmas.Result.{on_ok_weaker, on_err_weaker}
 use Rattle.pv_model.specs.Room.{greatest_length}
 use Rattle.pv_model.specs.Sealed.{is_file}
 use Rattle.pv_model.specs.Tree.{Tree, node_at}
 use Rattle.pv_tree.specs.Changes.{overwritten}
+use Rattle.pv_tree.specs.Holding.{HeldTree, with_tree}
 use Rattle.pv_tree.specs.Rooms.{refusal}
 use Rattle.pv_laws_trees.proofs.Encoded.{bytes-all}
 use Rattle.pv_tree.proofs.Contents.{IsAnswer, file-of, write-answer, write-ends}
@@ -21,13 +23,14 @@ answer c =
 pub invariant_of-self : goal.invariant_of-self
 invariant_of-self c = (answer c).tied
 
-pub returns-clause-allowed : goal.returns-clause-allowed
-returns-clause-allowed c =
-    subst (λ (t : Tree). OnOk c.write_at.result (refusal (overwritten t c.args.node c.args.at c.args.bytes.now) ≡ None)) (ap (λ h. h.tree) c.self.view_is) (answer c).allowed
-
-pub returns-clause-refused : goal.returns-clause-refused
-returns-clause-refused c =
-    subst (λ (t : Tree). IfErr c.write_at.result (λ why. refusal (overwritten t c.args.node c.args.at c.args.bytes.now) ≡ Some why)) (ap (λ h. h.tree) c.self.view_is) (answer c).refused
+pub returns-clause-change : goal.returns-clause-change
+returns-clause-change c = record {
+  ok = on_ok_weaker c.write_at.result
+      (λ same. ap (λ (t : Tree). record { tree = t; holds = c.self.inside.holds }) same ∙ ap (λ (h : HeldTree). with_tree h (overwritten h.tree c.args.node c.args.at c.args.bytes.now)) c.self.view_is) (answer c).ok;
+  err = on_err_weaker c.write_at.result (λ same. ap (λ (t : Tree). record { tree = t; holds = c.self.inside.holds }) same ∙ c.self.view_is) c.write_at.ensures.err;
+  allowed = subst (λ (t : Tree). OnOk c.write_at.result (refusal (overwritten t c.args.node c.args.at c.args.bytes.now) ≡ None)) (ap (λ h. h.tree) c.self.view_is) (answer c).allowed;
+  refused = subst (λ (t : Tree). IfErr c.write_at.result (λ why. refusal (overwritten t c.args.node c.args.at c.args.bytes.now) ≡ Some why)) (ap (λ h. h.tree) c.self.view_is) (answer c).refused;
+}
 
 pub returns-clause-found : goal.returns-clause-found
 returns-clause-found c =

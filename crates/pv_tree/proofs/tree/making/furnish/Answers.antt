@@ -1,15 +1,22 @@
 use Rattle.std.proofs.Common.{◌≡◌, is_some, ap, sym, ◌∙◌}
-use Rattle.pv_model.specs.Tree.{Tree, node_at, with_node}
+use Rattle.pv_model.specs.Tree.{Tree, node_at, with_node, with_entry}
 use Rattle.pv_dirs.specs.Trees.{new_node as empty_node, without_node}
 use Rattle.pv_tree.specs.Changes.{new_node, sort_of}
+use Rattle.pv_tree.specs.Rooms.{refusal}
 use Rattle.pv_tree.proofs.Making.{at-err, at-ok, there-filled, emptied-again}
 use Rattle.pv_tree.proofs.Rooms.{refused-before}
 use Rattle.pv_tree.proofs.tree.making.furnish.Goals as goal
 
-pub returns-then-is_err-clause-refused : goal.returns-then-is_err-clause-refused
-returns-then-is_err-clause-refused c =
-    refused-before (with_node c.args.directories.now c.args.node (new_node c.args.kind)) c.requires.shaped c.args.directory c.args.name.now c.args.node c.requires.directory c.requires.absent
-    c.requires.few (at-err c.fill.result (sym c.is_err.ensures.value ∙ c.if-is_err.true) c.fill.ensures.full)
+pub returns-then-is_err-clause-change : goal.returns-then-is_err-clause-change
+returns-then-is_err-clause-change c =
+    let failed = sym c.is_err.ensures.value ∙ c.if-is_err.true in
+    record {
+      ok = tt;
+      err = c.drop_inode.ensures ∙ ap (λ (t : Tree). without_node t c.args.node) (at-err c.fill.result failed c.fill.ensures.err);
+      allowed = tt;
+      refused = refused-before (with_node c.args.directories.now c.args.node (new_node c.args.kind)) c.requires.shaped c.args.directory c.args.name.now c.args.node c.requires.entry.directory c.requires.entry.absent
+          c.requires.few (at-err c.fill.result failed c.fill.ensures.full);
+    }
 
 pub drop_inode-requires-in-Err : goal.drop_inode-requires-in-Err
 drop_inode-requires-in-Err c =
@@ -18,9 +25,14 @@ drop_inode-requires-in-Err c =
     ap (λ (t : Tree). is_some (node_at t c.args.node)) same
     ∙ there-filled c.args.directories.now c.args.node (empty_node (sort_of c.args.kind)) (new_node c.args.kind) c.requires.fresh
 
-pub returns-in-Err-clause-err : goal.returns-in-Err-clause-err
-returns-in-Err-clause-err c =
-    let same : c.enter.new.directories ≡ with_node c.args.directories.now c.args.node (new_node c.args.kind) =
-    c.in-Err.ensures.err ∙ at-ok c.fill.result (sym c.is_err.ensures.value ∙ c.if-is_err.false) c.fill.ensures.ok in
-    c.drop_inode-in-Err.ensures ∙ ap (λ (t : Tree). without_node t c.args.node) same
-    ∙ emptied-again c.args.directories.now c.args.node (empty_node (sort_of c.args.kind)) (new_node c.args.kind) c.requires.fresh
+pub returns-in-Err-clause-change : goal.returns-in-Err-clause-change
+returns-in-Err-clause-change c =
+    let filled = at-ok c.fill.result (sym c.is_err.ensures.value ∙ c.if-is_err.false) c.fill.ensures.ok in
+    let same : c.enter.new.directories ≡ with_node c.args.directories.now c.args.node (new_node c.args.kind) = c.in-Err.ensures.err ∙ filled in
+    record {
+      ok = tt;
+      err = c.drop_inode-in-Err.ensures ∙ ap (λ (t : Tree). without_node t c.args.node) same
+          ∙ emptied-again c.args.directories.now c.args.node (empty_node (sort_of c.args.kind)) (new_node c.args.kind) c.requires.fresh;
+      allowed = tt;
+      refused = ap (λ (t : Tree). refusal (with_entry t c.args.directory c.args.name.now c.args.node)) (sym filled) ∙ c.in-Err.ensures.refused;
+    }

@@ -1,0 +1,35 @@
+-- The directory from which a walk of a live process starts, given by the number of the process.
+use Rattle.std.specs.Prelude.{◌≡◌, ℕ, ℤ, Some}
+use Rattle.pv_model.specs.declared.call.Start.{Start}
+use Rattle.pv_model.specs.declared.errno.Errno.{Errno}
+use Rattle.pv_model.specs.declared.outcome.Cause.TheVariants.{Plain}
+use Rattle.pv_model.specs.Attempt.{give, refused}
+use Rattle.pv_model.specs.Bytes.{Bytes}
+use Rattle.pv_model.specs.Calls.Descriptors.{check_start, directory_of}
+use Rattle.pv_model.specs.Effect.{directory_of_file, open_file, start_directory}
+use Rattle.pv_model.specs.State.{Process, State, process_at}
+
+module _ (s : State) (pid : ℕ) where
+  -- a descriptor gives a directory
+  abbrev pub GivesDirectory : ℤ → ℕ → Type 0
+  GivesDirectory d n = (me : Process) → process_at s pid ≡ Some me → directory_of s pid me d ≡ give n
+
+  -- the open file of a descriptor refers to a directory
+  abbrev pub IsOnDirectory : ℤ → ℕ → Type 0
+  IsOnDirectory d n = (me : Process) → process_at s pid ≡ Some me → directory_of_file me (open_file s me d) ≡ n
+
+  -- a descriptor gives no directory, but an error
+  abbrev pub GivesNoDirectory : ℤ → Errno → Type 0
+  GivesNoDirectory d e = (me : Process) → process_at s pid ≡ Some me → directory_of s pid me d ≡ refused 0 e Plain
+
+  -- the start of a walk has a directory
+  abbrev pub PassesStart : Start → Bytes → Type 0
+  PassesStart start path = (me : Process) → process_at s pid ≡ Some me → check_start s pid me start path ≡ give tt
+
+  -- the walk starts at that directory
+  abbrev pub StartsAt : Start → Bytes → ℕ → Type 0
+  StartsAt start path n = (me : Process) → process_at s pid ≡ Some me → start_directory s me start path ≡ n
+
+  -- the start of a walk has no directory, but an error
+  abbrev pub FailsStart : Start → Bytes → Errno → Type 0
+  FailsStart start path e = (me : Process) → process_at s pid ≡ Some me → check_start s pid me start path ≡ refused 0 e Plain
