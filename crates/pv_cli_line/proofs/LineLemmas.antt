@@ -282,7 +282,7 @@ module _ (entered : Option (Text × List Row)) where
       → ((tree : TreeInput) → IsValidTreeIn entered (codes "policy") tree → ⊥)
       → ((tree : TreeInput) → IsValidTreeIn entered (codes "graph") tree → ⊥)
       → (search : Search) (tree : TreeInput) → IsValidTreeIn entered (search_name search) tree → ⊥
-  no_search explores accesses exposures policies graphs Explore = explores
+  no_search explores accesses exposures policies graphs (Explore reduced) = explores
   no_search explores accesses exposures policies graphs Access = accesses
   no_search explores accesses exposures policies graphs Exposure = exposures
   no_search explores accesses exposures policies graphs Policy = policies

@@ -205,7 +205,7 @@ output_entered entered = if is_given (entered_text entered (codes "source") (cod
 
 -- the name of the command of a search
 abbrev pub search_name : Search → Text
-search_name Explore = codes "explore"
+search_name (Explore reduced) = codes "explore"
 search_name Access = codes "access"
 search_name Exposure = codes "exposure"
 search_name Policy = codes "policy"
@@ -213,6 +213,7 @@ search_name (Graph lists_tree) = codes "graph"
 
 -- the flags of the command of a search are those entered
 abbrev pub HasFlags : Option (Text × List Row) → Search → Type 0
+HasFlags entered (Explore reduced) = is_given (entered_text entered (codes "explore") (codes "reduced")) ≡ reduced
 HasFlags entered (Graph lists_tree) = is_given (entered_text entered (codes "graph") (codes "tree")) ≡ lists_tree
 HasFlags entered search = ⊤
 

@@ -93,7 +93,7 @@ schedule_apps =
 -- the questions about all schedules; the commands to migrate an image, and to import and export a directory
 abbrev pub search_apps : List App
 search_apps =
-    command_app (codes "explore") search_rules
+    command_app (codes "explore") (search_rules ++ flag_rule (codes "reduced") ∷ [])
     ∷ command_app (codes "access") search_rules
     ∷ command_app (codes "exposure") search_rules
     ∷ command_app (codes "policy") search_rules

@@ -351,7 +351,7 @@ fn name_of_search(search: Search) -> &'static str
     ensures { result.now ≡ search_name search }
 {
     match search {
-        Search::Explore => "explore",
+        Search::Explore { .. } => "explore",
         Search::Access => "access",
         Search::Exposure => "exposure",
         Search::Policy => "policy",
@@ -381,7 +381,8 @@ fn search_in<'a>(matches: &ArgMatches<'a>) -> Option<Parsed<'a>>
     ensures found { IfSome result (IsFoundIn (entered matches.now)) }
     ensures none { result ≡ None → NeverBoth (λ search. IsValidTreeIn (entered matches.now) (search_name search)) }
 {
-    if let Some(found) = search_by(matches, Search::Explore) {
+    let reduced = is_flag_given(matches, "explore", "reduced");
+    if let Some(found) = search_by(matches, Search::Explore { reduced }) {
         return Some(found);
     }
     if let Some(found) = search_by(matches, Search::Access) {

@@ -299,7 +299,17 @@ const SEARCHES: &[CommandRow] = &[
     CommandRow {
         name: "explore",
         about: "Print everything that can happen under any schedule of an image, each with a shortest schedule",
-        arguments: &[BUNDLE, SOURCE, IMAGE, STATES],
+        arguments: &[
+            BUNDLE,
+            SOURCE,
+            IMAGE,
+            STATES,
+            Flag {
+                name: "reduced",
+                short: None,
+                help: "visit fewer states: identify those that differ only in numbers of open files and in values that are never read, and make steps on registers together",
+            },
+        ],
     },
     CommandRow {
         name: "access",

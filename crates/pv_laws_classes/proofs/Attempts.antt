@@ -1,5 +1,5 @@
 -- Attempts and answers in two states that are related by a renumbering of open files.
-use Rattle.std.proofs.Common.{◌≡◌, ℕ, pos, negsuc, refl, ap, sym, subst}
+use Rattle.std.proofs.Common.{◌≡◌, ℕ, pos, negsuc, refl, sym, subst}
 use Rattle.pv_model.specs.Answer.{Answered, answer_by_reply, answer_by_attempt, with_front, update}
 use Rattle.pv_model.specs.Attempt.{Attempt, done, refused, ◌>>=◌}
 use Rattle.pv_model.specs.Calls.Processes.{with_result, end_process}

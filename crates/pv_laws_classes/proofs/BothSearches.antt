@@ -1,5 +1,5 @@
 -- Two searches of classes of states, both complete: they report the same steps and count the same endings.
-use Rattle.std.proofs.Common.{◌≡◌, ◌∙◌, sym, ap, subst, ℕ, ◌≤◌, Bool, true, List, flat_map, Option, refl}
+use Rattle.std.proofs.Common.{◌≡◌, ◌∙◌, sym, ap, subst, ℕ, ◌≤◌, Bool, true, List, Option, refl}
 use Rattle.std.specs.List.{list_all}
 use Rattle.pv_model.specs.Answers.Explore.{Found, Move, moves_of, move_text}
 use Rattle.pv_model.specs.Answers.Numbers.{Numbers, state_numbers}
@@ -7,17 +7,16 @@ use Rattle.pv_model.specs.Bytes.{Bytes}
 use Rattle.pv_model.specs.State.{Program, State}
 use Rattle.pv_model.specs.Step.{step, run}
 use Rattle.pv_model.specs.Trace.{trace_bytes}
-use Rattle.pv_laws_states.specs.States.{EncodesPrograms, IsValid}
 use Rattle.pv_laws_answers.specs.Search.{CanHappen, HasLeastWitness}
 use Rattle.pv_laws_answers.specs.Witnesses.{AreSteps, IsWitness, IsBefore, IsNoLater, EachToLater}
 use Rattle.pv_laws_answers.proofs.Least.{steps-split}
 use Rattle.pv_laws_answers.proofs.Lists.{Among}
 use Rattle.pv_laws_answers.proofs.Reading.{same-state_numbers}
 use Rattle.pv_laws_answers.proofs.Witnesses.{before-then}
-use Rattle.pv_laws_classes.proofs.Classes.{AreClasses, DependOnClass}
 use Rattle.pv_laws_classes.proofs.Orders.{Earlier, sorted-same, before-itself, no_later-both, same-last}
-use Rattle.pv_laws_classes.proofs.Searching.{is_class_found, visited}
-use Rattle.pv_laws_classes.proofs.Visited.{reported, finished, can-happen, least, reported-order, text-reported, sound-at, visited-least, firsts, first-in, firsts-order, firsts-least, all-found, first-found}
+use Rattle.pv_laws_classes.proofs.Searching.{is_known}
+use Rattle.pv_laws_classes.proofs.StateSearches.{state_class, same_class, IsStateSearch, least-witness, text-there}
+use Rattle.pv_laws_classes.proofs.Visited.{DependOnClass, IsReached, same-found, found, made_moves, reported, finished, can-happen, reported-order, reached-at, sound-at, visited-least, firsts, first-in, firsts-order, firsts-least, all-found, first-found}
 
 module _ (program_of : Bytes → Option Program) (s : State) where
   -- ---- reported steps
@@ -58,32 +57,21 @@ module _ (program_of : Bytes → Option Program) (s : State) where
   -- ---- first states
 
   module _ (test : State → Bool) (key : State → Numbers) where
-    -- each state in a list passes a test and has the least witness of all schedules that end in such a state with its key,
-    -- the list is in the order of the witnesses, and it has each key
+    -- each state in a list passes a test and has the least witness of all reached states that pass and have its key, the
+    -- list is in the order of the witnesses, and it has each key
     pub record AreFirsts (fs : List Found) : Type 0 where
-      pub happen : (f : Found) → Among f fs → IsWitness program_of s f.witness f.state × (test f.state ≡ true)
-      pub least : (f : Found) → Among f fs → (pids : List ℕ) → AreSteps program_of pids s → test (run program_of pids s).final ≡ true → key (run program_of pids s).final ≡ key f.state → IsNoLater f.witness pids
+      pub happen : (f : Found) → Among f fs → IsReached program_of s (moves_of program_of) f × IsWitness program_of s f.witness f.state × (test f.state ≡ true)
+      pub least : (f : Found) → Among f fs → (g : Found) → IsReached program_of s (moves_of program_of) g → test g.state ≡ true → key g.state ≡ key f.state → IsNoLater f.witness g.witness
       pub order : EachToLater (λ f g. IsBefore f.witness g.witness) fs
-      pub all : (pids : List ℕ) → test (run program_of pids s).final ≡ true → (f : Found) × Among f fs × (key f.state ≡ key (run program_of pids s).final)
-
-    same-found : (f g : Found) → IsWitness program_of s f.witness f.state → IsWitness program_of s g.witness g.state → f.witness ≡ g.witness → f ≡ g
-    same-found f g is_f is_g same =
-        let state : f.state ≡ g.state = sym is_f.leads ∙ ap (λ w. (run program_of w s).final) same ∙ is_g.leads in
-        λ i. record { witness = same i; state = state i }
-
-    -- a state with the same key has no later witness
-    first-no-later : (fs : List Found) → AreFirsts fs → (f : Found) → Among f fs → (g : Found) → IsWitness program_of s g.witness g.state → test g.state ≡ true → key g.state ≡ key f.state → IsNoLater f.witness g.witness
-    first-no-later fs all f h g is passes same = all.least f h g.witness is.steps (ap test is.leads ∙ passes) (ap key is.leads ∙ same)
+      pub all : (f : Found) → IsReached program_of s (moves_of program_of) f → test f.state ≡ true → (g : Found) × Among g fs × (key g.state ≡ key f.state)
 
     in-firsts : (fs gs : List Found) → AreFirsts fs → AreFirsts gs → (f : Found) → Among f fs → Among f gs
     in-firsts fs gs one other f h =
         let is = one.happen f h in
-        let like = other.all f.witness (ap test is.0.leads ∙ is.1) in
+        let like = other.all f is.0 is.2 in
         let g = like.0 in
         let there = other.happen g like.1 in
-        let keys : key g.state ≡ key f.state = like.2 ∙ ap key is.0.leads in
-        let same = same-found f g is.0 there.0
-        (no_later-both f.witness g.witness (first-no-later fs one f h g there.0 there.1 keys) (first-no-later gs other g like.1 f is.0 is.1 (sym keys))) in
+        let same = same-found program_of s f g is.1 there.1 (no_later-both f.witness g.witness (one.least f h g there.0 there.2 like.2) (other.least g like.1 f is.0 is.2 (sym like.2))) in
         subst (λ (x : Found). Among x gs) (sym same) like.1
 
     pub same-firsts : (fs gs : List Found) → AreFirsts fs → AreFirsts gs → fs ≡ gs
@@ -94,36 +82,35 @@ module _ (program_of : Bytes → Option Program) (s : State) where
 -- ---- a complete search
 
 module _
-    (class_of : State → State) (program_of : Bytes → Option Program) (encodes : EncodesPrograms program_of) (classes : AreClasses class_of program_of) (s : State) (whole : IsValid s)
-    (limit : ℕ) (room : 1 ≤ limit)
-    (complete : list_all (λ m. is_class_found class_of m.stepped.after (visited class_of program_of limit s)) (flat_map (moves_of program_of) (visited class_of program_of limit s)) ≡ true) where
-  pub is-report : IsReport program_of s (reported class_of program_of encodes classes s whole limit room)
+    (class_of : State → State) {program_of : Bytes → Option Program} {s : State} (it : IsStateSearch program_of class_of s) (limit : ℕ) (room : 1 ≤ limit)
+    (complete : list_all (λ m. is_known (same_class class_of) m (found it limit room)) (made_moves it limit room) ≡ true) where
+  pub is-report : IsReport program_of s (reported it limit room)
   is-report = record {
-    happen = can-happen class_of program_of encodes classes s whole limit room;
-    least = least class_of program_of encodes classes s whole limit room;
-    order = reported-order class_of program_of encodes classes s whole limit room;
+    happen = can-happen it limit room;
+    least = least-witness class_of it limit room;
+    order = reported-order it limit room;
     all = λ m is.
         let parts = steps-split program_of is.before m.pid s (subst (λ (w : List ℕ). AreSteps program_of w s) is.witness is.steps) in
         let text = ap (λ st. trace_bytes st.lines) is.last in
-        let like = text-reported class_of program_of encodes classes s whole limit room complete is.before m.pid parts.1 (λ none. is.text (text ∙ none)) in
+        let like = text-there class_of it limit room complete is.before m.pid parts.1 (λ none. is.text (text ∙ none)) in
         (like.0, like.1, like.2 ∙ sym text);
   }
 
-  pub are-firsts : (test : State → Bool) (key : State → Numbers) (depend : DependOnClass class_of test key) → AreFirsts program_of s test key (firsts class_of program_of encodes classes s whole limit room test key depend)
+  pub are-firsts : (test : State → Bool) (key : State → Numbers) (depend : DependOnClass (state_class class_of) test key) → AreFirsts program_of s test key (firsts it limit room test key depend)
   are-firsts test key depend = record {
     happen = λ f h.
-        let there = first-in class_of program_of encodes classes s whole limit room test key depend f h in
-        ((sound-at class_of program_of encodes classes s whole limit room f there.0).witness, there.1);
-    least = firsts-least class_of program_of encodes classes s whole limit room test key depend;
-    order = firsts-order class_of program_of encodes classes s whole limit room test key depend;
-    all = first-found class_of program_of encodes classes s whole limit room complete test key depend;
+        let there = first-in it limit room test key depend f h in
+        (reached-at it limit room f there.0, (sound-at it limit room f there.0).witness, there.1);
+    least = firsts-least it limit room test key depend;
+    order = firsts-order it limit room test key depend;
+    all = first-found it limit room complete test key depend;
   }
 
   -- the visited states are the first ones of their classes
-  pub are-visited : AreFirsts program_of s (λ t. true) (λ t. state_numbers (class_of t)) (visited class_of program_of limit s)
+  pub are-visited : AreFirsts program_of s (λ t. true) (λ t. state_numbers (class_of t)) (found it limit room)
   are-visited = record {
-    happen = λ f h. ((sound-at class_of program_of encodes classes s whole limit room f h).witness, refl);
-    least = λ f h pids steps passes same. visited-least class_of program_of encodes classes s whole limit room f h pids steps (same-state_numbers (class_of (run program_of pids s).final) (class_of f.state) same);
-    order = (finished class_of program_of encodes classes s whole limit room).rising;
-    all = λ pids passes. let there = all-found class_of program_of encodes classes s whole limit room complete pids in (there.0, there.1, ap state_numbers there.2);
+    happen = λ f h. (reached-at it limit room f h, (sound-at it limit room f h).witness, refl);
+    least = λ f h g reached passes same. visited-least it limit room f h g reached (same-state_numbers (class_of g.state) (class_of f.state) same);
+    order = (finished it limit room).rising;
+    all = λ f reached passes. let there = all-found it limit room complete f reached in (there.0, there.1, ap state_numbers there.2);
   }

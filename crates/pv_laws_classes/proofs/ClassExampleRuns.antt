@@ -6,7 +6,7 @@ use Rattle.pv_model.specs.Numbered.{at_number}
 use Rattle.pv_model.specs.State.{Descriptor, Process, State, process_at}
 use Rattle.std.proofs.Common.{Option, None, Some}
 use Rattle.pv_laws_classes.specs.Canonical.{canonical}
-use Rattle.pv_laws_classes.specs.ClassExamples.{CanonicalExamples, SearchExamples}
+use Rattle.pv_laws_classes.specs.ClassExamples.{CanonicalExamples, SearchExamples, StateTextExamples}
 use Rattle.pv_laws_classes.specs.Examples.{two_files, one_file}
 use Rattle.pv_laws_classes.specs.Search.{classes_found}
 
@@ -30,3 +30,7 @@ canonical-happens = record { of_parent = refl; of_child = refl; same = refl; apa
 pub search-happens : SearchExamples
 unfolding answers_on_literals canonical classes_found
 search-happens = record { complete = refl; class_complete = refl; all_states = refl; all_classes = refl }
+
+pub state-texts-happen : StateTextExamples
+unfolding answers_on_literals
+state-texts-happen = record { differ = refl }

@@ -1,12 +1,11 @@
 -- Functions that give the class of a state, such that the steps from states of one class have the same lines and lead to
 -- states of one class. The identity and the canonical form are such functions.
-use Rattle.std.proofs.Common.{◌≡◌, ◌∙◌, sym, ap, ℕ, Bool, List, [], ◌∷◌, Option, None, Some, is_some, option_map, refl}
+use Rattle.std.proofs.Common.{◌≡◌, ◌∙◌, sym, ap, ℕ, List, [], ◌∷◌, Option, None, Some, is_some, option_map, refl}
 use Rattle.std.specs.FinMap.Entries.{find}
 use Rattle.std.specs.Ordering.{nat_cmp}
 use Rattle.pv_model.specs.Answers.Explore.{has_ended}
-use Rattle.pv_model.specs.Answers.Numbers.{Numbers, tree_numbers}
 use Rattle.pv_model.specs.Bytes.{Bytes, is_empty}
-use Rattle.pv_model.specs.Held.{live_processes, named_tree}
+use Rattle.pv_model.specs.Held.{live_processes}
 use Rattle.pv_model.specs.State.{Program, Process, ProcessRecord, live, ended_record, State, live_process, process_at}
 use Rattle.pv_model.specs.Step.{step}
 use Rattle.pv_laws_states.specs.States.{EncodesPrograms, IsValid}
@@ -29,15 +28,6 @@ module _ (class_of : State → State) (program_of : Bytes → Option Program) wh
     pub steps : (s t : State) (pid : ℕ) → IsValid s → IsValid t → class_of s ≡ class_of t → AreStepsAlike s t pid
     pub tree : (s t : State) → class_of s ≡ class_of t → s.tree ≡ t.tree
     pub ended : (s t : State) → class_of s ≡ class_of t → has_ended s ≡ has_ended t
-
--- a test and a key of states depend only on the class
-pub record DependOnClass (class_of : State → State) (test : State → Bool) (key : State → Numbers) : Type 0 where
-  pub same_test : (s t : State) → class_of s ≡ class_of t → test s ≡ test t
-  pub same_key : (s t : State) → class_of s ≡ class_of t → key s ≡ key t
-
--- the tree of a state without live processes
-pub depend-ending : (class_of : State → State) (program_of : Bytes → Option Program) → AreClasses class_of program_of → DependOnClass class_of has_ended (λ t. tree_numbers (named_tree t.tree))
-depend-ending class_of program_of classes = record { same_test = classes.ended; same_key = λ s t same. ap (λ u. tree_numbers (named_tree u)) (classes.tree s t same) }
 
 -- ---- equal states
 

@@ -11,7 +11,7 @@ use Rattle.pv_laws_classes.specs.Together.{on_registers, Reply, reply, Turn, ste
 use Rattle.pv_laws_classes.proofs.Registers.{on-lives, lives-on, no-lines, final-append, none-left}
 use Rattle.pv_laws_classes.proofs.Turns.{count-none, count-append, replies-append, replies-off, replies-turn, normal-form}
 
-replicate-last : (n k : ℕ) (rest : List ℕ) → replicate n k ++ k ∷ rest ≡ replicate (suc n) k ++ rest
+pub replicate-last : (n k : ℕ) (rest : List ℕ) → replicate n k ++ k ∷ rest ≡ replicate (suc n) k ++ rest
 replicate-last zero k rest = refl
 replicate-last (suc n) k rest = ap (λ (ks : List ℕ). k ∷ ks) (replicate-last n k rest)
 

@@ -25,12 +25,13 @@ use Rattle.pv_laws_answers.proofs.Sound.{IsSound, made-by}
 use Rattle.pv_laws_classes.specs.Canonical.{canonical}
 use Rattle.pv_laws_classes.specs.Search.{classes_found, is_class_complete, class_key, class_done_line, IsOfClasses, class_observations, FirstObservationsAreSame, AccessesAreSame, files_read_by_class, access_class_lines, AccessTextsDifferInCount}
 use Rattle.pv_laws_classes.proofs.AlikeAccesses.{accesses-same, access-lines-same, IsSame, observed-same}
-use Rattle.pv_laws_classes.proofs.Classes.{equal-states, canonical-states}
+use Rattle.pv_laws_classes.proofs.Classes.{canonical-states}
 use Rattle.pv_laws_classes.proofs.ClassLaws.{classes-first, classes-complete}
 use Rattle.pv_laws_classes.proofs.Forms.{unique}
 use Rattle.pv_laws_classes.proofs.Searching.{visited}
+use Rattle.pv_laws_classes.proofs.StateSearches.{full-search, own-move}
 use Rattle.pv_laws_classes.proofs.Steps.{related-of, renumbered-steps}
-use Rattle.pv_laws_classes.proofs.Visited.{own-move, sound-at}
+use Rattle.pv_laws_classes.proofs.Visited.{found, sound-at}
 
 -- ---- elements with new keys
 
@@ -123,10 +124,10 @@ module _ {F X : Type 0} (class_of : F → Numbers) (items : F → List X) (key :
 -- the items of a visited state are observed in each visited state of its class
 module _ {X : Type 0} (observe : Observer X) (program_of : Bytes → Option Program) (limit : ℕ) (s : State) (it : IsSearched program_of limit s) (invariant : IsOfClasses observe program_of) where
   abbrev full : List Found
-  full = visited (λ t. t) program_of limit s
+  full = found (full-search program_of limit s it) limit it.room
 
   sound : (f : Found) → Among f full → IsSound program_of s f
-  sound = sound-at (λ t. t) program_of it.encodes (equal-states program_of) s it.whole limit it.room
+  sound = sound-at (full-search program_of limit s it) limit it.room
 
   alike : (f g : Found) → Among f full → Among g full → class_key f.state ≡ class_key g.state
       → (o : Observation X) → Among o (observations_at observe program_of g) → (p : Observation X) × Among p (observations_at observe program_of f) × (p.item ≡ o.item)
@@ -138,7 +139,7 @@ module _ {X : Type 0} (observe : Observer X) (program_of : Bytes → Option Prog
       let item = map-among (observed from.0) o (observe g.state from.0.pid from.0.stepped) from.2 in
       let made = made-by program_of s g from.0 whole_g from.1 in
       let steps = (canonical-states program_of it.encodes).steps g.state f.state from.0.pid whole_g whole_f (sym same) in
-      let own = own-move (λ t. t) program_of it.encodes (equal-states program_of) s it.whole limit it.room f from.0.pid (steps.lives ∙ ap is_some made.1) in
+      let own = own-move program_of f from.0.pid (steps.lives ∙ ap is_some made.1) in
       let here = subst (λ (xs : List X). Among item.0 xs) (sym (invariant g.state f.state from.0.pid whole_g whole_f ((unique g.state f.state whole_g whole_f).0 (sym same))))
       (subst (λ (m : Move). Among item.0 (observe g.state from.0.pid m.stepped)) made.2 item.1) in (
         observed (move program_of f from.0.pid) item.0,

@@ -5,10 +5,12 @@
 -- - The effects of calls: PlainCalls (no open file), DescriptorCalls (processes and descriptors), FileCalls (contents
 --   and offsets), OpenCalls (a new open file).
 -- - Steps: steps and runs. Forms: the equivalence and the canonical form.
--- - The search, for any function that gives the class of a state: Classes (such functions: the identity and the canonical
---   form), Searching (step by step), Orders (lists in an order, and witnesses), Visited (the visited states and reported
---   steps), BothSearches (two complete searches), Fewer (the number of visited states).
--- - ClassLaws: its laws. AlikeAccesses, FirstObserved: accesses, and observations of steps.
+-- - Searches, for any steps and any classes: Searching (step by step), Orders (lists in an order, and witnesses), Visited
+--   (the visited states and reported steps).
+-- - Searches that make each step, for any function that gives the class of a state: Classes (such functions: the identity
+--   and the canonical form), StateSearches (they are searches), BothSearches (two complete searches), Fewer (the number of
+--   visited states).
+-- - ClassLaws: laws of the search by canonical forms. AlikeAccesses, FirstObserved: accesses, and observations of steps.
 -- - ExampleRuns, ClassExampleRuns: examples by computation.
 --
 -- Lemmas on combined steps.
@@ -22,6 +24,13 @@
 --   LiveAnswers and LiveCounts (attempts, answers, lines), LiveCalls (the effects of calls).
 -- - LiveSteps: steps and runs. LiveTables and LiveExact: live variables by iteration. LiveClasses and LiveCleared: the
 --   equivalence, and states with zero in dead variables. LiveExampleRuns: examples by computation.
+--
+-- Lemmas on the reduced search.
+-- - ReducedSchedules: schedules in which each process makes its steps on registers directly before its next step, and
+--   their parts.
+-- - ReducedClasses: classes of states that are equal but for the numbers of open files and for dead variables.
+-- - ReducedSearch: the visited states and reported steps. ReducedReports: the reduced search and the full search.
+--   ReducedExampleRuns: examples by computation.
 pub mod Lists
 pub mod Files
 pub mod States
@@ -38,6 +47,7 @@ pub mod Classes
 pub mod Searching
 pub mod Orders
 pub mod Visited
+pub mod StateSearches
 pub mod BothSearches
 pub mod Fewer
 pub mod ClassLaws
@@ -50,6 +60,11 @@ pub mod Turns
 pub mod Combined
 pub mod Lengths
 pub mod TogetherExampleRuns
+pub mod ReducedSchedules
+pub mod ReducedClasses
+pub mod ReducedSearch
+pub mod ReducedReports
+pub mod ReducedExampleRuns
 pub mod LiveLists
 pub mod LiveValues
 pub mod LiveNext

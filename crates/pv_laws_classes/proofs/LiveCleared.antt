@@ -8,7 +8,7 @@ use Rattle.pv_laws_classes.proofs.LiveClasses.{equivalence}
 -- ---- lists
 
 module _ {X : Type 0} (test : ℕ → Bool) (nothing : X) where
-  cleared-length : (k : ℕ) (xs : List X) → length (cleared_from test nothing k xs) ≡ length xs
+  pub cleared-length : (k : ℕ) (xs : List X) → length (cleared_from test nothing k xs) ≡ length xs
   cleared-length k [] = refl
   cleared-length k (x ∷ xs) = ap suc (cleared-length (suc k) xs)
 

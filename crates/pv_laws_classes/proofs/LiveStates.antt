@@ -29,7 +29,7 @@ module _ (R : ℕ → Process → List ℤ → Bytes → Type 0) where
   pub tree-related : (x y : State) → Related R x y → y.tree ≡ x.tree
   tree-related x y is = ap (λ (z : State). z.tree) is.same
 
-  collect-with : (x : State) (ps : List (ℕ × ProcessRecord)) → all_of used_files ps ≡ all_of used_files x.processes → all_of held_by_process ps ≡ all_of held_by_process x.processes
+  pub collect-with : (x : State) (ps : List (ℕ × ProcessRecord)) → all_of used_files ps ≡ all_of used_files x.processes → all_of held_by_process ps ≡ all_of held_by_process x.processes
       → collect (record x { processes = ps }) ≡ record (collect x) { processes = ps }
   unfolding collect
   collect-with x ps used held =

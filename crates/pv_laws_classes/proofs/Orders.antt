@@ -1,9 +1,7 @@
 -- Lists in an order, and the order of witnesses.
-use Rattle.std.proofs.Common.{◌≡◌, ◌≢◌, ◌∙◌, sym, ap, ap₂, subst, ℕ, suc, ◌≤◌, Bool, true, false, cond, List, [], ◌∷◌, ◌++◌, length, length-append, flat_map, filter, Option, ◌⊎◌, inl, inr, refl, arith, zero-le}
+use Rattle.std.proofs.Common.{◌≡◌, ◌≢◌, ◌∙◌, sym, ap, ap₂, subst, ℕ, suc, ◌≤◌, Bool, true, false, cond, List, [], ◌∷◌, ◌++◌, length, length-append, flat_map, filter, ◌⊎◌, inl, inr, refl, arith, zero-le}
 use Rattle.std.specs.List.{AllByRecursion}
-use Rattle.pv_model.specs.Answers.Explore.{Found, Move, moves_of}
-use Rattle.pv_model.specs.Bytes.{Bytes}
-use Rattle.pv_model.specs.State.{Program}
+use Rattle.pv_model.specs.Answers.Explore.{Found, Move}
 use Rattle.pv_laws_answers.specs.Witnesses.{IsLess, IsBefore, IsNoLater, EachToLater}
 use Rattle.pv_laws_answers.proofs.Lists.{Among, among-left, among-right, among-either, each-among, each-from_among, each-append, flat-among, filter-among}
 use Rattle.pv_laws_answers.proofs.Marks.{among-between}
@@ -121,15 +119,14 @@ ascending-earlier w low (m ∷ ms) a = (
   ascending-earlier w (suc m.pid) ms a.2,
 )
 
-pub moves-earlier : (program_of : Bytes → Option Program) (fs : List Found) → AllByRecursion (λ f. Ascending f.witness 0 (moves_of program_of f)) fs → EachToLater (λ f g. IsBefore f.witness g.witness) fs
-    → EachToLater Earlier (flat_map (moves_of program_of) fs)
-moves-earlier program_of [] a r = tt
-moves-earlier program_of (f ∷ fs) a r =
-    to_later-append Earlier (moves_of program_of f) (flat_map (moves_of program_of) fs) (ascending-earlier f.witness 0 (moves_of program_of f) a.0) (moves-earlier program_of fs a.1 r.1)
+pub moves-earlier : (moves : Found → List Move) (fs : List Found) → AllByRecursion (λ f. Ascending f.witness 0 (moves f)) fs → EachToLater (λ f g. IsBefore f.witness g.witness) fs → EachToLater Earlier (flat_map moves fs)
+moves-earlier moves [] a r = tt
+moves-earlier moves (f ∷ fs) a r =
+    to_later-append Earlier (moves f) (flat_map moves fs) (ascending-earlier f.witness 0 (moves f) a.0) (moves-earlier moves fs a.1 r.1)
     (λ m h n k.
-    let from = flat-among (moves_of program_of) n fs k in
-    let here = ascending-from f.witness 0 (moves_of program_of f) a.0 m h in
-    let there = ascending-from from.0.witness 0 (moves_of program_of from.0) (each-among (λ g. Ascending g.witness 0 (moves_of program_of g)) fs a.1 from.0 from.1) n from.2 in
+    let from = flat-among moves n fs k in
+    let here = ascending-from f.witness 0 (moves f) a.0 m h in
+    let there = ascending-from from.0.witness 0 (moves from.0) (each-among (λ g. Ascending g.witness 0 (moves g)) fs a.1 from.0 from.1) n from.2 in
     let before = each-among (λ g. IsBefore f.witness g.witness) fs r.0 from.0 from.1 in
     subst (λ (v : List ℕ). IsBefore v n.witness) (sym here.0)
     (subst (λ (v : List ℕ). IsBefore (f.witness ++ m.pid ∷ []) v) (sym there.0) (before-one_more m.pid n.pid f.witness from.0.witness before)))

@@ -1,30 +1,27 @@
--- The visited states and the reported steps of a search of classes.
-use Rattle.std.proofs.Common.{◌≡◌, ◌≢◌, ◌∙◌, sym, ap, subst, ℕ, ◌≤◌, Bool, true, false, if◌then◌else◌, bytes_eq, List, [], ◌∷◌, ◌++◌, map, flat_map, filter, append_assoc, append-nil, Option, None, Some, is_some, ◌⊎◌, inl, inr, refl, arith}
+-- The visited states and the reported steps of a search, for any steps and any classes.
+use Rattle.std.proofs.Common.{◌≡◌, ◌≢◌, ◌∙◌, sym, ap, subst, ℕ, ◌≤◌, Bool, true, false, if◌then◌else◌, bytes_eq, List, [], ◌∷◌, ◌++◌, map, flat_map, filter, append_assoc, append-nil, Option, is_some, ◌⊎◌, inl, inr, refl, arith}
 use Rattle.std.specs.List.{AllByRecursion, list_any, list_all}
 use Rattle.pv_model.specs.Answers.Explore.{Found, Move, found_by, move, moves_of, move_text, new_ones, reported_moves, has_ended, endings}
 use Rattle.pv_model.specs.Answers.Numbers.{Numbers, tree_numbers}
 use Rattle.pv_model.specs.Bytes.{Bytes}
-use Rattle.pv_model.specs.Held.{live_processes, named_tree}
-use Rattle.pv_model.specs.State.{Program, Process, State, process_at}
+use Rattle.pv_model.specs.Held.{named_tree}
+use Rattle.pv_model.specs.State.{Program, State, process_at}
 use Rattle.pv_model.specs.Step.{step, run}
 use Rattle.pv_model.specs.Trace.{trace_bytes}
 use Rattle.pv_model.specs.Tree.{Tree}
 use Rattle.pv_laws_trees.proofs.Entries.{bytes_eq-itself}
 use Rattle.pv_laws_states.specs.States.{EncodesPrograms, IsValid}
-use Rattle.pv_laws_states.proofs.BySteps.{step-keeps_whole, run-keeps_whole}
-use Rattle.pv_laws_answers.specs.Search.{CanHappen, HasLeastWitness, EndsIn, step_text}
-use Rattle.pv_laws_answers.specs.Witnesses.{AreSteps, IsBefore, IsNoLater, EachToLater}
-use Rattle.pv_laws_answers.proofs.Complete.{still}
-use Rattle.pv_laws_answers.proofs.Least.{steps-split}
+use Rattle.pv_laws_states.proofs.BySteps.{step-keeps_whole}
+use Rattle.pv_laws_answers.specs.Search.{CanHappen, EndsIn}
+use Rattle.pv_laws_answers.specs.Witnesses.{IsWitness, IsBefore, IsNoLater, EachToLater}
 use Rattle.pv_laws_answers.proofs.Lists.{Among, each-among, each-from_among, each-weaker, among-map, map-among, among-flat, flat-among, among-filter, filter-among, any-among, all-among}
-use Rattle.pv_laws_answers.proofs.LiveOnes.{live-listed, moves-ascending}
 use Rattle.pv_laws_answers.proofs.New.{new-came, new-fresh, new-like, new-differ, new-order, new-first}
+use Rattle.pv_laws_answers.proofs.Reading.{same-tree_numbers}
 use Rattle.pv_laws_answers.proofs.Searching.{Ascending}
 use Rattle.pv_laws_answers.proofs.Sound.{IsSound, made-by, witness-more}
 use Rattle.pv_laws_answers.proofs.Witnesses.{before-one_more, before-longer, no_later-then, no_later-same_step}
-use Rattle.pv_laws_classes.proofs.Classes.{AreStepsAlike, AreClasses, DependOnClass}
-use Rattle.pv_laws_classes.proofs.Orders.{Earlier, to_later-filter, moves-earlier}
-use Rattle.pv_laws_classes.proofs.Searching.{is_class_found, visited, class-there, LeadsOn, Finished, StepsAreSound, searched}
+use Rattle.pv_laws_classes.proofs.Orders.{Earlier, to_later-filter, to_later-weaker, moves-earlier}
+use Rattle.pv_laws_classes.proofs.Searching.{is_known, visited, class-there, Decides, LeadsOn, Finished, searched}
 
 -- the elements with new keys among images
 new-map : {X Y : Type 0} (h : X → Y) (key : Y → Numbers) (had : List Numbers) (xs : List X) → new_ones key had (map h xs) ≡ map h (new_ones (λ x. key (h x)) had xs)
@@ -37,42 +34,111 @@ new-map {X} {Y} h key had (x ∷ xs) = by (list_any (bytes_eq (key (h x))) had) 
     by true old new = old
     by false old new = ap (λ ys. h x ∷ ys) new
 
-module _ (class_of : State → State) (program_of : Bytes → Option Program) (encodes : EncodesPrograms program_of) (classes : AreClasses class_of program_of) (s : State) (whole : IsValid s) where
-  -- ---- the search from a valid state
+abbrev pub tree_key : State → Numbers
+tree_key t = tree_numbers (named_tree t.tree)
 
-  pub sound-move : (f : Found) (m : Move) → IsSound program_of s f → Among m (moves_of program_of f) → IsSound program_of s (found_by m)
-  sound-move f m it within =
-      let made = made-by program_of s f m it.whole within in
-      subst (λ (n : Move). IsSound program_of s (found_by n)) (sym made.2) (record {
-        whole = step-keeps_whole program_of encodes f.state m.pid it.whole;
-        witness = witness-more program_of s f.state f.witness m.pid it.witness (ap is_some made.1);
-      })
+-- the counted trees differ
+pub endings-differ : (found : List Found) → EachToLater (λ t u. t ≢ u) (endings found)
+endings-differ found =
+    to_later-weaker (λ t u. tree_numbers t ≢ tree_numbers u) (λ t u. t ≢ u) (endings found) (λ t u in_t in_u h e. h (ap tree_numbers e))
+    (new-differ tree_numbers [] (map (λ f. named_tree f.state.tree) (filter (λ f. has_ended f.state) found)))
+
+-- ---- searches
+
+-- a test and a key of states depend only on the class
+pub record DependOnClass {C : Type 0} (class_of : Found → C) (test : State → Bool) (key : State → Numbers) : Type 0 where
+  pub same_test : (f g : Found) → class_of f ≡ class_of g → test f.state ≡ test g.state
+  pub same_key : (f g : Found) → class_of f ≡ class_of g → key f.state ≡ key g.state
+
+-- a step of the same process as another one, with the same lines, whose next state is of the same class
+pub record IsLike {C : Type 0} (class_of : Found → C) (m n : Move) : Type 0 where
+  pub pid : n.pid ≡ m.pid
+  pub lines : n.stepped.lines ≡ m.stepped.lines
+  pub after : class_of (found_by n) ≡ class_of (found_by m)
+
+module _ (program_of : Bytes → Option Program) where
+  -- the steps of a schedule are steps of a search
+  abbrev pub AreMade : (Found → List Move) → List ℕ → Found → Type 0
+  AreMade moves [] f = Unit {0}
+  AreMade moves (pid ∷ pids) f = Among (move program_of f pid) (moves f) × AreMade moves pids (found_by (move program_of f pid))
+
+  abbrev pub end_of : List ℕ → Found → Found
+  end_of pids f = record { witness = f.witness ++ pids; state = (run program_of pids f.state).final }
+
+module _ (program_of : Bytes → Option Program) (s : State) where
+  -- a search from a valid state. Its steps are of live processes, by ascending number, and the steps of a process from two
+  -- states of one class are alike
+  pub record IsSearch {C : Type 0} (class_of : Found → C) (same : Found → Found → Bool) (moves : Found → List Move) : Type 0 where
+    pub encodes : EncodesPrograms program_of
+    pub whole : IsValid s
+    pub decides : Decides class_of same
+    pub ascending : (f : Found) → IsSound program_of s f → Ascending f.witness 0 (moves f)
+    pub lives : (f : Found) (m : Move) → Among m (moves f) → Among m (moves_of program_of f)
+    pub like : (f g : Found) (m : Move) → IsSound program_of s f → IsSound program_of s g → class_of g ≡ class_of f → Among m (moves f) → (n : Move) × Among n (moves g) × IsLike class_of m n
+    pub ending : DependOnClass class_of has_ended tree_key
+
+  -- states that the steps of a search reach
+  pub data IsReached (moves : Found → List Move) : Found → Type 0 where
+    begins : IsReached moves (record { witness = []; state = s })
+    goes_on : (f : Found) (m : Move) → IsReached moves f → Among m (moves f) → IsReached moves (found_by m)
+
+  pub made-reached : (moves : Found → List Move) (pids : List ℕ) (f : Found) → IsReached moves f → AreMade program_of moves pids f → IsReached moves (end_of program_of pids f)
+  made-reached moves [] f reached made = subst (λ (w : List ℕ). IsReached moves (record { witness = w; state = f.state })) (sym (append-nil f.witness)) reached
+  made-reached moves (pid ∷ pids) f reached made =
+      subst (λ (w : List ℕ). IsReached moves (record { witness = w; state = (run program_of (pid ∷ pids) f.state).final })) (append_assoc f.witness (pid ∷ []) pids)
+      (made-reached moves pids (found_by (move program_of f pid)) (goes_on f (move program_of f pid) reached made.0) made.1)
+
+  -- a state is determined by its witness
+  pub same-found : (f g : Found) → IsWitness program_of s f.witness f.state → IsWitness program_of s g.witness g.state → f.witness ≡ g.witness → f ≡ g
+  same-found f g is_f is_g same =
+      let state : f.state ≡ g.state = sym is_f.leads ∙ ap (λ w. (run program_of w s).final) same ∙ is_g.leads in
+      λ i. record { witness = same i; state = state i }
+
+module _ {program_of : Bytes → Option Program} {s : State} {C : Type 0} {class_of : Found → C} {same : Found → Found → Bool} {moves : Found → List Move} (it : IsSearch program_of s class_of same moves) where
+  -- a step, and its properties
+  pub record IsMade (f : Found) (m : Move) : Type 0 where
+    pub is : m ≡ move program_of f m.pid
+    pub witness : m.witness ≡ f.witness ++ m.pid ∷ []
+    pub lives : is_some (process_at f.state m.pid) ≡ true
+    pub sound : IsSound program_of s (found_by m)
+
+  pub made : (f : Found) (m : Move) → IsSound program_of s f → Among m (moves f) → IsMade f m
+  made f m sound within =
+      let by = made-by program_of s f m sound.whole (it.lives f m within) in
+      record {
+        is = by.2;
+        witness = ap (λ (n : Move). n.witness) by.2;
+        lives = ap is_some by.1;
+        sound = subst (λ (n : Move). IsSound program_of s (found_by n)) (sym by.2) (record {
+          whole = step-keeps_whole program_of it.encodes f.state m.pid sound.whole;
+          witness = witness-more program_of s f.state f.witness m.pid sound.witness (ap is_some by.1);
+        });
+      }
+
+  pub sound-reached : (f : Found) → IsReached program_of s moves f → IsSound program_of s f
+  sound-reached f begins = record { whole = it.whole; witness = record { steps = tt; leads = refl } }
+  sound-reached f (goes_on g m reached within) = (made g m (sound-reached g reached) within).sound
 
   module _ (limit : ℕ) (room : 1 ≤ limit) where
     abbrev pub found : List Found
-    found = visited class_of program_of limit s
+    found = visited same moves limit s
 
     abbrev pub made_moves : List Move
-    made_moves = flat_map (moves_of program_of) found
+    made_moves = flat_map moves found
 
     abbrev pub reported : List Move
     reported = reported_moves made_moves
 
-    start : Found
-    start = record { witness = []; state = s }
-
-    steps-sound : StepsAreSound class_of program_of limit (IsSound program_of s)
-    steps-sound f it =
-        (moves-ascending program_of f it.whole.processes.ascending, each-from_among (λ m. IsSound program_of s (found_by m)) (moves_of program_of f) (λ m. sound-move f m it))
-
-    pub finished : Finished class_of program_of limit (IsSound program_of s) (record { witness = []; state = s } ∷ []) found
+    pub finished : Finished class_of same it.decides moves limit (IsReached program_of s moves) (record { witness = []; state = s } ∷ []) found
     unfolding visited
     finished =
-        searched class_of program_of limit (IsSound program_of s) steps-sound limit 0 (record { witness = []; state = s } ∷ []) [] (record { witness = []; state = s } ∷ [])
+        searched class_of same it.decides moves limit (IsReached program_of s moves)
+        (λ f reached. (it.ascending f (sound-reached f reached), each-from_among (λ m. IsReached program_of s moves (found_by m)) (moves f) (λ m. goes_on f m reached)))
+        limit 0 (record { witness = []; state = s } ∷ []) [] (record { witness = []; state = s } ∷ [])
         (record {
           parts = refl;
           at = refl;
-          sound = (record { whole = whole; witness = record { steps = tt; leads = refl } }, tt);
+          sound = (begins, tt);
           rising = (tt, tt);
           different = (tt, tt);
           count = room;
@@ -80,128 +146,116 @@ module _ (class_of : State → State) (program_of : Bytes → Option Program) (e
           leads = tt;
         }) (omega arith)
 
+    pub reached-at : (f : Found) → Among f found → IsReached program_of s moves f
+    reached-at f within = each-among (IsReached program_of s moves) found finished.sound f within
+
     pub sound-at : (f : Found) → Among f found → IsSound program_of s f
-    sound-at f within = each-among (IsSound program_of s) found finished.sound f within
+    sound-at f within = sound-reached f (reached-at f within)
 
     start-in : Among (record { witness = []; state = s }) found
     start-in = subst (Among (record { witness = []; state = s })) (sym finished.more.1) (inl refl)
 
     all-moves-earlier : EachToLater Earlier made_moves
-    all-moves-earlier =
-        moves-earlier program_of found (each-from_among (λ f. Ascending f.witness 0 (moves_of program_of f)) found (λ f h. moves-ascending program_of f ((sound-at f h).whole.processes.ascending))) finished.rising
-
-    -- the step of a process that lives in a visited state is made
-    pub own-move : (g : Found) (pid : ℕ) → is_some (process_at g.state pid) ≡ true → Among (move program_of g pid) (moves_of program_of g)
-    own-move g pid lives = by (process_at g.state pid) refl lives
-      where
-        by : (o : Option Process) → process_at g.state pid ≡ o → is_some o ≡ true → Among (move program_of g pid) (moves_of program_of g)
-        by None none some = cc
-        by (Some p) is some = among-map (λ (r : ℕ × Process). move program_of g r.0) (pid, p) (live_processes g.state.processes) (live-listed g.state pid p is)
+    all-moves-earlier = moves-earlier moves found (each-from_among (λ f. Ascending f.witness 0 (moves f)) found (λ f h. it.ascending f (sound-at f h))) finished.rising
 
     -- ---- reported steps can happen
 
-    -- a step, and the visited state in which it is made
-    record IsMade (m : Move) : Type 0 where
-      pub from : Found
-      pub within : Among from found
-      pub is : m ≡ move program_of from m.pid
-      pub lives : is_some (process_at from.state m.pid) ≡ true
-
-    made-in : (m : Move) → Among m made_moves → IsMade m
-    made-in m h =
-        let from = flat-among (moves_of program_of) m found h in
-        let made = made-by program_of s from.0 m (sound-at from.0 from.1).whole from.2 in
-        record { from = from.0; within = from.1; is = made.2; lives = ap is_some made.1 }
-
-    reported-in : (m : Move) → Among m reported → Among m made_moves
-    reported-in m h = new-came move_text ([] ∷ []) made_moves m h
+    made-in : (m : Move) → Among m reported → (f : Found) × Among f found × Among m (moves f)
+    made-in m h = flat-among moves m found (new-came move_text ([] ∷ []) made_moves m h)
 
     pub can-happen : (m : Move) → Among m reported → CanHappen program_of s m
     can-happen m h =
-        let made = made-in m (reported-in m h) in
-        let sound = sound-at made.from made.within in
-        let witness : m.witness ≡ made.from.witness ++ m.pid ∷ [] = ap (λ (n : Move). n.witness) made.is in
+        let from = made-in m h in
+        let sound = sound-at from.0 from.1 in
+        let own = made from.0 m sound from.2 in
         record {
-          before = made.from.witness;
-          witness = witness;
-          steps = subst (λ (w : List ℕ). AreSteps program_of w s) (sym witness) (witness-more program_of s made.from.state made.from.witness m.pid sound.witness made.lives).steps;
-          last = ap (λ (n : Move). n.stepped) made.is ∙ ap (λ u. step program_of u m.pid) (sym sound.witness.leads);
+          before = from.0.witness;
+          witness = own.witness;
+          steps = own.sound.witness.steps;
+          last = ap (λ (n : Move). n.stepped) own.is ∙ ap (λ u. step program_of u m.pid) (sym sound.witness.leads);
           text = new-fresh move_text ([] ∷ []) made_moves m h [] (inl refl);
         }
 
     -- ---- witnesses are the least
 
     -- a state of the class is visited with no later witness, or all visited states have no later witness
-    ReachedBy : List ℕ → State → Type 0
-    ReachedBy w t =
-        ((g : Found) × Among g found × (class_of g.state ≡ class_of t) × IsNoLater g.witness w) ⊎ AllByRecursion (λ g. IsNoLater g.witness w) found
+    HasNoLater : Found → Type 0
+    HasNoLater f =
+        ((g : Found) × Among g found × (class_of g ≡ class_of f) × IsNoLater g.witness f.witness) ⊎ AllByRecursion (λ g. IsNoLater g.witness f.witness) found
 
-    all-no_later : (w : List ℕ) (pid : ℕ) → AllByRecursion (λ (g : Found). IsNoLater g.witness w) found → AllByRecursion (λ (g : Found). IsNoLater g.witness (w ++ pid ∷ [])) found
-    all-no_later w pid all = each-weaker (λ (g : Found). IsNoLater g.witness w) (λ (g : Found). IsNoLater g.witness (w ++ pid ∷ [])) (λ g h. no_later-then g.witness w (w ++ pid ∷ []) h (inr (before-longer w pid))) found all
+    -- a step from a state of the same class with no later witness
+    pub record HasStep (g : Found) (m : Move) : Type 0 where
+      pub step : Move
+      pub within : Among step (moves g)
+      pub like : IsLike class_of m step
+      pub later : IsNoLater step.witness m.witness
 
-    reached-next : (w : List ℕ) (t : State) (pid : ℕ) → IsValid t → is_some (process_at t pid) ≡ true → ReachedBy w t → ReachedBy (w ++ pid ∷ []) (step program_of t pid).after
-    unfolding ReachedBy
-    reached-next w t pid whole_t lives (inr all) = inr (all-no_later w pid all)
-    reached-next w t pid whole_t lives (inl here) =
-        on (each-among (LeadsOn class_of program_of limit found) (moves_of program_of here.0) (each-among (λ f. AllByRecursion (LeadsOn class_of program_of limit found) (moves_of program_of f)) found finished.leads here.0 here.1)
-        (move program_of here.0 pid) (own-move here.0 pid (sym alike.lives ∙ lives)))
+    has-step : (f g : Found) (m : Move) → IsSound program_of s f → IsSound program_of s g → class_of g ≡ class_of f → IsNoLater g.witness f.witness → Among m (moves f) → HasStep g m
+    has-step f g m sound_f sound_g same later within =
+        let own = it.like f g m sound_f sound_g same within in
+        let witness : own.0.witness ≡ g.witness ++ m.pid ∷ [] = (made g own.0 sound_g own.1).witness ∙ ap (λ p. g.witness ++ p ∷ []) own.2.pid in
+        record {
+          step = own.0;
+          within = own.1;
+          like = own.2;
+          later = subst (λ (w : List ℕ). IsNoLater w m.witness) (sym witness)
+              (subst (IsNoLater (g.witness ++ m.pid ∷ [])) (sym (made f m sound_f within).witness) (no_later-same_step g.witness f.witness m.pid later));
+        }
+
+    pub leads-at : (g : Found) (m : Move) → Among g found → Among m (moves g) → LeadsOn class_of limit found m
+    leads-at g m in_g within = each-among (LeadsOn class_of limit found) (moves g) (each-among (λ f. AllByRecursion (LeadsOn class_of limit found) (moves f)) found finished.leads g in_g) m within
+
+    all-no_later : (w v : List ℕ) → IsNoLater w v → AllByRecursion (λ (g : Found). IsNoLater g.witness w) found → AllByRecursion (λ (g : Found). IsNoLater g.witness v) found
+    all-no_later w v later all = each-weaker (λ (g : Found). IsNoLater g.witness w) (λ (g : Found). IsNoLater g.witness v) (λ g h. no_later-then g.witness w v h later) found all
+
+    no_later-next : (f : Found) (m : Move) → IsSound program_of s f → Among m (moves f) → HasNoLater f → HasNoLater (found_by m)
+    unfolding HasNoLater
+    no_later-next f m sound within (inr all) =
+        inr (all-no_later f.witness m.witness (inr (subst (IsBefore f.witness) (sym (made f m sound within).witness) (before-longer f.witness m.pid))) all)
+    no_later-next f m sound within (inl g) = on (leads-at g.0 own.step g.1 own.within)
       where
-        alike : AreStepsAlike class_of program_of here.0.state t pid
-        alike = classes.steps here.0.state t pid (sound-at here.0 here.1).whole whole_t here.2
+        own : HasStep g.0 m
+        own = has-step f g.0 m sound (sound-at g.0 g.1) g.2 g.3 within
 
-        later : IsNoLater (here.0.witness ++ pid ∷ []) (w ++ pid ∷ [])
-        later = no_later-same_step here.0.witness w pid here.3
+        on : LeadsOn class_of limit found own.step
+            → ((h : Found) × Among h found × (class_of h ≡ class_of (found_by m)) × IsNoLater h.witness m.witness) ⊎ AllByRecursion (λ h. IsNoLater h.witness m.witness) found
+        on (inl next) = inl (next.0, next.1, next.2 ∙ own.like.after, no_later-then next.0.witness own.step.witness m.witness next.3 own.later)
+        on (inr full) = inr (all-no_later own.step.witness m.witness own.later full.1)
 
-        on : LeadsOn class_of program_of limit found (move program_of here.0 pid)
-            → ((g : Found) × Among g found × (class_of g.state ≡ class_of (step program_of t pid).after) × IsNoLater g.witness (w ++ pid ∷ [])) ⊎ AllByRecursion (λ g. IsNoLater g.witness (w ++ pid ∷ [])) found
-        on (inl next) = inl (next.0, next.1, next.2 ∙ alike.after, no_later-then next.0.witness (here.0.witness ++ pid ∷ []) (w ++ pid ∷ []) next.3 later)
-        on (inr full) =
-            inr (each-weaker (λ (g : Found). IsNoLater g.witness (here.0.witness ++ pid ∷ [])) (λ (g : Found). IsNoLater g.witness (w ++ pid ∷ []))
-            (λ g h. no_later-then g.witness (here.0.witness ++ pid ∷ []) (w ++ pid ∷ []) h later) found full.1)
+    no_later-reached : (f : Found) → IsReached program_of s moves f → HasNoLater f
+    unfolding HasNoLater
+    no_later-reached f begins = inl (record { witness = []; state = s }, start-in, refl, inl refl)
+    no_later-reached f (goes_on g m reached within) = no_later-next g m (sound-reached g reached) within (no_later-reached g reached)
 
-    reached-by : (pids w : List ℕ) (t : State) → IsValid t → AreSteps program_of pids t → ReachedBy w t → ReachedBy (w ++ pids) (run program_of pids t).final
-    reached-by [] w t whole_t steps by = subst (λ (v : List ℕ). ReachedBy v t) (sym (append-nil w)) by
-    reached-by (pid ∷ pids) w t whole_t steps by =
-        subst (λ (v : List ℕ). ReachedBy v (run program_of pids (step program_of t pid).after).final) (append_assoc w (pid ∷ []) pids)
-        (reached-by pids (w ++ pid ∷ []) (step program_of t pid).after (step-keeps_whole program_of encodes t pid whole_t) steps.1 (reached-next w t pid whole_t steps.0 by))
+    no_later-first : (m n : Move) → (m ≡ n) ⊎ Earlier m n → IsNoLater m.witness n.witness
+    no_later-first m n (inl e) = inl (ap (λ (k : Move). k.witness) e)
+    no_later-first m n (inr e) = inr e
 
-    started : ReachedBy [] s
-    unfolding ReachedBy
-    started = inl (record { witness = []; state = s }, start-in, refl, inl refl)
-
-    final-whole : (pids : List ℕ) → IsValid (run program_of pids s).final
-    final-whole pids = run-keeps_whole program_of encodes pids s whole
-
-    -- a reported step has no later witness than any step with its text from a state whose class is visited
-    reported-first : (m : Move) → Among m reported → (g : Found) → Among g found → (pids : List ℕ) (pid : ℕ) → class_of g.state ≡ class_of (run program_of pids s).final → IsNoLater g.witness pids
-        → is_some (process_at (run program_of pids s).final pid) ≡ true → step_text program_of (run program_of pids s).final pid ≡ move_text m → IsNoLater m.witness (pids ++ pid ∷ [])
-    reported-first m h g within pids pid same later lives text =
-        let alike = classes.steps g.state (run program_of pids s).final pid (sound-at g within).whole (final-whole pids) same in
-        let n = move program_of g pid in
-        let made = among-flat (moves_of program_of) g n found within (own-move g pid (sym alike.lives ∙ lives)) in
-        no_later-then m.witness (g.witness ++ pid ∷ []) (pids ++ pid ∷ [])
-        (first (new-first move_text Earlier ([] ∷ []) made_moves all-moves-earlier m h n made (ap trace_bytes (sym alike.lines) ∙ text)))
-        (no_later-same_step g.witness pids pid later)
+    -- no step with the text of a reported step has an earlier witness
+    pub least : (m : Move) → Among m reported → (f : Found) (n : Move) → IsReached program_of s moves f → Among n (moves f) → move_text n ≡ move_text m → IsNoLater m.witness n.witness
+    unfolding HasNoLater
+    least m h f n reached within text = by (no_later-reached f reached)
       where
-        first : (m ≡ move program_of g pid) ⊎ Earlier m (move program_of g pid) → IsNoLater m.witness (g.witness ++ pid ∷ [])
-        first (inl e) = inl (ap (λ (n : Move). n.witness) e)
-        first (inr e) = inr e
+        sound : IsSound program_of s f
+        sound = sound-reached f reached
 
-    pub least : (m : Move) → Among m reported → HasLeastWitness program_of s m
-    unfolding ReachedBy
-    least m h pids pid steps text =
-        let parts = steps-split program_of pids pid s steps in
-        by parts.1 (reached-by pids [] s whole parts.0 started)
-      where
-        from : is_some (process_at (run program_of pids s).final pid) ≡ true → (made : IsMade m) → IsNoLater made.from.witness pids → IsNoLater m.witness (pids ++ pid ∷ [])
-        from lives made (inl e) =
-            reported-first m h made.from made.within pids pid (ap class_of (sym (sound-at made.from made.within).witness.leads ∙ ap (λ w. (run program_of w s).final) e)) (inl e) lives text
-        from lives made (inr before) =
-            inr (subst (λ (v : List ℕ). IsBefore v (pids ++ pid ∷ [])) (sym (ap (λ (n : Move). n.witness) made.is)) (before-one_more m.pid pid made.from.witness pids before))
+        at : (g : Found) → Among g found → class_of g ≡ class_of f → IsNoLater g.witness f.witness → IsNoLater m.witness n.witness
+        at g in_g alike later =
+            let own = has-step f g n sound (sound-at g in_g) alike later within in
+            no_later-then m.witness own.step.witness n.witness
+            (no_later-first m own.step
+            (new-first move_text Earlier ([] ∷ []) made_moves all-moves-earlier m h own.step (among-flat moves g own.step found in_g own.within) (ap trace_bytes own.like.lines ∙ text)))
+            own.later
 
-        by : is_some (process_at (run program_of pids s).final pid) ≡ true → ReachedBy pids (run program_of pids s).final → IsNoLater m.witness (pids ++ pid ∷ [])
-        by lives (inl g) = reported-first m h g.0 g.1 pids pid g.2 g.3 lives text
-        by lives (inr all) = let made = made-in m (reported-in m h) in from lives made (each-among (λ (g : Found). IsNoLater g.witness pids) found all made.from made.within)
+        from : (g : Found) → Among g found → Among m (moves g) → IsNoLater g.witness f.witness → IsNoLater m.witness n.witness
+        from g in_g in_m (inl e) = at g in_g (ap class_of (same-found program_of s g f (sound-at g in_g).witness sound.witness e)) (inl e)
+        from g in_g in_m (inr before) =
+            inr (subst (λ (v : List ℕ). IsBefore v n.witness) (sym (made g m (sound-at g in_g) in_m).witness)
+            (subst (IsBefore (g.witness ++ m.pid ∷ [])) (sym (made f n sound within).witness) (before-one_more m.pid n.pid g.witness f.witness before)))
+
+        by : HasNoLater f → IsNoLater m.witness n.witness
+        by (inl g) = at g.0 g.1 g.2 g.3
+        by (inr all) = let g = made-in m h in from g.0 g.1 g.2 (each-among (λ (g : Found). IsNoLater g.witness f.witness) found all g.0 g.1)
 
     pub reported-once : EachToLater (λ m n. move_text m ≢ move_text n) reported
     reported-once = new-differ move_text ([] ∷ []) made_moves
@@ -212,21 +266,21 @@ module _ (class_of : State → State) (program_of : Bytes → Option Program) (e
     -- ---- visited states
 
     -- two visited states of one class are the same
-    one-of-class : (fs : List Found) → EachToLater (λ f g. class_of f.state ≢ class_of g.state) fs → (f g : Found) → Among f fs → Among g fs → class_of f.state ≡ class_of g.state → f ≡ g
-    one-of-class [] differ f g in_f in_g same = absurd in_f
-    one-of-class (h ∷ fs) differ f g (inl e) (inl k) same = e ∙ sym k
-    one-of-class (h ∷ fs) differ f g (inl e) (inr k) same = absurd (each-among (λ x. class_of h.state ≢ class_of x.state) fs differ.0 g k (ap (λ (x : Found). class_of x.state) (sym e) ∙ same))
-    one-of-class (h ∷ fs) differ f g (inr k) (inl e) same = absurd (each-among (λ x. class_of h.state ≢ class_of x.state) fs differ.0 f k (ap (λ (x : Found). class_of x.state) (sym e) ∙ sym same))
-    one-of-class (h ∷ fs) differ f g (inr j) (inr k) same = one-of-class fs differ.1 f g j k same
+    one-of-class : (fs : List Found) → EachToLater (λ f g. class_of f ≢ class_of g) fs → (f g : Found) → Among f fs → Among g fs → class_of f ≡ class_of g → f ≡ g
+    one-of-class [] differ f g in_f in_g alike = absurd in_f
+    one-of-class (h ∷ fs) differ f g (inl e) (inl k) alike = e ∙ sym k
+    one-of-class (h ∷ fs) differ f g (inl e) (inr k) alike = absurd (each-among (λ x. class_of h ≢ class_of x) fs differ.0 g k (ap class_of (sym e) ∙ alike))
+    one-of-class (h ∷ fs) differ f g (inr k) (inl e) alike = absurd (each-among (λ x. class_of h ≢ class_of x) fs differ.0 f k (ap class_of (sym e) ∙ sym alike))
+    one-of-class (h ∷ fs) differ f g (inr j) (inr k) alike = one-of-class fs differ.1 f g j k alike
 
-    -- a visited state has the least witness of all schedules that end in its class
-    pub visited-least : (f : Found) → Among f found → (pids : List ℕ) → AreSteps program_of pids s → class_of (run program_of pids s).final ≡ class_of f.state → IsNoLater f.witness pids
-    unfolding ReachedBy
-    visited-least f h pids steps same = by (reached-by pids [] s whole steps started)
+    -- a visited state has the least witness of all that the steps of the search reach in its class
+    pub visited-least : (f : Found) → Among f found → (g : Found) → IsReached program_of s moves g → class_of g ≡ class_of f → IsNoLater f.witness g.witness
+    unfolding HasNoLater
+    visited-least f h g reached alike = by (no_later-reached g reached)
       where
-        by : ReachedBy pids (run program_of pids s).final → IsNoLater f.witness pids
-        by (inl g) = subst (λ (x : Found). IsNoLater x.witness pids) (sym (one-of-class found finished.different f g.0 h g.1 (sym (g.2 ∙ same)))) g.3
-        by (inr all) = each-among (λ (g : Found). IsNoLater g.witness pids) found all f h
+        by : HasNoLater g → IsNoLater f.witness g.witness
+        by (inl there) = subst (λ (x : Found). IsNoLater x.witness g.witness) (sym (one-of-class found finished.different f there.0 h there.1 (sym (there.2 ∙ alike)))) there.3
+        by (inr all) = each-among (λ (x : Found). IsNoLater x.witness g.witness) found all f h
 
     -- ---- the first visited states that pass a test, one for each key
 
@@ -249,30 +303,33 @@ module _ (class_of : State → State) (program_of : Bytes → Option Program) (e
       pub firsts-order : EachToLater (λ f g. IsBefore f.witness g.witness) firsts
       firsts-order = new-order key_of (λ (f g : Found). IsBefore f.witness g.witness) [] passed passed-order
 
-      passed-like : (g : Found) → Among g found → (t : State) → class_of g.state ≡ class_of t → test t ≡ true → Among g passed × (key_of g ≡ key t)
-      passed-like g within t same passes = (among-filter (λ (f : Found). test f.state) g found within (depend.same_test g.state t same ∙ passes), depend.same_key g.state t same)
+      passed-like : (g : Found) → Among g found → (f : Found) → class_of g ≡ class_of f → test f.state ≡ true → Among g passed × (key_of g ≡ key_of f)
+      passed-like g within f alike passes = (among-filter (λ (f : Found). test f.state) g found within (depend.same_test g f alike ∙ passes), depend.same_key g f alike)
 
-      -- each has the least witness of all schedules that end in a state that passes and has its key
-      pub firsts-least : (f : Found) → Among f firsts → (pids : List ℕ) → AreSteps program_of pids s → test (run program_of pids s).final ≡ true
-          → key (run program_of pids s).final ≡ key_of f → IsNoLater f.witness pids
-      unfolding ReachedBy
-      firsts-least f h pids steps passes same = by (reached-by pids [] s whole steps started)
+      -- each has the least witness of all reached states that pass and have its key
+      pub firsts-least : (f : Found) → Among f firsts → (g : Found) → IsReached program_of s moves g → test g.state ≡ true → key g.state ≡ key_of f → IsNoLater f.witness g.witness
+      unfolding HasNoLater
+      firsts-least f h g reached passes keys = by (no_later-reached g reached)
         where
-          first : (g : Found) → (f ≡ g) ⊎ IsBefore f.witness g.witness → IsNoLater f.witness g.witness
-          first g (inl e) = inl (ap (λ (x : Found). x.witness) e)
-          first g (inr e) = inr e
+          first : (x : Found) → (f ≡ x) ⊎ IsBefore f.witness x.witness → IsNoLater f.witness x.witness
+          first x (inl e) = inl (ap (λ (y : Found). y.witness) e)
+          first x (inr e) = inr e
 
-          by : ReachedBy pids (run program_of pids s).final → IsNoLater f.witness pids
-          by (inl g) =
-              let like = passed-like g.0 g.1 (run program_of pids s).final g.2 passes in
-              no_later-then f.witness g.0.witness pids
-              (first g.0 (new-first key_of (λ (f g : Found). IsBefore f.witness g.witness) [] passed passed-order f h g.0 like.0 (like.1 ∙ same))) g.3
-          by (inr all) = each-among (λ (g : Found). IsNoLater g.witness pids) found all f (first-in f h).0
+          by : HasNoLater g → IsNoLater f.witness g.witness
+          by (inl x) =
+              let like = passed-like x.0 x.1 g x.2 passes in
+              no_later-then f.witness x.0.witness g.witness
+              (first x.0 (new-first key_of (λ (f g : Found). IsBefore f.witness g.witness) [] passed passed-order f h x.0 like.0 (like.1 ∙ keys))) x.3
+          by (inr all) = each-among (λ (x : Found). IsNoLater x.witness g.witness) found all f (first-in f h).0
+
+    -- a text of a reported step is found among them
+    pub text-found : (text : Bytes) (m : Move) → Among m reported → move_text m ≡ text → list_any (λ n. bytes_eq (move_text n) text) reported ≡ true
+    text-found text m h same = any-among (λ (n : Move). bytes_eq (move_text n) text) m reported h (ap (λ k. bytes_eq k text) same ∙ bytes_eq-itself text)
 
     -- ---- endings
 
     -- the counted trees are those of such states
-    pub endings-are : endings found ≡ map (λ f. named_tree f.state.tree) (new_ones (λ f. tree_numbers (named_tree f.state.tree)) [] (filter (λ f. has_ended f.state) found))
+    pub endings-are : endings found ≡ map (λ f. named_tree f.state.tree) (firsts has_ended tree_key it.ending)
     endings-are = new-map (λ (f : Found). named_tree f.state.tree) tree_numbers [] (filter (λ f. has_ended f.state) found)
 
     pub ends-in : (t : Tree) → Among t (endings found) → EndsIn program_of s t
@@ -289,66 +346,46 @@ module _ (class_of : State → State) (program_of : Bytes → Option Program) (e
 
     -- ---- if the search is complete
 
-    module _ (complete : list_all (λ m. is_class_found class_of m.stepped.after found) made_moves ≡ true) where
-      abbrev HasClass : State → Type 0
-      HasClass t = (g : Found) × Among g found × (class_of g.state ≡ class_of t)
-
-      -- a step leads from the class of a visited state to the class of a visited state
-      closed : (t : State) (pid : ℕ) → IsValid t → HasClass t → HasClass (step program_of t pid).after
-      closed t pid whole_t there = by (process_at t pid) refl
-        where
-          alike : AreStepsAlike class_of program_of there.0.state t pid
-          alike = classes.steps there.0.state t pid (sound-at there.0 there.1).whole whole_t there.2
-
-          by : (o : Option Process) → process_at t pid ≡ o → HasClass (step program_of t pid).after
-          by None none = subst HasClass (sym (still program_of t pid none)) there
-          by (Some p) lives =
-              let own = own-move there.0 pid (sym alike.lives ∙ ap is_some lives) in
-              let made = among-flat (moves_of program_of) there.0 (move program_of there.0 pid) found there.1 own in
-              let next = class-there class_of (step program_of there.0.state pid).after found (all-among (λ (m : Move). is_class_found class_of m.stepped.after found) made_moves complete (move program_of there.0 pid) made) in
-              (next.0, next.1, next.2 ∙ alike.after)
-
-      from-found : (pids : List ℕ) (t : State) → IsValid t → HasClass t → HasClass (run program_of pids t).final
-      from-found [] t whole_t there = there
-      from-found (pid ∷ pids) t whole_t there = from-found pids (step program_of t pid).after (step-keeps_whole program_of encodes t pid whole_t) (closed t pid whole_t there)
-
-      -- every schedule ends in the class of a visited state
-      pub all-found : (pids : List ℕ) → (g : Found) × Among g found × (class_of g.state ≡ class_of (run program_of pids s).final)
-      all-found pids = from-found pids s whole (record { witness = []; state = s }, start-in, refl)
+    module _ (complete : list_all (λ m. is_known same m found) made_moves ≡ true) where
+      -- all reached states are in the classes of visited states
+      pub all-found : (f : Found) → IsReached program_of s moves f → (g : Found) × Among g found × (class_of g ≡ class_of f)
+      all-found f begins = (record { witness = []; state = s }, start-in, refl)
+      all-found f (goes_on g m reached within) =
+          let there = all-found g reached in
+          let own = it.like g there.0 m (sound-reached g reached) (sound-at there.0 there.1) there.2 within in
+          let next = class-there class_of it.decides own.0 found (all-among (λ (n : Move). is_known same n found) made_moves complete own.0 (among-flat moves there.0 own.0 found there.1 own.1)) in
+          (next.0, next.1, next.2 ∙ own.2.after)
 
       -- the text of each step is reported
-      pub text-reported : (pids : List ℕ) (pid : ℕ) → is_some (process_at (run program_of pids s).final pid) ≡ true → step_text program_of (run program_of pids s).final pid ≢ []
-          → (m : Move) × Among m reported × (move_text m ≡ step_text program_of (run program_of pids s).final pid)
-      text-reported pids pid lives text =
-          let there = all-found pids in
-          let alike = classes.steps there.0.state (run program_of pids s).final pid (sound-at there.0 there.1).whole (final-whole pids) there.2 in
-          let own = own-move there.0 pid (sym alike.lives ∙ lives) in
-          let made = among-flat (moves_of program_of) there.0 (move program_of there.0 pid) found there.1 own in
-          like (move program_of there.0 pid) (ap trace_bytes (sym alike.lines)) (new-like move_text ([] ∷ []) made_moves (move program_of there.0 pid) made)
+      pub text-reported : (f : Found) (n : Move) → IsReached program_of s moves f → Among n (moves f) → move_text n ≢ [] → (m : Move) × Among m reported × (move_text m ≡ move_text n)
+      text-reported f n reached within text =
+          let there = all-found f reached in
+          let own = it.like f there.0 n (sound-reached f reached) (sound-at there.0 there.1) there.2 within in
+          like own.0 (ap trace_bytes own.2.lines) (new-like move_text ([] ∷ []) made_moves own.0 (among-flat moves there.0 own.0 found there.1 own.1))
         where
-          like : (m : Move) → move_text m ≡ step_text program_of (run program_of pids s).final pid
-              → Among (move_text m) ([] ∷ []) ⊎ ((n : Move) × Among n reported × (move_text n ≡ move_text m))
-              → (n : Move) × Among n reported × (move_text n ≡ step_text program_of (run program_of pids s).final pid)
-          like m same (inl (inl none)) = absurd (text (sym same ∙ none))
-          like m same (inl (inr none)) = absurd none
-          like m same (inr n) = (n.0, n.1, n.2 ∙ same)
+          like : (m : Move) → move_text m ≡ move_text n → Among (move_text m) ([] ∷ []) ⊎ ((k : Move) × Among k reported × (move_text k ≡ move_text m))
+              → (k : Move) × Among k reported × (move_text k ≡ move_text n)
+          like m alike (inl (inl none)) = absurd (text (sym alike ∙ none))
+          like m alike (inl (inr none)) = absurd none
+          like m alike (inr k) = (k.0, k.1, k.2 ∙ alike)
 
-      pub all-reported : (pids : List ℕ) (pid : ℕ) → is_some (process_at (run program_of pids s).final pid) ≡ true → step_text program_of (run program_of pids s).final pid ≢ []
-          → list_any (λ m. bytes_eq (move_text m) (step_text program_of (run program_of pids s).final pid)) reported ≡ true
-      all-reported pids pid lives text =
-          let m = text-reported pids pid lives text in
-          any-among (λ (n : Move). bytes_eq (move_text n) (step_text program_of (run program_of pids s).final pid)) m.0 reported m.1
-          (ap (λ k. bytes_eq k (step_text program_of (run program_of pids s).final pid)) m.2 ∙ bytes_eq-itself (step_text program_of (run program_of pids s).final pid))
-
-      -- each key of a final state that passes a test is that of a first visited state
-      pub first-found : (test : State → Bool) (key : State → Numbers) (depend : DependOnClass class_of test key) (pids : List ℕ) → test (run program_of pids s).final ≡ true
-          → (f : Found) × Among f (firsts test key depend) × (key f.state ≡ key (run program_of pids s).final)
-      first-found test key depend pids passes =
-          let there = all-found pids in
-          let like = passed-like test key depend there.0 there.1 (run program_of pids s).final there.2 passes in
+      -- each key of a reached state that passes a test is that of a first visited state
+      pub first-found : (test : State → Bool) (key : State → Numbers) (depend : DependOnClass class_of test key) (f : Found) → IsReached program_of s moves f → test f.state ≡ true
+          → (g : Found) × Among g (firsts test key depend) × (key g.state ≡ key f.state)
+      first-found test key depend f reached passes =
+          let there = all-found f reached in
+          let like = passed-like test key depend there.0 there.1 f there.2 passes in
           by there.0 like.1 (new-like (λ (f : Found). key f.state) [] (passed test key depend) there.0 like.0)
         where
-          by : (g : Found) → key g.state ≡ key (run program_of pids s).final → Among (key g.state) [] ⊎ ((f : Found) × Among f (firsts test key depend) × (key f.state ≡ key g.state))
-              → (f : Found) × Among f (firsts test key depend) × (key f.state ≡ key (run program_of pids s).final)
-          by g same (inl none) = absurd none
-          by g same (inr f) = (f.0, f.1, f.2 ∙ same)
+          by : (x : Found) → key x.state ≡ key f.state → Among (key x.state) [] ⊎ ((g : Found) × Among g (firsts test key depend) × (key g.state ≡ key x.state))
+              → (g : Found) × Among g (firsts test key depend) × (key g.state ≡ key f.state)
+          by x alike (inl none) = absurd none
+          by x alike (inr g) = (g.0, g.1, g.2 ∙ alike)
+
+      -- each tree that a reached state without live processes leaves is counted
+      pub ending-found : (f : Found) → IsReached program_of s moves f → has_ended f.state ≡ true → Among (named_tree f.state.tree) (endings found)
+      ending-found f reached ended =
+          let tree : Found → Tree = λ g. named_tree g.state.tree in
+          let first = first-found has_ended tree_key it.ending f reached ended in
+          let within = among-map tree first.0 (firsts has_ended tree_key it.ending) first.1 in
+          subst (Among (tree f)) (sym endings-are) (subst (λ t. Among t (map tree (firsts has_ended tree_key it.ending))) (same-tree_numbers (tree first.0) (tree f) first.2) within)

@@ -1,9 +1,11 @@
 -- Canonical forms of two states that are equal up to a renumbering of open files, and a search that visits fewer states
 -- because it identifies such states. They show that the laws are not vacuous.
-use Rattle.std.specs.Prelude.{◌≡◌, ◌≢◌, false, IsTrue, [], ◌∷◌, length, codes}
+use Rattle.std.specs.Prelude.{◌≡◌, ◌≢◌, false, IsTrue, [], ◌∷◌, bytes_eq, length, codes}
 use Rattle.pv_model.specs.declared.instruction.Instruction.TheVariants.{Fork, Open}
 use Rattle.pv_model.specs.declared.open_flags.Mode.TheVariants.{Read as Reading}
 use Rattle.pv_model.specs.Answers.Explore.{states_found, is_complete}
+use Rattle.pv_model.specs.Answers.Lines.{answer_bytes}
+use Rattle.pv_model.specs.Answers.ProcessRecord.{state_lines}
 use Rattle.pv_model.specs.State.{State}
 use Rattle.pv_laws_steps.specs.CommuteExamples.{no_programs, state_after, flags}
 use Rattle.pv_laws_classes.specs.Canonical.{references, canonical}
@@ -17,6 +19,10 @@ pub record CanonicalExamples : Type 0 where
   pub of_child : references child_first ≡ 0 ∷ 2 ∷ 1 ∷ []
   pub same : canonical child_first ≡ canonical parent_first
   pub apart : canonical one_file ≢ canonical two_files
+
+-- but the text of `state` differs, since it has the numbers of open files; so `graph` does not identify such states
+pub record StateTextExamples : Type 0 where
+  pub differ : bytes_eq (answer_bytes (state_lines parent_first)) (answer_bytes (state_lines child_first)) ≡ false
 
 -- a process forks, and both processes open the root and exit
 abbrev pub both_open : State

@@ -7,3 +7,5 @@ pub mod Together
 pub mod TogetherExamples
 pub mod Liveness
 pub mod LivenessExamples
+pub mod Reduced
+pub mod ReducedExamples

@@ -1,7 +1,7 @@
 //! Worked runs, by computation: a renumbering of open files, two open files that become one, and dead and live
 //! registers and bytes.
 
-ghost use Rattle.pv_laws_classes.specs.ClassExamples.{CanonicalExamples, SearchExamples};
+ghost use Rattle.pv_laws_classes.specs.ClassExamples.{CanonicalExamples, SearchExamples, StateTextExamples};
 ghost use Rattle.pv_laws_classes.specs.Examples.{SwapExamples, MergeExamples};
 ghost use Rattle.pv_laws_classes.specs.LivenessExamples.{DeadExamples, LiveExamples};
 
@@ -20,6 +20,11 @@ pub fn merges_happen()
 /// Two states that differ by a swap of two open files have one canonical form.
 pub fn canonical_forms_happen()
     ensures { CanonicalExamples }
+{}
+
+/// But their texts by `state` differ, since these have the numbers of open files.
+pub fn state_texts_differ()
+    ensures { StateTextExamples }
 {}
 
 /// A search that identifies states that are equal up to a renumbering of open files visits fewer states.

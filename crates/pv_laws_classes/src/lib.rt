@@ -10,14 +10,19 @@
 //! - `search`: the search that visits one state of each class, and what it has in common with the search of all states.
 //! - `liveness`: the law for dead registers and bytes, for steps and for runs, and tests that compute which are live.
 //! - `together`: the normal form of a schedule, and combined steps.
+//! - `reduced`: the search that identifies states in both ways and makes the steps of a process on registers directly before
+//!   its next step, and what it has in common with the search of all states.
 //! - `examples`: worked runs and searches, and counterexamples: a map of numbers that is not injective, and live registers
 //!   and bytes.
 //! - `together_examples`: worked runs, and a read, which cannot be combined with the next step.
+//! - `reduced_examples`: worked searches.
 #![tactic(auto)]
 
 pub mod canonical;
 pub mod examples;
 pub mod liveness;
+pub mod reduced;
+pub mod reduced_examples;
 pub mod renumbering;
 pub mod search;
 pub mod together;

@@ -1,5 +1,5 @@
 -- The answer to a question of a tree.
-use Rattle.std.specs.Prelude.{◌≡◌, ⊤, ℕ, max, Bool, true, List, Result, Ok, Err}
+use Rattle.std.specs.Prelude.{◌≡◌, ⊤, ℕ, max, Bool, true, if◌then◌else◌, List, Result, Ok, Err}
 use Rattle.pv_image_manifest.specs.Reading.{RefusesManifest, manifest_before}
 use Rattle.pv_image_manifest.specs.declared.manifest.Manifest.{Manifest as ParsedManifest}
 use Rattle.pv_model.specs.declared.fault.ManifestFault.{ManifestFault}
@@ -32,6 +32,8 @@ use Rattle.pv_questions.specs.declared.question.TreeQuestion.TheVariants.{Listin
 use Rattle.pv_questions.specs.declared.question.Search.{Search}
 use Rattle.pv_questions.specs.declared.question.Search.TheVariants.{Explore, Access, Exposure, Policy, Graph}
 use Rattle.pv_questions.specs.declared.stop.AskStop.{AskStop}
+use Rattle.pv_laws_classes.specs.Reduced.{is_reduced_complete}
+use Rattle.pv_reduced.specs.Lines.{reduced_lines}
 use Rattle.pv_questions.specs.declared.stop.AskStop.TheVariants.{Machine, File as NoFile}
 
 -- a manifest alone, if there is no line `schedule`
@@ -65,7 +67,7 @@ of_boot_fault fault = Machine (of_boot fault)
 
 -- the lines of a search with a limit
 abbrev pub search_lines : Search → ℕ → State → List AnswerLine
-search_lines Explore limit s = explore_lines program_of limit s
+search_lines (Explore reduced) limit s = if reduced then reduced_lines program_of limit s else explore_lines program_of limit s
 search_lines Access limit s = access_lines program_of limit s
 search_lines Exposure limit s = exposure_lines program_of limit s
 search_lines Policy limit s = policy_lines program_of limit s
@@ -83,14 +85,19 @@ abbrev pub IsSearch : TreeQuestion → Type 0
 IsSearch (OfSearch search states) = ⊤
 IsSearch question = ⊥
 
+-- a search with a limit leaves no state out
+abbrev pub search_is_complete : Search → ℕ → State → Bool
+search_is_complete (Explore true) limit s = is_reduced_complete program_of s limit
+search_is_complete search limit s = is_complete program_of limit s
+
 -- the search of the states of a machine, if it boots, leaves no state out
-abbrev pub search_is_complete : ℕ → Result State BootFault → Bool
-search_is_complete states (Ok s) = is_complete program_of (max 1 states) s
-search_is_complete states (Err fault) = true
+abbrev pub booted_is_complete : Search → ℕ → Result State BootFault → Bool
+booted_is_complete search states (Ok s) = search_is_complete search (max 1 states) s
+booted_is_complete search states (Err fault) = true
 
 -- the answer about a tree leaves no state out
 abbrev pub tree_is_complete : TreeQuestion → Tree → Bool
-tree_is_complete (OfSearch search states) t = search_is_complete states (booted t)
+tree_is_complete (OfSearch search states) t = booted_is_complete search states (booted t)
 tree_is_complete question t = true
 
 -- the same for an input that may have no tree

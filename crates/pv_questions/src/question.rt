@@ -73,7 +73,11 @@ pub enum Format {
 #[derive(Clone, Copy, Debug, PartialEq, Eq)]
 pub enum Search {
     /// What can happen.
-    Explore,
+    Explore {
+        /// Whether the search identifies states that are equal but for the numbers of open files and for dead variables,
+        /// and makes the steps of a process on registers together with its next other step.
+        reduced: bool,
+    },
     /// Which process can access what.
     Access,
     /// What an attacker gains who takes over a process, at each line of its program.

@@ -4,7 +4,6 @@ ghost use Rattle.pv_answers.specs.Reaching.{reached_by};
 ghost use Rattle.pv_compare.specs.Answering.{compared_of};
 ghost use Rattle.pv_explain.specs.Errors.{explained_lines};
 ghost use Rattle.pv_model.specs.Answers.Compare.{comparison, comparison_lines};
-ghost use Rattle.pv_model.specs.Answers.Explore.{is_complete};
 ghost use Rattle.pv_model.specs.Answers.Lines.{answer_bytes};
 ghost use Rattle.pv_model.specs.Answers.ProcessRecord.{state_lines};
 ghost use Rattle.pv_model.specs.Answers.Reach.{reach_lines};
@@ -21,7 +20,7 @@ ghost use Rattle.pv_needs.specs.Restraints.{restraints};
 ghost use Rattle.pv_questions.specs.Files.{IsFileAt};
 ghost use Rattle.pv_questions.specs.Asking.{Flushes, Reports, end_of_listing};
 ghost use Rattle.pv_questions.specs.Reasons.{reasons_report, with_reasons};
-ghost use Rattle.pv_questions.specs.Trees.{search_lines};
+ghost use Rattle.pv_questions.specs.Trees.{search_is_complete, search_lines};
 ghost use Rattle.pv_session.specs.Running.{FailsBy, run_of};
 ghost use Rattle.pv_streams.specs.Sinks.{WritesOr};
 
@@ -40,6 +39,7 @@ use pv_listing::{ListStop, write_listing};
 use pv_model::{RunFault, Verdict};
 use pv_needs::{write_demands, write_restraints, write_turns};
 use pv_policy::write_policy;
+use pv_reduced::write_reduced;
 use pv_run::{write_report, write_verdict};
 use pv_session::{Session, Stop, run_schedule};
 use pv_streams::Sink;
@@ -275,10 +275,23 @@ fn write_search<W: Sink, P: Progress>(
 ) -> Result<bool, Stop>
     requires { 1 ≤ states }
     ensures written { WritesOr W.Sink FailsBy (answer_bytes (search_lines search states first_machine.now)) out.old out.new result }
-    ensures complete { IfOk result (λ complete. complete ≡ is_complete program_of states first_machine.now) }
+    ensures complete { IfOk result (λ complete. complete ≡ search_is_complete search states first_machine.now) }
 {
     match search {
-        Search::Explore => write_explore(alloc, first_machine, states, progress, out),
+        Search::Explore { reduced: true } => write_reduced(
+            alloc,
+            first_machine,
+            states,
+            progress,
+            out,
+        ),
+        Search::Explore { reduced: false } => write_explore(
+            alloc,
+            first_machine,
+            states,
+            progress,
+            out,
+        ),
         Search::Access => write_access(alloc, first_machine, states, progress, out),
         Search::Exposure => write_exposure(alloc, first_machine, states, progress, out),
         Search::Policy => write_policy(alloc, first_machine, states, progress, out),
@@ -297,7 +310,7 @@ pub(crate) fn report_search<W: Sink, P: Progress>(
 ) -> Result<bool, AskStop>
     requires { 1 ≤ states }
     ensures written { Reports W.Sink (answer_bytes (search_lines search states first_machine.now)) out.old out.new result }
-    ensures complete { IfOk result (λ complete. complete ≡ is_complete program_of states first_machine.now) }
+    ensures complete { IfOk result (λ complete. complete ≡ search_is_complete search states first_machine.now) }
 {
     let end = write_search(alloc, search, first_machine, states, progress, out);
     flush_buffer(end, out)

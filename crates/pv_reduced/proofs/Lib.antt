@@ -1,0 +1,12 @@
+-- Lemmas about the reduced search: Lively (the computation of live variables, and their tables), Ordering (the order of
+-- open files), Keying (the encoding of a representative), Lists (sets of lists of parts), Bounds (the process that must
+-- make the next step), Planned (the search visits the states and observes the texts of the definitions), Finding (the
+-- search, step by step), Reported (the bytes of texts, and of `explore`).
+pub mod Lively
+pub mod Ordering
+pub mod Keying
+pub mod Lists
+pub mod Bounds
+pub mod Planned
+pub mod Finding
+pub mod Reported

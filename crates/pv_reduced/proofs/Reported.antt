@@ -1,0 +1,73 @@
+-- The bytes written of observations are those of the first observations, and those of `explore` its lines.
+use Rattle.std.proofs.Common.{◌≡◌, ◌∙◌, sym, ap, ap₂, ℕ, ◌≤◌, Bool, List, [], ◌∷◌, ◌++◌, length, map, flat_map, refl}
+use Rattle.std.proofs.lemmas.Grind.{flat_map-append}
+use Rattle.std.proofs.lemmas.List.{length-map, map-append}
+use Rattle.pv_reduced.specs.Lines.{observations_from, observed_bytes, reduced_lines, reduced_observations, result_lines}
+use Rattle.pv_reduced.specs.Plan.{Visited}
+use Rattle.pv_reduced.specs.Searches.{IsReducedSearched, all_reported, all_visited}
+use Rattle.pv_reduced.proofs.Planned.{Keeps, plan-finds}
+use Rattle.pv_explore.specs.Observing.{trace_text}
+use Rattle.pv_explore.specs.Plan.{tree_key}
+use Rattle.pv_explore.proofs.Planned.{written}
+use Rattle.pv_explore.proofs.Reported.{HaveEmpty, explored, text_observed, written-first}
+use Rattle.pv_laws_classes.specs.Reduced.{is_reduced_complete, reduced_found, reduced_moves, reduced_moves_of, reduced_reported}
+use Rattle.pv_model.specs.Answers.Explore.{Found, Move, endings, move_lines}
+use Rattle.pv_model.specs.Answers.Lines.{AnswerLine, answer_bytes, answer_line_bytes}
+use Rattle.pv_model.specs.Answers.Observed.{Observation, Observer, observed}
+use Rattle.pv_model.specs.Bytes.{Bytes}
+use Rattle.pv_model.specs.Grammar.Programs.{program_of}
+use Rattle.pv_model.specs.State.{State}
+use Rattle.pv_model.specs.Trace.{trace_bytes}
+
+module _ (limit : ℕ) (s : State) where
+  -- ---- the result of a search
+
+  module _ (observe : Observer Bytes) where
+    bytes-observed : written [] (reduced_observations observe program_of limit s) ≡ observed_bytes observe limit s
+    unfolding observed_bytes
+    bytes-observed = (written-first [] [] (λ t. refl) (reduced_observations observe program_of limit s)).0
+
+    -- the bytes of a search from the first state
+    pub reported-bytes : 1 ≤ limit → all_reported observe limit s ≡ observed_bytes observe limit s
+    reported-bytes some = (plan-finds observe program_of limit s some).bytes_are ∙ bytes-observed
+
+    pub is-searched : (visited : Visited) → 1 ≤ limit → visited ≡ all_visited observe limit s → (classes : ℕ) (complete : Bool) (ends : ℕ) → classes ≡ length visited.keys
+        → complete ≡ visited.complete → ends ≡ length visited.endings → IsReducedSearched limit s classes complete ends
+    is-searched visited some is classes complete ends classes_are complete_is ends_are =
+        let keeps : Keeps program_of limit s (reduced_found program_of s limit) (reduced_moves program_of s limit) (all_visited observe limit s) = (plan-finds observe program_of limit s some).keeps in
+        record {
+          classes_are = classes_are ∙ ap (λ (v : Visited). length v.keys) is ∙ ap length keeps.keys ∙ length-map (reduced_found program_of s limit) _;
+          complete_is = complete_is ∙ ap (λ (v : Visited). v.complete) is ∙ keeps.complete;
+          endings_are = ends_are ∙ ap (λ (v : Visited). length v.endings) is ∙ ap length keeps.endings ∙ length-map (endings (reduced_found program_of s limit)) tree_key;
+        }
+
+  -- ---- the bytes of `explore`
+
+  one-each : (ms : List Move) → flat_map (λ m. map (observed m) (trace_bytes m.stepped.lines ∷ [])) ms ≡ map text_observed ms
+  one-each [] = refl
+  one-each (m ∷ ms) = ap (λ os. text_observed m ∷ os) (one-each ms)
+
+  -- the texts that are observed are those of the steps
+  all-moves : (found : List Found) → flat_map (observations_from trace_text program_of limit s) found ≡ map text_observed (flat_map (reduced_moves_of program_of s) found)
+  all-moves [] = refl
+  all-moves (f ∷ found) =
+      ap₂ (λ (a b : List (Observation Bytes)). a ++ b) (one-each (reduced_moves_of program_of s f)) (all-moves found)
+      ∙ sym (map-append text_observed (reduced_moves_of program_of s f) (flat_map (reduced_moves_of program_of s) found))
+
+  -- the bytes of the trace lines and of the last lines are those of `explore`
+  abbrev pub last_lines : List AnswerLine
+  last_lines = result_lines (length (reduced_found program_of s limit)) (is_reduced_complete program_of s limit) (length (endings (reduced_found program_of s limit)))
+
+  pub explore-bytes : observed_bytes trace_text limit s ++ answer_bytes last_lines ≡ answer_bytes (reduced_lines program_of limit s)
+  unfolding reduced_lines
+  explore-bytes =
+      let ms : List Move = reduced_moves program_of s limit in
+      ap (λ bs. bs ++ answer_bytes last_lines) (sym (bytes-observed trace_text) ∙ ap (written []) (all-moves (reduced_found program_of s limit)) ∙ explored [] ([] ∷ []) empty ms)
+      ∙ sym (flat_map-append answer_line_bytes (flat_map move_lines (reduced_reported program_of s limit)) last_lines)
+    where
+      empty : HaveEmpty [] ([] ∷ [])
+      empty [] = refl
+      empty (b ∷ bs) = refl
+
+  pub last-bytes : (classes : ℕ) (complete : Bool) (ends : ℕ) → IsReducedSearched limit s classes complete ends → answer_bytes (result_lines classes complete ends) ≡ answer_bytes last_lines
+  last-bytes classes complete ends it = λ i. answer_bytes (result_lines (it.classes_are i) (it.complete_is i) (it.endings_are i))

@@ -1,0 +1,17 @@
+use Rattle.std.proofs.Common.{◌≡◌, Some, drop, slice_get}
+use Rattle.pv_answers.proofs.Writing.{WritesBut}
+use Rattle.pv_reduced.specs.Plan.{visited_after_steps}
+use Rattle.pv_reduced.specs.Searches.{visited_of, witness_at}
+use Rattle.pv_reduced.proofs.Finding.{steps_left}
+use Rattle.pv_model.specs.Grammar.Programs.{program_of}
+use Rattle.pv_reduced.proofs.search.ReducedSearch.make_moves.Given as goal
+
+abbrev pub invariant-loop-pid : goal.invariant-loop-pid
+invariant-loop-pid g l =
+    let witness = witness_at (visited_of l.fn.self) l.number in
+    record {
+      left : WritesBut g.W.Sink (steps_left g.O.Observer.observe l.limit l.fn.checkpoints witness (drop l.pid-index l.moving) (visited_of l.self)) (steps_left g.O.Observer.observe l.limit l.fn.checkpoints witness l.moving (visited_of l.fn.self)) l.fn.out l.out;
+      visited : visited_after_steps g.O.Observer.observe l.limit program_of l.fn.checkpoints witness (drop l.pid-index l.moving) (visited_of l.self) ≡ visited_after_steps g.O.Observer.observe l.limit program_of l.fn.checkpoints witness l.moving (visited_of l.fn.self);
+      at : slice_get (visited_of l.self).witnesses l.number ≡ Some witness;
+      same : l.checkpoints ≡ l.fn.checkpoints;
+    }

@@ -1,0 +1,93 @@
+//! The order of open files in which descriptors refer to them first.
+ghost use Rattle.std.specs.Prelude.{◌≡◌, ◌∷◌, [], IfOk, OnOk};
+ghost use Rattle.pv_reduced.specs.Keys.{files_of, files_of_live, files_of_processes, with_reference, with_references};
+ghost use Rattle.pv_laws_classes.specs.Canonical.{index_in};
+ghost use Rattle.pv_model.specs.Numbered.{at_number};
+ghost use Rattle.pv_procs.specs.ProcessTable.{process_in};
+
+use pv_files::Descriptors;
+use pv_model::limits::DESCRIPTORS;
+use pv_procs::Processes;
+use std::alloc::{AllocError, Global};
+
+/// Returns the index of a number, or the length of the list if it does not contain the number.
+#[tactic(auto, using(crate::proofs::Ordering::index_next, crate::proofs::Ordering::index_there, crate::proofs::Ordering::index_past))]
+pub(crate) fn index_in(order: &[usize], file: usize) -> usize
+    ensures { result ≡ index_in order.now file }
+{
+    let mut index = 0;
+    while index < order.len() && order[index] != file {
+        index += 1;
+    }
+    index
+}
+
+// Appends an open file if it is new.
+#[tactic(auto, using(crate::proofs::Ordering::reference_old, crate::proofs::Ordering::reference_new))]
+fn push_reference(order: &mut Vec<usize>, file: usize) -> Result<(), AllocError>
+    ensures { OnOk result (order.new.items ≡ with_reference order.old.items file) }
+{
+    if index_in(order, file) < order.len() {
+        return Ok(());
+    }
+    order.push(file)?;
+    Ok(())
+}
+
+// Appends the open file of a descriptor, if there is such a descriptor and the file is new.
+fn push_descriptor_file(
+    order: &mut Vec<usize>,
+    descriptors: &Descriptors,
+    number: u8,
+) -> Result<(), AllocError>
+    ensures { OnOk result (order.new.items ≡ with_references order.old.items (files_of (at_number descriptors.now number ∷ []))) }
+{
+    match descriptors.at(i32::from(number)) {
+        Ok(file) => push_reference(order, file),
+        Err(_) => Ok(()),
+    }
+}
+
+// Appends the open files of descriptors in ascending order, if they are new.
+#[tactic(auto, using(crate::proofs::Ordering::files_next, crate::proofs::Ordering::files_end))]
+fn push_files_of(order: &mut Vec<usize>, descriptors: &Descriptors) -> Result<(), AllocError>
+    ensures { OnOk result (order.new.items ≡ with_references order.old.items (files_of descriptors.now)) }
+{
+    descriptors.invariant();
+    for number in 0..DESCRIPTORS as u8 {
+        push_descriptor_file(order, descriptors, number)?;
+    }
+    Ok(())
+}
+
+// Appends the open files of a process, if it is live and they are new.
+fn push_files_of_process(
+    order: &mut Vec<usize>,
+    processes: &Processes,
+    pid: u32,
+) -> Result<(), AllocError>
+    ensures { OnOk result (order.new.items ≡ with_references order.old.items (files_of_live (process_in processes.now pid))) }
+{
+    match processes.live_record(pid) {
+        Some(record) => push_files_of(order, &record.descriptors),
+        None => Ok(()),
+    }
+}
+
+/// Returns the open files in the order of their first reference.
+///
+/// # Errors
+///
+/// `AllocError`, if there is no memory.
+pub(crate) fn references(alloc: Global, processes: &Processes) -> Result<Vec<usize>, AllocError>
+    ensures { IfOk result (λ order. order.items ≡ with_references [] (files_of_processes processes.now.processes)) }
+{
+    processes.invariant();
+    let mut order = Vec::new(alloc);
+    let mut last = 0;
+    while let Some(pid) = processes.next_number(last) {
+        push_files_of_process(&mut order, processes, pid)?;
+        last = pid;
+    }
+    Ok(order)
+}
