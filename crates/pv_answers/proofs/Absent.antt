@@ -20,10 +20,10 @@ use Rattle.pv_model.specs.Bytes.{Bytes}
 use Rattle.pv_model.specs.Calls.Restraints.{entries_of_table}
 use Rattle.pv_model.specs.Tree.{Tree}
 use Rattle.pv_model.specs.Unveil.{Table, directory_rights, entry_for, governing_entry, same_target}
-use Rattle.pv_unveil.proofs.EntryLemmas.{same_target-same}
 use Rattle.pv_answers.specs.declared.reach.reacher.Reacher.{Reacher}
 use Rattle.pv_answers.specs.Reaching.{absent_line, absent_words, is_absent_in, may_line, may_lines, permitted_by, process_of, state_of, table_of}
 use Rattle.pv_answers.proofs.Permitted.{letters-are}
+use Rattle.pv_laws_trees.proofs.Targets.{same_target-itself}
 
 -- ---- one entry at a time
 
@@ -44,7 +44,7 @@ entry-there table target permissions k at =
     ⊎_elim (λ (low : first < length table). low)
     (λ high.
     let fails : test (get_or table k (target, permissions)) ≡ false = fails_before_first test table k (target, permissions) (omega (arith, high, within)) in
-    let passes : test (get_or table k (target, permissions)) ≡ true = ap test (get_or_from_slice_get table k (target, permissions) (target, permissions) at) ∙ same_target-same target in
+    let passes : test (get_or table k (target, permissions)) ≡ true = ap test (get_or_from_slice_get table k (target, permissions) (target, permissions) at) ∙ same_target-itself target in
     cc (fails, passes))
     (cases_lt first (length table)) in
     (first, ap (λ b. cond b (Some first) None) (lt-ltb first (length table) less))

@@ -1,6 +1,5 @@
 -- The permissions of a process at a place, by its governing entry.
 use Rattle.std.proofs.Common.{◌≡◌, ℕ, true, false, cond, ◌&&◌, ◌++◌, codes, Option, None, Some, refl, ap₂, sym, ◌∙◌}
-use Rattle.std.proofs.Math.Bool.{or-true, or-false, and-true}
 use Rattle.pv_model.specs.declared.judgement.Judgement.TheVariants.{Allowed, Denied}
 use Rattle.pv_model.specs.declared.perms.Perms.{Perms}
 use Rattle.pv_model.specs.declared.place.Place.{Place}
@@ -16,20 +15,7 @@ use Rattle.pv_model.specs.Tree.{Tree}
 use Rattle.pv_model.specs.Unveil.{Table, governing_entry, judge_entry, judgement, permissions_at}
 use Rattle.pv_answers.specs.declared.reach.reacher.Reacher.{Reacher}
 use Rattle.pv_answers.specs.Reaching.{given_by, governed_words, process_of, promised, state_of, table_of, who_by}
-
--- ---- one permission
-
-covers-r : (a : Perms) → covers a permission_r ≡ a.r
-covers-r a = simp (or-true, or-false, and-true)
-
-covers-w : (a : Perms) → covers a permission_w ≡ a.w
-covers-w a = simp (or-true, or-false, and-true)
-
-covers-x : (a : Perms) → covers a permission_x ≡ a.x
-covers-x a = simp (or-true, or-false, and-true)
-
-covers-c : (a : Perms) → covers a permission_c ≡ a.c
-covers-c a = simp (or-true, or-false)
+use Rattle.pv_laws_trees.proofs.Targets.{covers-r, covers-w, covers-x, covers-c}
 
 -- ---- the decision
 

@@ -1,9 +1,8 @@
 -- Calls that change names: the case without room, and the names in directories after them.
 use Rattle.std.proofs.lemmas.Bool.{and_from, and_parts, le-leb}
-use Rattle.std.proofs.Common.{◌≤◌, List, ◌==◌, ◌≡◌, ◌∙◌, ℕ, Bool, true, false, not, nat_lt, [], ◌∷◌, length, Option, None, Some, is_some, refl, sym, ap, arith}
+use Rattle.std.proofs.Common.{◌≤◌, List, ◌==◌, ◌≡◌, ◌∙◌, ℕ, Bool, true, false, not, nat_lt, [], ◌∷◌, length, None, Some, is_some, refl, sym, ap, arith}
 use Rattle.pv_calls_plain.specs.Space.{space_errno}
 use Rattle.pv_calls_plain.specs.declared.answer.Refused.{Refused}
-use Rattle.pv_calls_state.proofs.Collecting.{not-there}
 use Rattle.pv_calls_path.specs.Reached.{IsMissed, IsReached}
 use Rattle.pv_calls_state.proofs.Attempts.{passed}
 use Rattle.pv_calls_plain.proofs.Room.{crowded}
@@ -26,18 +25,13 @@ use Rattle.pv_model.specs.Effect.{node_of, name_of}
 use Rattle.pv_model.specs.Held.{collect}
 use Rattle.pv_model.specs.Room.{fits}
 use Rattle.pv_model.specs.State.{Process, State, with_tree}
-use Rattle.pv_model.specs.Tree.{Node, directory_node, file_node, link_node, node_at, entries_of, entries_at, is_directory, is_directory_at, find_entry, is_node, is_link_text, with_entry, without_entry, with_new_node}
+use Rattle.pv_model.specs.Tree.{Node, link_node, node_at, entries_of, entries_at, is_directory_at, find_entry, is_node, is_link_text, with_entry, without_entry, with_new_node}
 use Rattle.pv_model.specs.Walks.{Walk, linked_walk, new_link_walk, rmdir_walk, symlink_walk}
 use Rattle.pv_tree.specs.Rooms.{refusal}
 use Rattle.pv_laws_trees.specs.Found.{AlikeBut}
 use Rattle.pv_laws_trees.proofs.Edits.{stays-new_node, stays-with_entry, stays-without_entry}
 use Rattle.pv_laws_trees.proofs.Found.{alike-new, alike-with, alike-without}
-
-pub no_entries : (o : Option Node) → is_directory o ≡ false → entries_of o ≡ []
-no_entries None plain = refl
-no_entries (Some (directory_node es)) plain = cc
-no_entries (Some (file_node executable bytes)) plain = refl
-no_entries (Some (link_node text)) plain = refl
+use Rattle.pv_laws_trees.proofs.Generic.{not-there}
 
 pub some_left : {X : Type 0} (xs : List X) (r : Bool) → (xs ≡ [] → r ≡ true) → r ≡ false → is_empty xs ≡ false
 some_left [] r says is = let yes = says refl in cc

@@ -1,5 +1,5 @@
 -- rename(2): its checks, and the names in directories after it.
-use Rattle.std.proofs.Common.{◌≡◌, ◌≢◌, ◌∙◌, ℕ, Bool, true, false, not, ◌||◌, ◌==◌, [], ◌∷◌, List, Option, None, Some, refl, sym, ap, arith}
+use Rattle.std.proofs.Common.{◌≡◌, ◌≢◌, ◌∙◌, ℕ, Bool, true, false, not, ◌||◌, ◌==◌, [], Option, None, Some, refl, sym, ap, arith}
 use Rattle.pv_calls_plain.specs.Space.{space_errno}
 use Rattle.pv_calls_path.specs.Moving.{check_move}
 use Rattle.pv_calls_plain.specs.declared.answer.Refused.{Refused}
@@ -10,12 +10,13 @@ use Rattle.pv_calls_plain.proofs.Room.{crowded}
 use Rattle.pv_calls_path.proofs.Naming.{alike_collect}
 use Rattle.pv_inodes.specs.declared.space.Space.{Space}
 use Rattle.pv_laws_states.specs.States.{IsValid}
+use Rattle.pv_laws_states.proofs.ByTree.{empty-is}
 use Rattle.pv_model.specs.declared.errno.Errno.{Errno}
 use Rattle.pv_model.specs.declared.errno.Errno.TheVariants.{ENOTDIR, EISDIR, EINVAL, ENOTEMPTY}
 use Rattle.pv_model.specs.declared.outcome.Cause.TheVariants.{Plain}
 use Rattle.pv_model.specs.declared.place.Place.{Place}
 use Rattle.pv_model.specs.Attempt.{Attempt, done, refused, give, refuse_if, ◌>>◌, ◌>>=◌}
-use Rattle.pv_model.specs.Bytes.{Bytes, is_empty}
+use Rattle.pv_model.specs.Bytes.{Bytes}
 use Rattle.pv_model.specs.Calls.Paths.{contains_directory, entries_there, same_node, ends_in_dot, move_entry, rename}
 use Rattle.pv_model.specs.Effect.{Effect, answers, returns, with_room, node_of, name_of}
 use Rattle.pv_model.specs.Held.{collect}
@@ -66,16 +67,12 @@ then_refused false false true d rest e is = same_errno ENOTDIR e is
 then_refused false false false true rest e is = same_errno ENOTEMPTY e is
 then_refused false false false false rest e is = cc
 
-nothing_in : {X : Type 0} (xs : List X) → not (is_empty xs) ≡ false → xs ≡ []
-nothing_in [] is = refl
-nothing_in (x ∷ xs) is = cc
-
 -- a move that passes the checks does not put a directory into itself, and replaces no directory with entries
 pub move_clear : (t : Tree) (n e : ℕ) (there : Option ℕ) → check_move t n e there ≡ give tt → contains_directory t n e ≡ false
 move_clear t n e there is = clear_first _ _ _ _ is
 
 pub move_empty : (t : Tree) (n e : ℕ) (there : Option ℕ) → check_move t n e there ≡ give tt → entries_there t there ≡ []
-move_empty t n e there is = nothing_in (entries_there t there) (clear_last _ _ _ _ is)
+move_empty t n e there is = empty-is (entries_there t there) (clear_last _ _ _ _ is)
 
 same_is : (n : ℕ) → (n == n) ≡ true
 same_is n = grind (arith)

@@ -3,7 +3,6 @@ use Rattle.std.proofs.Common.{◌≡◌, ◌∙◌, ℕ, true, false, Some, is_s
 use Rattle.std.proofs.lemmas.Bool.{and_parts}
 use Rattle.pv_calls_state.specs.Changes.{unveiled_of, with_table}
 use Rattle.pv_calls_state.proofs.Attempts.{after_none}
-use Rattle.pv_tree.proofs.Counting.{directory-some}
 use Rattle.pv_calls_path.specs.Reached.{IsLost}
 use Rattle.pv_calls_plain.specs.declared.answer.Refused.{Refused}
 use Rattle.pv_calls_path.proofs.Reaching.{recorded}
@@ -27,10 +26,11 @@ use Rattle.pv_model.specs.Unveil.{Table, target_of, target_directory}
 use Rattle.pv_procs.specs.declared.record.ProcessRecord.{ProcessRecord}
 use Rattle.pv_procs.specs.Parts.{record_of}
 use Rattle.pv_unveil.specs.Added.{add_to, put_in}
+use Rattle.pv_laws_trees.proofs.Changes.{directory_is_some}
 
 target_there : (t : Tree) (target : Target) → is_target t target ≡ true → is_some (node_at t (target_directory target)) ≡ true
-target_there t (Directory d) is = directory-some (node_at t d) is
-target_there t (Name d name) is = directory-some (node_at t d) (and_parts (is_directory_at t d) _ is).0
+target_there t (Directory d) is = directory_is_some (node_at t d) is
+target_there t (Name d name) is = directory_is_some (node_at t d) (and_parts (is_directory_at t d) _ is).0
 
 -- the target of an entry exists
 pub place_target : (t : Tree) (place : Place) → IsFinePlace t place → is_some (node_at t (target_directory (target_of t place))) ≡ true

@@ -24,6 +24,7 @@ use Rattle.pv_model.specs.Room.{is_too_long, fits}
 use Rattle.pv_model.specs.State.{OpenFile, Process, State, process_at, reads, writes}
 use Rattle.pv_model.specs.Tree.{Node, directory_node, file_node, link_node, Tree, node_at, entries_at, is_directory, is_directory_at}
 use Rattle.pv_laws_states.proofs.Processes.{files-update}
+use Rattle.pv_laws_states.proofs.Present.{file_or_directory}
 use Rattle.pv_tree.specs.Rooms.{refusal}
 
 -- a part of an optional value that is present
@@ -33,10 +34,6 @@ part-is g o x y is at = let mine : option_map g o ≡ Some (g x) = ap (option_ma
 -- a part of an open file
 pub file-part : {Y : Type 0} (g : OpenFile → Y) (fs files : Numbered OpenFile) (k : ℕ) (f : OpenFile) (y : Y) → fs ≡ files → option_map g (at_number fs k) ≡ Some y → at_number files k ≡ Some f → y ≡ g f
 file-part g fs files k f y same is at = part-is g (at_number fs k) f y is (ap (λ xs. at_number xs k) same ∙ at)
-
-there : (o : Option Node) → (is_file o || is_directory o) ≡ true → is_some o ≡ true
-there None is = cc
-there (Some node) is = refl
 
 plain-file : (o : Option Node) → (is_file o || is_directory o) ≡ true → is_directory o ≡ false → is_file o ≡ true
 plain-file None is plain = cc
@@ -58,7 +55,7 @@ module _ (s : State) (whole : IsValid s) (k : ℕ) where
       let file = some-at (at_number s.files k) opened in
       let f = file.0 in
       let at = file.1 in
-      ap₂ (λ u m. is_some (node_at u m)) tree (file-part (λ (f : OpenFile). f.node) fs s.files k f n files is at) ∙ there (node_at s.tree f.node) (whole.files.each k f at).node
+      ap₂ (λ u m. is_some (node_at u m)) tree (file-part (λ (f : OpenFile). f.node) fs s.files k f n files is at) ∙ file_or_directory (node_at s.tree f.node) (whole.files.each k f at).node
 
   module _ (f : OpenFile) (at : at_number s.files k ≡ Some f) where
     pub is-plain : is_directory_at s.tree f.node ≡ false → is_file (node_at s.tree f.node) ≡ true

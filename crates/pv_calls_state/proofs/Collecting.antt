@@ -1,5 +1,5 @@
 -- Collecting unreferenced nodes by counts gives the same tree as searching for references.
-use Rattle.std.proofs.Common.{◌≡◌, ℕ, zero, suc, ◌+◌, ◌<◌, ◌↔◌, Bool, true, false, cond, ◌||◌, ◌==◌, List, [], ◌∷◌, ◌++◌, length, Option, None, Some, refl, ap, ap₂, sym, ◌∙◌, zero-add, arith, ⊎_elim}
+use Rattle.std.proofs.Common.{◌≡◌, ℕ, zero, suc, ◌+◌, ◌<◌, ◌↔◌, Bool, true, false, cond, ◌||◌, ◌==◌, List, [], ◌∷◌, ◌++◌, length, Option, refl, ap, ap₂, sym, ◌∙◌, zero-add, arith, ⊎_elim}
 use Rattle.std.specs.Prelude.{slice_index, IsSome, is_some}
 use Rattle.std.proofs.lemmas.Bool.{cases_Bool}
 use Rattle.std.proofs.lemmas.List.Sums.{sum_by-append, sum_by-cons}
@@ -9,13 +9,14 @@ use Rattle.pv_laws_states.specs.Held.{used}
 use Rattle.pv_model.specs.Held.{among, collect}
 use Rattle.pv_model.specs.Numbered.{Numbered, at_number, keep, keep_if}
 use Rattle.pv_model.specs.State.{OpenFile, State}
-use Rattle.pv_model.specs.Tree.{Tree, root, named_numbers}
+use Rattle.pv_model.specs.Tree.{Tree}
 use Rattle.pv_procs.specs.ProcessTable.{ProcessTable}
-use Rattle.pv_laws_trees.specs.Preserved.{wanted, preserved}
-use Rattle.pv_laws_trees.proofs.Keeping.{wanted-is}
+use Rattle.pv_laws_trees.specs.Preserved.{preserved}
+use Rattle.pv_laws_trees.proofs.Keeping.{preserved-agree}
 use Rattle.pv_laws_trees.proofs.NameCounts.{is_positive, positive-is, is-positive}
 use Rattle.pv_laws_trees.proofs.ReferenceCounts.{held-is}
-use Rattle.pv_laws_trees.proofs.Numbered.{same_numbered, at_number-keep, keep-agree, length-keep}
+use Rattle.pv_laws_trees.proofs.Numbered.{same_numbered, at_number-keep, length-keep}
+use Rattle.pv_laws_trees.proofs.Generic.{not-there}
 use Rattle.pv_tree.specs.Holding.{HeldTree, held_numbers, collected}
 use Rattle.pv_tree.specs.Present.{IsPresent}
 
@@ -49,23 +50,12 @@ counted-among n ns is = is-positive (times n ns) (sym (among-times n ns) ∙ is)
 
 -- ---- nodes
 
--- the same references keep the same nodes
-pub preserved-agree : (t : Tree) (ms ns : List ℕ) → ((n : ℕ) → among ms n ≡ among ns n) → preserved t ms ≡ preserved t ns
-preserved-agree t ms ns same =
-    ap (λ nodes. record t { nodes = nodes })
-    (keep-agree (among (wanted t ms)) (among (wanted t ns)) t.nodes
-    (λ n. wanted-is t ms n ∙ ap (λ b. (root == n) || (among (named_numbers t) n || b)) (same n) ∙ sym (wanted-is t ns n)))
-
 -- collecting by counts equals collecting by the counted list
 pub collected-counted : (t : Tree) (holds ns : List ℕ) → ((n : ℕ) → slice_index holds n ≡ times n ns) → collected t holds ≡ preserved t ns
 collected-counted t holds ns counts =
     preserved-agree t (held_numbers holds) ns (λ n. held-is holds n ∙ ap is_positive (counts n) ∙ sym (among-times n ns))
 
 -- ---- open files
-
-pub not-there : {X : Type 0} (o : Option X) → is_some o ≡ false → o ≡ None
-not-there None is = refl
-not-there (Some x) is = cc
 
 preserved-file : (o p : Option OpenFile) (n : ℕ) → (IsSome p ↔ (0 < n)) → (0 < n → p ≡ o) → keep_if (is_positive n) o ≡ p
 preserved-file o p zero used same =

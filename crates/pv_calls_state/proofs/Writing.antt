@@ -6,7 +6,6 @@ use Rattle.std.proofs.lemmas.List.{length-take, length-replicate}
 use Rattle.pv_calls_state.specs.Counts.{state_of, IsCountedUp}
 use Rattle.pv_files.specs.Counted.{Counted, IsCounted, with_file as with_counted}
 use Rattle.pv_inodes.specs.declared.space.Space.{Space}
-use Rattle.pv_laws_states.proofs.ByFile.{greatest-low}
 use Rattle.pv_model.specs.Bytes.{Bytes}
 use Rattle.pv_model.specs.Calls.Descriptors.{with_content, with_content_of}
 use Rattle.pv_model.specs.Effect.{bytes_of, overwrite, with_file}

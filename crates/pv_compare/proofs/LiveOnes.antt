@@ -1,6 +1,7 @@
 -- The processes that are live in either state of a pair.
 use Rattle.std.proofs.Common.{◌≡◌, ◌∙◌, sym, ap, ap₂, subst, ℕ, zero, suc, ◌+◌, ◌-◌, ◌<◌, ◌≤◌, Bool, true, false, ◌||◌, ◌==◌, cond, max, nat_le, List, [], ◌∷◌, ◌++◌, map, filter, fold, append-nil, Option, None, Some, is_some, refl, arith}
 use Rattle.std.specs.List.{range_with_len}
+use Rattle.std.specs.Cmp.{both_ways}
 use Rattle.std.proofs.lemmas.Bool.{and_parts, eq-eqb, eqb-true, leb-true}
 use Rattle.std.proofs.lemmas.Bool.Decides.{nat_tests}
 use Rattle.std.proofs.lemmas.List.Elements.{filter-append}
@@ -13,7 +14,6 @@ use Rattle.pv_laws_states.specs.States.{IsValid, is_number}
 use Rattle.pv_model.specs.Answers.Compare.{Pair, is_live, live_in_either}
 use Rattle.pv_model.specs.Held.{among, live_processes}
 use Rattle.pv_model.specs.State.{Process, State, live, process_at}
-use Rattle.pv_laws_steps.proofs.HeldApart.{same-truth}
 
 abbrev pub live_numbers : State → List ℕ
 live_numbers s = map (λ p. p.0) (live_processes s.processes)
@@ -37,7 +37,7 @@ among-live s pid whole is =
     ap (is_live s) (sym same) ∙ ap is_some (listed-live s from.0.0 from.0.1 whole.processes.ascending from.1)
 
 live-is : (s : State) (pid : ℕ) → IsValid s → is_live s pid ≡ among (live_numbers s) pid
-live-is s pid whole = same-truth (is_live s pid) (among (live_numbers s) pid) (live-among s pid) (among-live s pid whole)
+live-is s pid whole = both_ways (is_live s pid) (among (live_numbers s) pid) (live-among s pid) (among-live s pid whole)
 
 -- the number of a live process is at most the last one given
 live-within : (s : State) (pid : ℕ) → IsValid s → is_live s pid ≡ true → pid ≤ s.last_process

@@ -1,10 +1,10 @@
 -- Pairs stored as the numbers of their states.
 use Rattle.std.proofs.Common.{◌≡◌, ◌∙◌, sym, ap, ap₂, subst, ℕ, suc, ◌+◌, ◌<◌, ◌≤◌, Bool, true, false, not, ◌&&◌, ◌||◌, if◌then◌else◌, nat_le, bytes_eq, List, [], ◌∷◌, ◌++◌, length, map, length-append, Option, None, Some, ◌⊎◌, inl, inr, ⊎_elim, append-nil, refl, arith}
 use Rattle.std.specs.List.{AllByRecursion, list_any}
+use Rattle.std.specs.Cmp.{both_ways}
 use Rattle.std.proofs.lemmas.Bool.{and_parts, and_from, le-leb, lt-leb}
 use Rattle.std.proofs.lemmas.Bool.Decides.{nat_tests}
 use Rattle.std.proofs.lemmas.List.{length-map, map-append}
-use Rattle.pv_laws_steps.proofs.HeldApart.{same-truth}
 use Rattle.pv_compare.specs.Pairs.{AreNumbered, AreStored, IsReached, PairsFound, found_in, is_visited, numbers_in, pair_in, pair_key, visited}
 use Rattle.pv_compare.specs.Plan.{pairs_at}
 use Rattle.pv_compare.specs.declared.pairs.PairNumbers.{PairNumbers}
@@ -74,7 +74,7 @@ module _ (firsts seconds : List Bytes) where
       let c = number_in firsts (state_key g.states.first) in
       let d = number_in seconds (state_key g.states.second) in
       packed-test (a ∷ b ∷ []) (c ∷ d ∷ [])
-      ∙ same-truth (bytes_eq (a ∷ b ∷ []) (c ∷ d ∷ [])) (same_pair g.states f.states)
+      ∙ both_ways (bytes_eq (a ∷ b ∷ []) (c ∷ d ∷ [])) (same_pair g.states f.states)
       (λ is.
       let both : a ∷ b ∷ [] ≡ c ∷ d ∷ [] = bytes_eq-same (a ∷ b ∷ []) (c ∷ d ∷ []) is in
       let low : a ≡ c = cc in

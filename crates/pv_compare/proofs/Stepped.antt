@@ -1,5 +1,5 @@
 -- The steps of both images from a visited pair.
-use Rattle.std.proofs.Common.{◌≡◌, ◌∙◌, sym, ap, ap₂, subst, ℕ, zero, suc, ◌+◌, ◌<◌, ◌≤◌, Bool, true, false, not, ◌&&◌, bytes_eq, List, [], ◌∷◌, ◌++◌, get_or, length, map, option_map, slice_get, Option, None, Some, refl, arith}
+use Rattle.std.proofs.Common.{◌≡◌, ◌∙◌, sym, ap, ap₂, subst, ℕ, ◌+◌, ◌<◌, ◌≤◌, Bool, true, false, not, ◌&&◌, bytes_eq, List, [], ◌∷◌, ◌++◌, get_or, length, map, option_map, slice_get, Option, None, Some, refl, arith}
 use Rattle.std.specs.List.{AllByRecursion, list_any}
 use Rattle.std.proofs.lemmas.List.{length-map}
 use Rattle.std.proofs.lemmas.Option.{get_or_from_slice_get, slice_get-map, slice_get_within}
@@ -20,11 +20,7 @@ use Rattle.pv_model.specs.Bytes.{Bytes}
 use Rattle.pv_model.specs.Grammar.Programs.{program_of}
 use Rattle.pv_model.specs.State.{State}
 use Rattle.pv_session.specs.Running.{stepped}
-
-all-at : {X : Type 0} (P : X → Type 0) (xs : List X) (k : ℕ) (x : X) → AllByRecursion P xs → slice_get xs k ≡ Some x → P x
-all-at P [] k x all at = cc
-all-at P (y ∷ ys) zero x all at = let same : y ≡ x = cc in subst P same all.0
-all-at P (y ∷ ys) (suc k) x all at = all-at P ys k x all.1 at
+use Rattle.pv_laws_trees.proofs.Generic.{all-at}
 
 -- ---- the numbers of a visited pair
 

@@ -38,6 +38,8 @@ use Rattle.pv_step_cache.specs.declared.cells.Cell.{Cell}
 use Rattle.pv_step_cache.specs.declared.steps.CachedStep.{CachedStep}
 use Rattle.pv_step_cache.specs.Cached.{IsCachedBoth}
 use Rattle.pv_step_cache.specs.Edits.{cell_of}
+use Rattle.pv_step_cache.proofs.Afters.{plain-at}
+use Rattle.pv_laws_trees.proofs.Generic.{all-at}
 
 -- ---- the encoding of a state in which one process is replaced
 
@@ -181,11 +183,6 @@ some-of : {X Y : Type 0} (f : X → Y) (o : Option X) (y : Y) → option_map f o
 some-of f None y is = cc
 some-of f (Some x) y is = let same : f x ≡ y = cc is in (x, refl, same)
 
-all-at : {X : Type 0} (P : X → Type 0) (xs : List X) (k : ℕ) (x : X) → AllByRecursion P xs → slice_get xs k ≡ Some x → P x
-all-at P [] k x all at = cc
-all-at P (y ∷ ys) zero x all at = let same : y ≡ x = cc at in subst P same all.0
-all-at P (y ∷ ys) (suc k) x all at = all-at P ys k x all.1 at
-
 -- a record at an index is found by its number
 found-at : (rs : List (ℕ × ProcessRecord)) (i n : ℕ) (r : ProcessRecord) → is_sorted nat_cmp rs ≡ true → slice_get rs i ≡ Some (n, r) → find nat_cmp n rs ≡ Some r
 found-at [] i n r sorted at = cc at
@@ -193,11 +190,6 @@ found-at (e ∷ rs) zero n r sorted at =
     let same : e ≡ (n, r) = cc at in
     subst (λ (x : ℕ × ProcessRecord). find nat_cmp n (x ∷ rs) ≡ Some r) (sym same) (ap (λ o. cond (is_eq o) (Some r) (find nat_cmp n rs)) (number-itself n))
 found-at (e ∷ rs) (suc i) n r sorted at = find_number_after n r e rs sorted (found-at rs i n r (and_parts (below_all nat_cmp e.0 rs) (is_sorted nat_cmp rs) sorted).1 at)
-
-plain-owner : (gs : List (List Bytes)) (i : ℕ) (c : Encoded) → slice_get (map plain gs) i ≡ Some c → c.owner ≡ 0
-plain-owner [] i c at = cc at
-plain-owner (g ∷ gs) zero c at = let same : plain g ≡ c = cc at in sym (ap (λ (x : Encoded). x.owner) same)
-plain-owner (g ∷ gs) (suc i) c at = plain-owner gs i c at
 
 -- the group of a live process is that of its record
 pub record IsOfRecord (rs : List (ℕ × ProcessRecord)) (owner : ℕ) (c : Encoded) : Type 0 where
@@ -207,7 +199,7 @@ pub record IsOfRecord (rs : List (ℕ × ProcessRecord)) (owner : ℕ) (c : Enco
   pub is : encoded_record (owner, live process) ≡ c
 
 of-record : (owner : ℕ) → owner ≢ 0 → (rs : List (ℕ × ProcessRecord)) (gs : List (List Bytes)) (i : ℕ) (c : Encoded) → slice_get (map encoded_record rs ++ map plain gs) i ≡ Some c → c.owner ≡ owner → IsOfRecord rs owner c
-of-record owner some [] gs i c at owned = absurd (some (sym owned ∙ plain-owner gs i c at))
+of-record owner some [] gs i c at owned = absurd (some (sym owned ∙ plain-at gs i c at))
 of-record owner some ((n, live p) ∷ rs) gs zero c at owned =
     let is : encoded_record (n, live p) ≡ c = cc at in
     let number : n ≡ owner = ap (λ (x : Encoded). x.owner) is ∙ owned in

@@ -23,6 +23,8 @@ use Rattle.pv_laws_states.specs.States.{IsValid}
 use Rattle.pv_laws_states.proofs.Attempts.{Leads}
 use Rattle.pv_laws_states.proofs.Outcomes.{at_call, by_answer}
 use Rattle.pv_laws_states.proofs.Processes.{last_process-update, process_at-same}
+use Rattle.pv_laws_states.proofs.Collect.{last-collect}
+use Rattle.pv_laws_states.proofs.Ending.{last-end}
 use Rattle.pv_explore.specs.FirstMachines.{GaveNumber}
 
 gave-effect : (s : State) (pid : ℕ) (me : Process) (call : Call) (after : State) (r : Reply) → HasEffect s pid me call after r → GaveNumber after s.last_process
@@ -50,18 +52,10 @@ still-live s pid f k is = ⊎_elim (λ same. by same (process_at s pid) refl) (�
     by same None none = let gone : is_some (process_at s k) ≡ false = ap (λ n. is_some (process_at s n)) same ∙ ap is_some none in cc
     by same (Some p) at = ap (λ n. is_some (process_at (update s pid f) n)) same ∙ ap is_some (update-live s pid f p at)
 
-last-collect : (s : State) → (collect s).last_process ≡ s.last_process
-unfolding collect
-last-collect s = refl
-
 gave-reported : (after : State) (pid : ℕ) (f : Process → Process) (known : ℕ) → GaveNumber after known → GaveNumber (collect (update after pid f)) known
 gave-reported after pid f known (inl same) = inl (last-collect (update after pid f) ∙ last_process-update after pid f ∙ same)
 gave-reported after pid f known (inr more) =
     inr (last-collect (update after pid f) ∙ last_process-update after pid f ∙ more.0, ap is_some (process_at-collect (update after pid f) (suc known)) ∙ still-live after pid f (suc known) more.1)
-
-last-end : (s : State) (pid : ℕ) (me : Process) (status : ℕ) → (end_process s pid me status).last_process ≡ s.last_process
-unfolding end_process
-last-end s pid me status = refl
 
 gave-attempt : (before s : State) (pid : ℕ) (me : Process) (call : Call) (a : Attempt Effect) → before.last_process ≡ s.last_process → Leads (Did s pid me call) a
     → GaveNumber (answer_by_attempt before s pid me a).after before.last_process

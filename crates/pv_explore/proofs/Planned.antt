@@ -1,6 +1,7 @@
 -- The bytes and data of the search are those of the definitions.
 use Rattle.std.proofs.Common.{◌≡◌, ◌∙◌, sym, ap, ap₂, subst, ℕ, zero, suc, ◌+◌, ◌<◌, ◌≤◌, Bool, true, false, ◌&&◌, ◌||◌, cond, if◌then◌else◌, nat_le, bytes_eq, List, [], ◌∷◌, ◌++◌, length, map, filter, flat_map, fold, take, append_assoc, append-nil, length-append, slice_get, Option, None, Some, option_map, ◌⊎◌, inl, inr, ⊎_elim, refl, arith}
 use Rattle.std.specs.List.{AllByRecursion, list_any, list_all}
+use Rattle.std.specs.Cmp.{both_ways}
 use Rattle.std.proofs.lemmas.Bool.{and_parts, and_from}
 use Rattle.std.proofs.lemmas.Bool.Decides.{nat_tests}
 use Rattle.std.proofs.lemmas.Grind.{flat_map-append}
@@ -20,7 +21,6 @@ use Rattle.pv_model.proofs.Runs.{run-append}
 use Rattle.pv_laws_trees.proofs.Entries.{bytes_eq-same, bytes_eq-itself}
 use Rattle.pv_laws_answers.proofs.Complete.{there-found}
 use Rattle.pv_laws_answers.proofs.Lists.{among-right, each-append}
-use Rattle.pv_laws_steps.proofs.HeldApart.{same-truth}
 use Rattle.pv_state_encoding.specs.Packed.{packed_all}
 use Rattle.pv_state_encoding.proofs.Apart.{packed-apart}
 use Rattle.pv_explore.specs.Plan.{state_key, tree_key, Visited, added_to, new_bytes, reported_after, reported_bytes, endings_after, with_state, is_known, visited_after, state_at, move_at, texts_at, reported_steps, visited_after_steps, live_at, and_report, reported_from, and_visit, visited_from, first_visited}
@@ -29,14 +29,14 @@ use Rattle.pv_explore.specs.Plan.{state_key, tree_key, Visited, added_to, new_by
 
 bytes_eq-turn : (a b : Bytes) → bytes_eq a b ≡ bytes_eq b a
 bytes_eq-turn a b =
-    same-truth (bytes_eq a b) (bytes_eq b a)
+    both_ways (bytes_eq a b) (bytes_eq b a)
     (λ is. subst (λ (c : Bytes). bytes_eq c a ≡ true) (bytes_eq-same a b is) (bytes_eq-itself a))
     (λ is. subst (λ (c : Bytes). bytes_eq c b ≡ true) (bytes_eq-same b a is) (bytes_eq-itself b))
 
 -- numbers are equal exactly if their encodings are
 pub packed-test : (ns ms : Numbers) → bytes_eq (packed_all ns) (packed_all ms) ≡ bytes_eq ns ms
 packed-test ns ms =
-    same-truth (bytes_eq (packed_all ns) (packed_all ms)) (bytes_eq ns ms)
+    both_ways (bytes_eq (packed_all ns) (packed_all ms)) (bytes_eq ns ms)
     (λ is. subst (λ (k : Numbers). bytes_eq ns k ≡ true) (packed-apart ns ms (bytes_eq-same (packed_all ns) (packed_all ms) is)) (bytes_eq-itself ns))
     (λ is. subst (λ (k : Numbers). bytes_eq (packed_all ns) (packed_all k) ≡ true) (bytes_eq-same ns ms is) (bytes_eq-itself (packed_all ns)))
 

@@ -2,6 +2,7 @@
 use Rattle.std.proofs.Common.{◌≡◌, ◌∙◌, sym, ap, ap₂, subst, ℕ, zero, suc, ◌+◌, ◌-◌, ◌*◌, ◌/◌, ◌%◌, ◌<◌, ◌≤◌, Bool, true, false, ◌||◌, cond, if◌then◌else◌, not, nat_lt, bytes_eq, List, [], ◌∷◌, ◌++◌, get_or, length, map, take, flat_map, append_assoc, append-nil, None, Some, mul_assoc, refl, arith}
 use Rattle.std.specs.Prelude.{position}
 use Rattle.std.specs.List.{AllByRecursion, list_any, position_or_len, take-map}
+use Rattle.std.specs.Cmp.{both_ways}
 use Rattle.std.proofs.lemmas.Bool.Decides.{nat_tests}
 use Rattle.std.proofs.lemmas.List.{length-map, map-append, take_all, take_more}
 use Rattle.pv_model.specs.Answers.Numbers.{Numbers, state_numbers}
@@ -16,7 +17,6 @@ use Rattle.pv_state_encoding.proofs.Adding.{packed-append, packed-is, packed-sma
 use Rattle.pv_state_encoding.proofs.Apart.{packed-apart}
 use Rattle.pv_state_encoding.proofs.Grouping.{state-joined}
 use Rattle.pv_explore.specs.Rows.{unpacked_from, unpacked, number_in, IsAmong, Grew, group_row, group_bytes, state_row, state_bytes, AreVisited, IsRow}
-use Rattle.pv_laws_steps.proofs.HeldApart.{same-truth}
 
 -- ---- numbers from bytes
 
@@ -195,7 +195,7 @@ module _ (parts groups : List Bytes) where
   row-test row is s =
       let t = is.state in
       let bytes : state_bytes parts groups row ≡ joined (state_groups t) = ap (state_bytes parts groups) is.is ∙ state-back (state_groups t) is.visited in
-      same-truth (bytes_eq (state_row parts groups (state_groups s)) row) (bytes_eq (joined (state_groups s)) (state_bytes parts groups row))
+      both_ways (bytes_eq (state_row parts groups (state_groups s)) row) (bytes_eq (joined (state_groups s)) (state_bytes parts groups row))
       (λ same.
       let rows : state_row parts groups (state_groups s) ≡ state_row parts groups (state_groups t) = bytes_eq-same (state_row parts groups (state_groups s)) row same ∙ is.is in
       let groups_are = same-rows (state_groups s) (state_groups t) is.visited rows in

@@ -17,6 +17,7 @@ use Rattle.pv_model.specs.Answers.Observed.{groups, with_alike}
 use Rattle.pv_model.specs.Bytes.{Bytes}
 use Rattle.pv_model.specs.Held.{among}
 use Rattle.pv_laws_trees.proofs.Entries.{bytes_eq-same, bytes_eq-itself}
+use Rattle.pv_laws_trees.proofs.Generic.{flat-same}
 use Rattle.pv_explore.proofs.Ranges.{among-most}
 use Rattle.pv_exposure.specs.Collected.{RecordedLeak, all_recorded_lines, greatest, has_key, recorded_at, recorded_lines, recorded_lines_by, recorded_of, key_of, last_recorded, ranges_recorded, with_all}
 use Rattle.pv_exposure.proofs.Firsts.{keyed}
@@ -35,10 +36,6 @@ filter-map {Y = Y} f p (x ∷ xs) = by (p (f x)) (filter-map f p xs)
 first-map : {X Y : Type 0} (f : X → Y) (xs : List X) → first_of (map f xs) ≡ option_map f (first_of xs)
 first-map f [] = refl
 first-map f (x ∷ xs) = refl
-
-flat-same : {X Y : Type 0} (f g : X → List Y) → ((x : X) → f x ≡ g x) → (xs : List X) → flat_map f xs ≡ flat_map g xs
-flat-same f g same [] = refl
-flat-same {Y = Y} f g same (x ∷ xs) = ap₂ (λ (a b : List Y). a ++ b) (same x) (flat-same f g same xs)
 
 new-map : {X Y : Type 0} (f : X → Y) (key : Y → Numbers) (had : List Numbers) (xs : List X) → new_ones key had (map f xs) ≡ map f (new_ones (λ x. key (f x)) had xs)
 new-map f key had [] = refl

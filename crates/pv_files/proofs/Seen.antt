@@ -7,14 +7,12 @@ use Rattle.std.proofs.lemmas.Bool.Decides.{nat_tests}
 use Rattle.std.proofs.lemmas.List.{map-set}
 use Rattle.std.proofs.lemmas.List.Quantifiers.{position-Some}
 use Rattle.std.proofs.lemmas.List.Sums.{prefix_len-le-length}
+use Rattle.std.proofs.lemmas.Option.{cond_some}
 use Rattle.std.specs.List.{position_or_len}
 use Rattle.pv_model.specs.Numbered.{Numbered, at_number, with_number, without_number, least_free}
 
 pub past : (n m : ℕ) → n ≤ m → cond (nat_lt n m) (Some n) None ≡ None → n ≡ m
 past n m within none = grind (arith, nat_tests)
-
-found_is : (n m i : ℕ) → cond (nat_lt n m) (Some n) None ≡ Some i → n ≡ i
-found_is n m i some = grind (arith, nat_tests)
 
 module _ {X : Type 0} where
   first_free : (xs : Numbered X) → position_or_len (λ o. is_none o) xs ≡ least_free xs
@@ -28,7 +26,7 @@ module _ {X : Type 0} where
   least_free_found xs None is =
       sym (first_free xs) ∙ past (position_or_len (λ o. is_none o) xs) (length xs) (prefix_len-le-length (λ o. not (is_none o)) xs) (sym is)
   least_free_found xs (Some k) is =
-      (sym (first_free xs) ∙ found_is (position_or_len (λ o. is_none o) xs) (length xs) k (sym is), (position-Some (λ o. is_none o) xs k None (sym is)).0)
+      (sym (first_free xs) ∙ (cond_some (nat_lt (position_or_len (λ o. is_none o) xs) (length xs)) (position_or_len (λ o. is_none o) xs) k (sym is)).1, (position-Some (λ o. is_none o) xs k None (sym is)).0)
 
   -- if the first n numbers are in use, the search for the least free one can start after them
   pub least_free_after : (xs : Numbered X) (n : ℕ) → n ≤ least_free xs → least_free xs ≡ n + least_free (drop n xs)

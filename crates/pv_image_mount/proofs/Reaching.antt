@@ -5,6 +5,7 @@ use Rattle.std.proofs.lemmas.List.FromFn.{get_or-range_with_len, length-range_wi
 use Rattle.std.proofs.lemmas.Map.Steps.{length-le_from_distinct_below}
 use Rattle.std.specs.Prelude.{◌==◌, filter, nat_lt}
 use Rattle.std.specs.List.{list_any}
+use Rattle.std.specs.Cmp.{both_ways}
 use Rattle.pv_blocks.specs.declared.block_set.BlockSet.{BlockSet}
 use Rattle.pv_blocks.specs.BlockSet.{is_member}
 use Rattle.pv_model.specs.declared.version.Version.{Version}
@@ -54,13 +55,6 @@ any_more p q more (x ∷ xs) is =
       | inl here ↦ or_left (q x) (list_any q xs) (more x here)
       | inr following ↦ or_right (q x) (list_any q xs) (any_more p q more xs following)
     ]
-
-same_truth : (a b : Bool) → (a ≡ true → b ≡ true) → (b ≡ true → a ≡ true) → a ≡ b
-same_truth a b to from =
-    elim a as (λ x. a ≡ x → x ≡ b) [
-      | true ↦ λ is. sym (to is)
-      | false ↦ λ not_a. elim b as (λ y. b ≡ y → false ≡ y) [ true ↦ λ is. sym not_a ∙ from is | false ↦ λ is. refl ] refl
-    ] refl
 
 module _ (v : Version) (bytes : Bytes) where
   -- ---- steps
@@ -180,7 +174,7 @@ module _ (v : Version) (bytes : Bytes) where
   pub visited_all : (seen : BlockSet) (order : List ℕ) (at : ℕ) → IsVisited seen order at → length order ≤ at → (k : ℕ) → is_member seen k ≡ is_reached_within v bytes (inode_number bytes) k
   visited_all seen order at visited all k =
       visited.each.members k
-      ∙ same_truth (is_among order k) (is_reached_within v bytes (inode_number bytes) k)
+      ∙ both_ways (is_among order k) (is_reached_within v bytes (inode_number bytes) k)
       (λ is.
       let appears = among_at order k is in
       let inside = appears.within in

@@ -16,7 +16,7 @@ use Rattle.pv_model.specs.Mount.{inode_number, is_bad_slot, is_free, slot_length
 use Rattle.pv_model.specs.Room.{entry_length}
 use Rattle.pv_model.specs.Tree.{greatest_name, is_name}
 use Rattle.pv_laws_trees.proofs.NameOrder.{less_from}
-use Rattle.pv_laws_trees.proofs.Images.{length-slots_of}
+use Rattle.pv_laws_trees.proofs.Images.{length-slots_of, room_for}
 use Rattle.pv_image_mount.proofs.InodeContents.{none_at}
 use Rattle.pv_image_mount.proofs.SortedNames.{once_rising}
 use Rattle.pv_image_mount.specs.Slots.{name_key, slot_at, slot_key, NamesAscend}
@@ -69,13 +69,9 @@ module _ (p : Bytes → Bool) (v : Version) (content : Bytes) where
 
 -- ---- names
 
-longest_fits : (v : Version) → 4 + greatest_name v ≤ entry_length v
-longest_fits V1 = omega arith
-longest_fits V2 = omega arith
-
 -- the name is within its slot
 pub name_within : (v : Version) (slot : Bytes) → length slot ≡ entry_length v → slot_length slot ≤ greatest_name v → 4 + slot_length slot ≤ length slot
-name_within v slot whole short = let most = longest_fits v in omega (arith, most, whole, short)
+name_within v slot whole short = let most = room_for v in omega (arith, most, whole, short)
 
 name_short : (v : Version) (bytes slot : Bytes) → is_bad_slot v bytes slot ≡ false → slot_length slot ≤ greatest_name v
 name_short v bytes slot fine =

@@ -11,7 +11,8 @@ use Rattle.pv_model.specs.Room.{greatest_length}
 use Rattle.pv_image_write.specs.Encoding.{padded, encoded, blocks_for, index_for, direct_for, before_size, after_pointers, inode_bytes}
 use Rattle.pv_image_write.specs.Writable.{names_end}
 use Rattle.pv_image_write.proofs.Components.{front-is, past-is, length-padded}
-use Rattle.pv_image_write.proofs.Ranges.{length-little_endian, two-bytes, four-bytes, length-encoded_row, pointers-encoded, pointers-add}
+use Rattle.pv_image_write.proofs.Ranges.{two-bytes, four-bytes, length-encoded_row, pointers-encoded, pointers-add}
+use Rattle.pv_laws_trees.proofs.ImageBytes.{length-little_endian}
 
 -- contents within the maximum length need no more index blocks than an inode has pointers to
 pub index-few : (v : Version) (size : ℕ) → size ≤ greatest_length v → index_for size ≤ index_pointers v

@@ -17,6 +17,7 @@ use Rattle.pv_model.specs.Tree.{Entries, Node, directory_node, file_node, link_n
 use Rattle.pv_laws_trees.proofs.Numbered.{at_number-below}
 use Rattle.pv_dirs.proofs.Strides.{name_length}
 use Rattle.pv_laws_trees.proofs.Ranges.{each_in_range}
+use Rattle.pv_laws_trees.proofs.ImageBytes.{length-little_endian}
 use Rattle.pv_image_write.specs.Encoding.{contained, content_of, taken, taken_of, inode_of, blocks_of, taken_before, first_data, first_of, first_block, image_bytes, inode_bytes, content_blocks}
 use Rattle.pv_image_write.specs.Writable.{IsWritable}
 use Rattle.pv_image_write.proofs.Contents.{Each, EachOf, HasShortName, length-contained, slots-are}
@@ -24,7 +25,7 @@ use Rattle.pv_image_write.proofs.Heads.{kind-inode, count-inode}
 use Rattle.pv_image_write.proofs.Listed.{find-at, sorted-at, named-at, all-get}
 use Rattle.pv_image_write.proofs.Components.{front-is, past-is}
 use Rattle.pv_image_write.proofs.Places.{length-magic, length-image, image-is, first, table, contents, few-blocks, taken_before-grows, inode-image, blocks-image, zeros-image, zeros-all}
-use Rattle.pv_image_write.proofs.Ranges.{range_with_len-add, distinct-range, list_all-picked, two-bytes, length-little_endian}
+use Rattle.pv_image_write.proofs.Ranges.{range_with_len-add, distinct-range, list_all-picked, two-bytes}
 use Rattle.pv_image_write.proofs.Reading.{size-read, used-read, content-read}
 
 -- ---- the entries of a node of a tree

@@ -24,7 +24,7 @@ use Rattle.pv_laws_trees.proofs.Keeping.{only-sound, reached-along}
 use Rattle.pv_laws_trees.proofs.NameCounts.{names-in_most, names-most}
 use Rattle.pv_laws_trees.proofs.Numbered.{at_number-below, length-keep}
 use Rattle.pv_laws_trees.proofs.Places.{list_all-weaker}
-use Rattle.pv_laws_trees.proofs.Rooms.{preserved-no_larger, length-within, smaller-fits}
+use Rattle.pv_laws_trees.proofs.Rooms.{preserved-no_larger, length-within, smaller-fits, greatest-low}
 use Rattle.pv_laws_trees.proofs.Trees.{sound, well_formed}
 use Rattle.pv_tree.specs.Holding.{HeldTree}
 use Rattle.pv_tree.specs.Present.{IsPresent}
@@ -136,17 +136,13 @@ fits-parts t is = is
 
 -- ---- room
 
-pub greatest-small : (v : Version) → greatest_length v ≤ 660480
-greatest-small V1 = omega arith
-greatest-small V2 = omega arith
-
 pub taken-as : (v : Version) (o : Option Node) → taken_of v o ≡ taken (length (content_of v o))
 taken-as v None = refl
 taken-as v (Some node) = refl
 
 -- no node takes more blocks than contents of the maximum length
 pub taken-few : (v : Version) (o : Option Node) → length (content_of v o) ≤ greatest_length v → taken_of v o ≤ 1295
-taken-few v o short = omega (arith, taken-as v o, greatest-small v)
+taken-few v o short = omega (arith, taken-as v o, greatest-low v)
 
 pub taken_before-few : (u : Tree) → ((n : ℕ) → taken_of u.version (node_at u n) ≤ 1295) → (n : ℕ) → taken_before u n ≤ 1295 * n
 taken_before-few u few zero = omega arith

@@ -13,8 +13,8 @@ use Rattle.pv_image_write.specs.Encoding.{padded, contained, content_of, taken_o
 use Rattle.pv_image_write.specs.Writable.{IsWritable}
 use Rattle.pv_image_write.proofs.Heads.{length-inode_bytes}
 use Rattle.pv_image_write.proofs.Components.{front-is, past-is, length-padded, joined-at, length-joined_alike}
-use Rattle.pv_image_write.proofs.Ranges.{length-little_endian}
 use Rattle.pv_image_write.proofs.Reading.{length-content_blocks}
+use Rattle.pv_laws_trees.proofs.ImageBytes.{length-little_endian}
 
 -- a drop past a prefix
 further : (a n : ℕ) (xs ys : Bytes) → length xs ≡ a → drop (a + n) (xs ++ ys) ≡ drop n ys

@@ -1,5 +1,5 @@
 -- Sequences of numbers, and numbers as bytes.
-use Rattle.std.proofs.Common.{◌≡◌, ℕ, zero, suc, ◌+◌, ◌-◌, ◌*◌, ◌/◌, ◌<◌, ◌≤◌, Bool, true, false, cond, ◌&&◌, ◌==◌, List, [], ◌∷◌, ◌++◌, length, take, drop, refl, ap, sym, ◌∙◌, arith}
+use Rattle.std.proofs.Common.{◌≡◌, ℕ, zero, suc, ◌+◌, ◌-◌, ◌*◌, ◌<◌, ◌≤◌, Bool, true, false, cond, ◌&&◌, ◌==◌, List, [], ◌∷◌, ◌++◌, length, take, drop, refl, ap, sym, ◌∙◌, arith}
 use Rattle.std.specs.Prelude.{filter, flat_map}
 use Rattle.std.specs.List.{IsDistinct, list_all, range_with_len}
 use Rattle.std.proofs.lemmas.Bool.{ne_eqb}
@@ -45,10 +45,6 @@ list_all-picked f p test a (suc n) each =
     list_all-both q xs ys first second = list_all-append q xs ys ∙ ap (λ b. b && list_all q ys) first ∙ second
 
 -- ---- numbers in bytes
-
-pub length-little_endian : (k n : ℕ) → length (little_endian k n) ≡ k
-length-little_endian zero n = refl
-length-little_endian (suc k) n = ap suc (length-little_endian k (n / 256))
 
 pub two-bytes : (n : ℕ) → n < 65536 → number_of (little_endian 2 n) ≡ n
 two-bytes n small = omega arith

@@ -212,7 +212,7 @@ module _ (t : Tree) (s : IsSound t) (f : ℕ) (file : is_directory_at t f ≡ fa
           walks-named (follows_last follow) 32 _ _ (if is_absolute path then root else start) r more
           (elim (is_absolute path) as (λ b. cond b root start ≢ f) [ true ↦ other root s.root_is_directory | false ↦ apart ])
 
-one-walk : (o : Option Place) (place : Place) → Contains (cons_option o []) place → o ≡ Some place
+pub one-walk : (o : Option Place) (place : Place) → Contains (cons_option o []) place → o ≡ Some place
 one-walk None place has = absurd (none has.0 has.1)
   where
     none : (k : ℕ) → k < 0 → ⊥
@@ -223,7 +223,7 @@ one-walk (Some found) place has = ap Some (at has.0 has.1 has.2)
     at zero low there = there
     at (suc k) low there = absurd (omega arith)
 
-found-ok : (r : Walked) (place : Place) → place_found r ≡ Some place → r ≡ Ok place
+pub found-ok : (r : Walked) (place : Place) → place_found r ≡ Some place → r ≡ Ok place
 found-ok (Ok there) place is = let same : there ≡ place = cc is in ap Ok same
 found-ok (Err e) place is = cc is
 

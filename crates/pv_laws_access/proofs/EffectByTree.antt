@@ -1,5 +1,5 @@
 -- The effects of the calls that change the tree.
-use Rattle.std.proofs.Common.{◌≡◌, ℕ, zero, suc, ◌+◌, ℤ, true, false, not, ◌&&◌, ◌||◌, if◌then◌else◌, nat_lt, [], ◌∷◌, length, take, Option, None, Some, is_some, Ok, refl, ap}
+use Rattle.std.proofs.Common.{◌≡◌, ℕ, zero, suc, ◌+◌, ℤ, true, false, not, ◌&&◌, ◌||◌, if◌then◌else◌, nat_lt, [], ◌∷◌, length, take, Option, Some, is_some, Ok, refl, ap}
 use Rattle.std.specs.Prelude.{Contains}
 use Rattle.std.proofs.lemmas.Bool.{and_parts, not-false}
 use Rattle.pv_model.specs.declared.call.Call.{Call}
@@ -28,10 +28,7 @@ use Rattle.pv_laws_states.proofs.ByTree.{fine-place}
 use Rattle.pv_laws_states.proofs.Rests
 use Rattle.pv_laws_access.proofs.HasEffect.{WritesBy, HasEffect, stays, cuts, writes_bytes, makes, links, unlinks, renames, MayChange, Did, first-place, second-place, leads-judged, open_file_for-is}
 use Rattle.pv_model.specs.Walks.{Walk, from_here, mkdir_walk, symlink_walk, linked_walk, new_link_walk, unlink_walk, rmdir_walk, rename_walk}
-
-no_node : (o : Option ℕ) → is_some o ≡ false → o ≡ None
-no_node None is = refl
-no_node (Some n) is = cc
+use Rattle.pv_laws_trees.proofs.Generic.{not-there}
 
 -- a call that changes entries needs cpath and nothing else
 abbrev NeedsCpath : Call → Type 0
@@ -86,7 +83,7 @@ module _ (s : State) (pid : ℕ) (me : Process) where
       leads-refuse_if (D call) EEXIST (is_some (node_of place)) (Rests.make_2 s pid me node place) (λ free.
       leads-demand (D call) EEXIST (name_of place) (Rests.make_3 s pid me node) (λ p named.
       leads-room (D call) (with_tree s (with_new_node s.tree p.0 p.1 node)) (λ after. answers after 0) (λ short fit.
-      makes place p node (changing call follow path place p (among place found) text found allowed named need) (no_node (node_of place) free) bare))))
+      makes place p node (changing call follow path place p (among place found) text found allowed named need) (not-there (node_of place) free) bare))))
 
   pub does-mkdir : (path : Bytes) → Leads (D (TheCall.Mkdir path)) (mkdir s pid me path)
   does-mkdir path = does-make (TheCall.Mkdir path) KeepTrimmed (directory_node []) path (λ place found. first-place ends (mkdir_walk path) [] place (ap place_found found)) (λ is. is) refl (mkdir-needs path)

@@ -25,7 +25,7 @@ use Rattle.pv_laws_states.proofs.Ending.{mapped, sorted-mapped, found-mapped, ma
 use Rattle.pv_laws_states.proofs.Members.{live-found}
 use Rattle.pv_laws_states.proofs.Outcomes.{at_call, by_answer}
 use Rattle.pv_laws_states.proofs.Processes.{find-put_same, find-put_other}
-use Rattle.pv_laws_states.proofs.Collect.{files-collect, processes-collect}
+use Rattle.pv_laws_states.proofs.Collect.{files-collect, processes-collect, last-collect}
 use Rattle.pv_laws_states.proofs.Whole.{sorted-put_number}
 use Rattle.pv_laws_access.proofs.Changed.{entry-collect}
 use Rattle.pv_laws_access.proofs.Ends as Put
@@ -36,10 +36,6 @@ abbrev claim : ProcessRecord → Option ProcessRecord
 claim (live p) = Some (live p)
 claim (ended_record zero status) = None
 claim (ended_record (suc parent) status) = Some (ended_record (suc parent) status)
-
-last-collect : (s : State) → (collect s).last_process ≡ s.last_process
-unfolding collect
-last-collect s = refl
 
 module _ (s y : State) (pid : ℕ) (p me : Process) (status : ℕ) (whole : IsValid s) (at : process_at s pid ≡ Some p)
     (same_tree : y.tree ≡ s.tree) (same_files : y.files ≡ s.files) (same_last : y.last_process ≡ s.last_process) (ascending : is_sorted nat_cmp y.processes ≡ true)

@@ -19,8 +19,8 @@ use Rattle.pv_laws_trees.proofs.Above.{none-above_itself, ancestors-above}
 use Rattle.pv_laws_trees.proofs.Changes.{entries-good, directory-below, some-below, has_entry-directory}
 use Rattle.pv_laws_trees.proofs.Entries.{by_name, tied-same, tied_itself, find_after}
 use Rattle.pv_laws_trees.proofs.Trees.{sound, entry-parent}
+use Rattle.pv_laws_trees.proofs.NameOrder.{less_from}
 use Rattle.pv_laws_states.proofs.Running.{list_all-both}
-use Rattle.pv_laws_access.proofs.Next.{less-from}
 use Rattle.pv_laws_access.specs.Order.{led_to, path_of, by_names, Places, lines_at, IsListedBy}
 
 abbrev under : Bytes → Places → Places
@@ -88,7 +88,7 @@ module _ (t : Tree) where
     where
       by : (others : List Bytes) → begins_above k others ≡ true → is_lt (by_names (k ∷ names) others) ≡ true
       by [] is = cc is
-      by (other ∷ others) is = ap (λ o. is_lt (ordering_then o (by_names names others))) (less-from (by_name k other) is)
+      by (other ∷ others) is = ap (λ o. is_lt (ordering_then o (by_names names others))) (less_from (by_name k other) is)
 
   same-first : (k : Bytes) → by_name k k ≡ Equal
   same-first k = by (by_name k k) (tied_itself k)

@@ -13,9 +13,9 @@ use Rattle.pv_model.specs.Promises.{Promises}
 use Rattle.pv_model.specs.Sealed.{is_file}
 use Rattle.pv_model.specs.State.{Program, Process, State, process_at}
 use Rattle.pv_model.specs.Step.{step}
-use Rattle.pv_model.specs.Tree.{Node, Tree, node_at, is_directory, is_directory_at, find_entry, parent, IsAtOrAbove, itself, above}
+use Rattle.pv_model.specs.Tree.{Node, Tree, node_at, is_directory_at, find_entry, parent, IsAtOrAbove, itself, above}
 use Rattle.pv_model.specs.Unveil.{Table, permissions_at, Governs, own, from_above, judgement}
-use Rattle.pv_laws_trees.proofs.Changes.{has_entry-directory}
+use Rattle.pv_laws_trees.proofs.Changes.{has_entry-directory, directory_is_some}
 use Rattle.pv_laws_trees.proofs.Trees.{IsOrdered, parent-entry, ordered, sound, entry-parent}
 use Rattle.pv_laws_states.specs.States.{EncodesPrograms, IsValid}
 use Rattle.pv_laws_states.proofs.BySteps.{step-keeps_whole}
@@ -27,10 +27,6 @@ use Rattle.pv_laws_access.proofs.Brought.{IsMovedBy, names-moved}
 use Rattle.pv_laws_access.proofs.Confinement.{governed, governed-directory}
 use Rattle.pv_laws_access.proofs.Named.{names-given}
 use Rattle.pv_laws_access.specs.Moves.{IsRenamedTo, IsGivenName, by_rename, by_link, ComesFrom, it_governed, it_was_given, one_above_was_renamed, gives_any, GivesNothing, IsLeftWithout}
-
-there-directory : (o : Option Node) → is_directory o ≡ true → is_some o ≡ true
-there-directory None is = cc is
-there-directory (Some node) is = refl
 
 module _ (program_of : Bytes → Option Program) (encodes : EncodesPrograms program_of) (s : State) (pid : ℕ) (whole : IsValid s) (table : Table) where
   abbrev t : Tree
@@ -84,7 +80,7 @@ module _ (program_of : Bytes → Option Program) (encodes : EncodesPrograms prog
       }))
       (climbed up k (record { word = entry.0; node = d; found = same }) rest))
       (λ (differs : find_entry t up entry.0 ≢ Some d).
-      let there = there-directory (node_at t d) dir in
+      let there = directory_is_some (node_at t d) dir in
       inr (record {
         directory = d;
         over = itself;

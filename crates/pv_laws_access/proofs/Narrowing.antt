@@ -1,5 +1,5 @@
 -- Promises that are narrowed, and tables whose entries lose permissions.
-use Rattle.std.proofs.Common.{◌≡◌, ℕ, zero, suc, ◌+◌, Bool, true, false, cond, not, ◌&&◌, ◌||◌, ◌==◌, bytes_eq, bit_and, nat_le, nat_lt, List, [], ◌∷◌, ◌++◌, length, slice_get, slice_set, position, Option, None, Some, Result, Ok, Err, refl, ap, sym, subst, ◌∙◌, arith}
+use Rattle.std.proofs.Common.{◌≡◌, ℕ, zero, suc, ◌+◌, Bool, true, false, cond, not, ◌&&◌, ◌||◌, bit_and, nat_le, nat_lt, List, [], ◌∷◌, ◌++◌, length, slice_get, slice_set, position, Option, None, Some, Result, Ok, Err, refl, ap, sym, subst, ◌∙◌, arith}
 use Rattle.std.specs.Prelude.{find}
 use Rattle.std.specs.List.{position_or_len}
 use Rattle.std.specs.Int.Bits.{and_self}
@@ -11,7 +11,6 @@ use Rattle.pv_model.specs.declared.perms.Perms.{Perms}
 use Rattle.pv_model.specs.declared.promise.Promise.{Promise}
 use Rattle.pv_model.specs.declared.promise.Promise.TheVariants.{Stdio, Rpath, Wpath, Cpath, Proc, Exec, Unveil, Error, Dpath, Fattr, Chown, Flock, Unix, Inet, Mcast, Dns, Getpw, Sendfd, Recvfd, Tape, Tty, ProtExec, Settime, Ps, Vminfo, Id, Pf, Route, Wroute, Audio, Video, Bpf}
 use Rattle.pv_model.specs.declared.target.Target.{Target}
-use Rattle.pv_model.specs.declared.target.Target.TheVariants.{Directory, Name}
 use Rattle.pv_model.specs.Attempt.{refused, give, refuse}
 use Rattle.pv_model.specs.Calls.Restraints.{unless_refused, entries_of_table, add_entry}
 use Rattle.pv_model.specs.Perms.{covers}
@@ -20,7 +19,7 @@ use Rattle.pv_model.specs.Promises.{Promises, mask, contains, first_increase, un
 use Rattle.pv_model.specs.State.{Process}
 use Rattle.pv_model.specs.Unveil.{Table, same_target, entry_for, permissions_of, permissions_at, with_permissions}
 use Rattle.pv_laws_states.proofs.Attempts.{Leads}
-use Rattle.pv_laws_trees.proofs.Entries.{bytes_eq-same}
+use Rattle.pv_laws_trees.proofs.Targets.{same_target-same}
 use Rattle.pv_laws_access.specs.Growth.{GainsNone, IsLesserEntry, KeepsEntries, KeepsTable, MayDoNoMore, HasTheSame}
 
 -- ---- promises
@@ -179,14 +178,6 @@ table-along None b c ab bc = tt
 table-along (Some x) None c ab bc = absurd ab
 table-along (Some x) (Some y) None ab bc = absurd bc
 table-along (Some x) (Some y) (Some z) ab bc = keeps-along x y z ab bc
-
-same_target-same : (a b : Target) → same_target a b ≡ true → a ≡ b
-same_target-same (Directory d) (Directory e) is = ap Directory (eqb-true d e is)
-same_target-same (Directory d) (Name e name) is = cc
-same_target-same (Name d name) (Directory e) is = cc
-same_target-same (Name d name) (Name e other) is =
-    let parts = and_parts (d == e) (bytes_eq name other) is in
-    λ i. Name (eqb-true d e parts.0 i) (bytes_eq-same name other parts.1 i)
 
 -- the first element that passes passes
 first_passes : {X : Type 0} (test : X → Bool) (xs : List X) (x : X) → slice_get xs (position_or_len test xs) ≡ Some x → test x ≡ true

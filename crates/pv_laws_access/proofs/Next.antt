@@ -3,8 +3,6 @@ use Rattle.std.proofs.Common.{◌≡◌, ◌⊎◌, inl, inr, ℕ, ℤ, pos, neg
 use Rattle.std.proofs.lemmas.Bool.{and_parts}
 use Rattle.std.specs.FinMap.Entries.{find, is_sorted, below_all}
 use Rattle.std.specs.Ordering.{is_lt, eq_by_cmp}
-use Rattle.std.specs.declared.cmp.Ordering.{Ordering}
-use Rattle.std.specs.declared.cmp.Ordering.TheVariants.{Less, Equal, Greater}
 use Rattle.pv_model.specs.declared.call.Call.{Call}
 use Rattle.pv_model.specs.declared.call.Call.TheVariants as TheCall
 use Rattle.pv_model.specs.declared.errno.Errno.TheVariants.{EBADF, EINVAL}
@@ -25,6 +23,7 @@ use Rattle.pv_model.specs.Tree.{Entries, entries_at, is_directory_at}
 use Rattle.pv_laws_trees.proofs.Changes.{entries-good}
 use Rattle.pv_laws_trees.proofs.Entries.{by_name, tied-same, tied_itself, find_after}
 use Rattle.pv_laws_trees.proofs.Numbered.{at_number-below, with_number-same, keep-passes}
+use Rattle.pv_laws_trees.proofs.NameOrder.{less_from}
 use Rattle.pv_laws_states.specs.Held.{used}
 use Rattle.pv_laws_states.specs.States.{IsValid}
 use Rattle.pv_laws_states.proofs.ByFile.{open_file-at}
@@ -39,18 +38,13 @@ use Rattle.pv_laws_access.specs.Order.{IsLess, IsPast, IsReported, ReportsTheNex
 
 -- ---- the next name
 
-pub less-from : (o : Ordering) → is_lt o ≡ true → o ≡ Less
-less-from Less is = refl
-less-from Equal is = cc is
-less-from Greater is = cc is
-
 past-is_past : (last : Option Bytes) (name : Bytes) → IsPast last name → is_past last name ≡ true
 past-is_past None name past = refl
 past-is_past (Some l) name past = ap is_lt past
 
 is_past-past : (last : Option Bytes) (name : Bytes) → is_past last name ≡ true → IsPast last name
 is_past-past None name is = tt
-is_past-past (Some l) name is = less-from (by_name l name) is
+is_past-past (Some l) name is = less_from (by_name l name) is
 
 abbrev pub Among : Entries → Bytes → Type 0
 Among es name = (n : ℕ) × (find by_name name es ≡ Some n)
@@ -74,7 +68,7 @@ above-less : (q : Bytes) (es : Entries) (name : Bytes) → below_all by_name q e
 above-less q [] name below (n, is) = cc is
 above-less q (e ∷ es) name below has =
     let parts = and_parts (is_lt (by_name q e.0)) (below_all by_name q es) below in
-    let first : IsLess q e.0 = less-from (by_name q e.0) parts.0 in
+    let first : IsLess q e.0 = less_from (by_name q e.0) parts.0 in
     among-cases (IsLess q name) e es name has (λ same. ap (by_name q) same ∙ first) (λ there. above-less q es name parts.1 there)
 
 pub record IsLeastAmong (es : Entries) (last : Option Bytes) (name : Bytes) : Type 0 where
@@ -119,7 +113,7 @@ next-among last (e ∷ es) sorted =
 -- ---- the step
 
 -- the effect of a call whose promises are held
-answer-does : (program_of : Bytes → Option Program) (s : State) (pid : ℕ) (me : Process) (call : Call) → process_at s pid ≡ Some me → missing_promise me.promises (needs call) ≡ None
+pub answer-does : (program_of : Bytes → Option Program) (s : State) (pid : ℕ) (me : Process) (call : Call) → process_at s pid ≡ Some me → missing_promise me.promises (needs call) ≡ None
     → answer program_of s pid call ≡ answer_by_attempt s (at_call s pid me) pid (at_next_line me) (effect program_of (at_call s pid me) pid (at_next_line me) call)
 unfolding answer
 answer-does program_of s pid me call at held =

@@ -1,20 +1,19 @@
 -- A new entry of a table, and its setting.
-use Rattle.std.proofs.Common.{◌≡◌, ◌≢◌, ℕ, zero, suc, ◌+◌, ◌<◌, ◌≤◌, Bool, true, false, cond, if◌then◌else◌, not, ◌==◌, nat_le, nat_lt, bytes_eq, List, [], ◌∷◌, ◌++◌, length, slice_get, slice_set, position, Option, None, Some, refl, ap, sym, ◌∙◌, arith, ⊎_elim}
+use Rattle.std.proofs.Common.{◌≡◌, ◌≢◌, ℕ, zero, suc, ◌+◌, ◌<◌, ◌≤◌, Bool, true, false, cond, if◌then◌else◌, not, nat_le, nat_lt, List, [], ◌∷◌, ◌++◌, length, slice_get, slice_set, position, Option, None, Some, refl, ap, sym, ◌∙◌, arith, ⊎_elim}
 use Rattle.std.specs.List.{position_or_len}
-use Rattle.std.proofs.lemmas.Bool.{and_from, eq-eqb, lt-ltb, ltb-true, ltb-false, cases_lt}
+use Rattle.std.proofs.lemmas.Bool.{eq-eqb, lt-ltb, ltb-true, ltb-false, cases_lt}
 use Rattle.std.proofs.lemmas.List.Folds.{position_or_len_push}
-use Rattle.std.proofs.lemmas.Slice.Eq.{bytes_eq-Decides}
 use Rattle.pv_model.specs.declared.errno.Errno.TheVariants.{EPERM, E2BIG}
 use Rattle.pv_model.specs.declared.outcome.Cause.TheVariants.{Unveil as ByUnveil}
 use Rattle.pv_model.specs.declared.perms.Perms.{Perms}
 use Rattle.pv_model.specs.declared.target.Target.{Target}
-use Rattle.pv_model.specs.declared.target.Target.TheVariants.{Directory, Name}
 use Rattle.pv_model.specs.Answers.Settings.{Setting, set_at}
 use Rattle.pv_model.specs.Attempt.{refused, give, refuse}
 use Rattle.pv_model.specs.Calls.Restraints.{add_entry}
 use Rattle.pv_model.specs.Perms.{covers}
 use Rattle.pv_model.specs.Unveil.{Table, same_target, entry_for, permissions_at, with_permissions}
 use Rattle.pv_laws_states.proofs.Attempts.{Leads}
+use Rattle.pv_laws_trees.proofs.Targets.{same_target-itself}
 
 -- ---- the first element that passes a test
 
@@ -124,10 +123,6 @@ module _ {X : Type 0} where
 
 -- ---- tables
 
-pub same-target : (target : Target) → same_target target target ≡ true
-same-target (Directory d) = eq-eqb d d refl
-same-target (Name d name) = and_from (d == d) (bytes_eq name name) (eq-eqb d d refl) ((bytes_eq-Decides name name).1 refl)
-
 -- a table with an entry replaced or appended
 pub record IsAdded (old : Table) (target : Target) (permissions : Perms) (new : Table) : Type 0 where
   pub number : ℕ
@@ -144,7 +139,7 @@ leads-added old target permissions = by (entry_for old target) refl
         record {
           number = k;
           found = first-is (λ (e : Target × Perms). same_target e.0 target) (with_permissions old k target permissions) k
-              (first-set (λ (e : Target × Perms). same_target e.0 target) old k (target, permissions) (same-target target) first.0)
+              (first-set (λ (e : Target × Perms). same_target e.0 target) old k (target, permissions) (same_target-itself target) first.0)
               (let long = length-slice_set old k (target, permissions) in omega (arith, first.1, long));
           with = set-with old k (target, permissions) first.1;
         }
@@ -154,7 +149,7 @@ leads-added old target permissions = by (entry_for old target) refl
     appended none false = record {
       number = length old;
       found = first-is (λ (e : Target × Perms). same_target e.0 target) (old ++ (target, permissions) ∷ []) (length old)
-          (first-pushed (λ (e : Target × Perms). same_target e.0 target) old (target, permissions) (same-target target) (first-none (λ (e : Target × Perms). same_target e.0 target) old none))
+          (first-pushed (λ (e : Target × Perms). same_target e.0 target) old (target, permissions) (same_target-itself target) (first-none (λ (e : Target × Perms). same_target e.0 target) old none))
           (let long = length-pushed old (target, permissions) in omega (arith, long));
       with = pushed-with old (target, permissions);
     }

@@ -4,6 +4,7 @@ use Rattle.std.specs.Fmt.{decimal}
 use Rattle.std.specs.List.{list_any, position_from}
 use Rattle.std.proofs.lemmas.Fmt.{decimal_injective}
 use Rattle.std.proofs.lemmas.Iterator.Adapters.{position_from-zero}
+use Rattle.std.proofs.lemmas.Bool.{or_parts}
 use Rattle.pv_model.specs.Answers.Explain.{explained_step}
 use Rattle.pv_model.specs.Answers.Explore.{Found, Move, is_found, move, moves_of, states_found, is_complete, done_line}
 use Rattle.pv_model.specs.Answers.Graph.{unreported, tree_lines, number_found, leads_to_text, vertex_lines, graph_lines}
@@ -22,7 +23,7 @@ use Rattle.pv_laws_answers.proofs.Complete.{all-found}
 use Rattle.pv_laws_answers.proofs.Lists.{Among, each-among, among-map}
 use Rattle.pv_laws_answers.proofs.LiveOnes.{live-listed}
 use Rattle.pv_laws_answers.proofs.Marked.{front-plain, explained-plain, steps-plain, of_state, of_start, of_step}
-use Rattle.pv_laws_answers.proofs.Marks.{neither, none-append, none-weaker, past-unmarked, same-front, block, next-front, block-parts, find-block}
+use Rattle.pv_laws_answers.proofs.Marks.{none-append, none-weaker, past-unmarked, same-front, block, next-front, block-parts, find-block}
 use Rattle.pv_laws_answers.proofs.Reading.{reported-apart}
 use Rattle.pv_laws_answers.proofs.Searching.{Finished}
 use Rattle.pv_laws_answers.proofs.Sound.{IsSound, made-by, search-finished}
@@ -133,7 +134,7 @@ module _ (program_of : Bytes → Option Program) (limit : ℕ) (trees : Bool) (s
       (none-weaker ends_state begins_state starts (steps v.1 (moves_of program_of v.1)) (steps-plain program_of found v.1 (moves_of program_of v.1)))
     where
       starts : (l : AnswerLine) → ends_state l ≡ false → begins_state l ≡ false
-      starts l none = (neither (begins_state l) (is_last l) none).0
+      starts l none = (or_parts (begins_state l) (is_last l) none).0
 
   -- ---- parsed parts occur in the graph
 

@@ -43,8 +43,9 @@ use Rattle.pv_laws_access.proofs.Firsts.{first-missing-named}
 use Rattle.pv_laws_access.proofs.Pledged.{promise-refuses, promise-kills}
 use Rattle.pv_laws_access.proofs.Spared.{is_pledge}
 use Rattle.pv_laws_answers.specs.Reach.{is_by_sandbox, needs_with, is_some_letter, AsksAt, HasRoomToOpen, LeadsThere, opening}
-use Rattle.pv_laws_answers.proofs.Letters.{covers-r, covers-w, covers-x, covers-c, holds-needs, needs-holds, allows-all, all-allows, reached-parts, parts-reached}
+use Rattle.pv_laws_answers.proofs.Letters.{holds-needs, needs-holds, allows-all, all-allows, reached-parts, parts-reached}
 use Rattle.pv_laws_answers.proofs.LastLinks.{keeps-last}
+use Rattle.pv_laws_trees.proofs.Targets.{covers-r, covers-w, covers-x, covers-c}
 
 -- ---- outcomes
 

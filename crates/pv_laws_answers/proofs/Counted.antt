@@ -13,6 +13,7 @@ use Rattle.pv_model.specs.Step.{run}
 use Rattle.pv_laws_answers.specs.Counts.{IsAskedAt, IsLastWhere, IsPromiseCounted, IsTargetCounted, NoneWhere, goes_to, lines_of_calls, needed_promise, number_where, promise_texts_in, target_text_in, times, walks_of_calls}
 use Rattle.pv_laws_answers.specs.ProcessImages.{IsCallOf, Moment, letters_listed, moments, process_images_of, targets_listed, what_is_asked}
 use Rattle.pv_laws_answers.proofs.Listed.{first-in, in-cases, later-in, made-in, not-in, process_images-are, same-judged}
+use Rattle.pv_laws_trees.proofs.Generic.{flat-same}
 
 -- ---- elements that pass a test
 
@@ -176,10 +177,6 @@ module _ (process_image : List Moment) (target : Judged) (listed : Contains (tar
       }
 
 -- ---- the lines
-
-flat-same : {X Y : Type 0} (f g : X → List Y) → ((x : X) → f x ≡ g x) → (xs : List X) → flat_map f xs ≡ flat_map g xs
-flat-same f g same [] = refl
-flat-same f g same (x ∷ xs) = ap₂ (λ (ys zs : List _). ys ++ zs) (same x) (flat-same f g same xs)
 
 lines-counted : (pid k : ℕ) (groups : List (List Moment)) → flat_map (process_image_lines pid) (counted_from k (map what_is_asked groups)) ≡ flat_map (lines_of_calls pid) (counted_from k groups)
 lines-counted pid k [] = refl

@@ -1,5 +1,6 @@
 -- The lines on a path, compared with those of `explain`.
 use Rattle.std.proofs.Common.{◌≡◌, ◌∙◌, sym, ap, ap₂, subst, refl, ℕ, ◌+◌, false, not, ◌||◌, cond, List, [], ◌∷◌, ◌++◌, map, flat_map, filter, append_assoc, append-nil, codes, Option, None, Some, slice_get}
+use Rattle.std.proofs.lemmas.Bool.{or_parts}
 use Rattle.std.specs.List.{list_any}
 use Rattle.pv_model.specs.declared.call.Call.{Call}
 use Rattle.pv_model.specs.declared.call.Call.TheVariants as TheCall
@@ -21,7 +22,7 @@ use Rattle.pv_model.specs.Trace.{UnveilVerdict, entry_lacks, table_locked, asked
 use Rattle.pv_model.specs.Unveil.{permissions_at}
 use Rattle.pv_model.specs.Walks.{walks_of, walk_number}
 use Rattle.pv_laws_answers.specs.Graphs.{is_beside, explained_run, AreSameButSettings}
-use Rattle.pv_laws_answers.proofs.Marks.{neither, none-map, none-flat}
+use Rattle.pv_laws_answers.proofs.Marks.{none-map, none-flat}
 
 module _ (program_of : Bytes → Option Program) where
   abbrev Same : List AnswerLine → List AnswerLine → Type 0
@@ -172,7 +173,7 @@ without_beside ls = filter (λ l. not (is_beside l)) ls
 preserved-own : (ls rest : List AnswerLine) → list_any is_beside ls ≡ false → without_beside (ls ++ rest) ≡ ls ++ without_beside rest
 preserved-own [] rest none = refl
 preserved-own (l ∷ ls) rest none =
-    let parts = neither (is_beside l) (list_any is_beside ls) none in
+    let parts = or_parts (is_beside l) (list_any is_beside ls) none in
     ap (λ b. cond (not b) (l ∷ without_beside (ls ++ rest)) (without_beside (ls ++ rest))) parts.0 ∙ ap (λ ms. l ∷ ms) (preserved-own ls rest parts.1)
 
 location-beside : (pid : ℕ) (r : ProcessRecord) (rest : List AnswerLine) → without_beside (location_lines pid r ++ rest) ≡ without_beside rest

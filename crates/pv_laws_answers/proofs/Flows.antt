@@ -31,10 +31,11 @@ use Rattle.pv_model.specs.Unveil.{Table, entry_for, permissions_of, permissions_
 use Rattle.pv_model.proofs.Rights.{Governs-directory_rights, directory_rights-Governs}
 use Rattle.pv_laws_trees.specs.Tree.{IsSound}
 use Rattle.pv_laws_trees.proofs.Above.{entry-reached, IsBelow, at_root, one_below, reached-below}
-use Rattle.pv_laws_trees.proofs.Changes.{directory-below, node_at-same, node_at-other, has_entry-directory, still-there}
+use Rattle.pv_laws_trees.proofs.Changes.{directory-below, node_at-same, node_at-other, has_entry-directory, still-there, directory_is_some}
 use Rattle.pv_laws_trees.proofs.Edits.{new_number-free}
 use Rattle.pv_laws_trees.proofs.Numbered.{at_number-below}
 use Rattle.pv_laws_trees.proofs.Trees.{ordered, sound, parent-entry, parent-none_named, entry-parent}
+use Rattle.pv_laws_trees.proofs.Targets.{covers-c}
 use Rattle.pv_laws_states.specs.States.{is_call, EncodesPrograms, IsTree, IsFinePlace, IsValid}
 use Rattle.pv_laws_states.proofs.BySteps.{step-keeps_whole}
 use Rattle.pv_laws_states.proofs.ByTree.{named-place}
@@ -53,7 +54,7 @@ use Rattle.pv_laws_access.proofs.Promised.{equal-or_not}
 use Rattle.pv_laws_access.proofs.Touched.{touched}
 use Rattle.pv_laws_access.proofs.Invariant.{collect-there}
 use Rattle.pv_laws_answers.specs.OverTime.{place_in, letters_at, IsOwnStep, LettersOnlyGo, IsThereOrAbove, there as at_name, above_before, above_after, GivesNoC}
-use Rattle.pv_laws_answers.proofs.Letters.{gives-covers, covers-c, missing-first, need-has}
+use Rattle.pv_laws_answers.proofs.Letters.{gives-covers, missing-first, need-has}
 use Rattle.pv_laws_answers.proofs.Wants.{permitted}
 use Rattle.pv_laws_answers.specs.Wanted.{Permits}
 
@@ -235,10 +236,6 @@ kind-content t f bytes n = by (node_at t f) refl
         (λ other. ap is_directory (node_at-other t f (file_node executable bytes) n below other))
         (cases_eq n f)
 
-some-of : (o : Option Node) → is_directory o ≡ true → is_some o ≡ true
-some-of None is = cc is
-some-of (Some node) is = refl
-
 module _ (t : Tree) (n : ℕ) (old : is_some (node_at t n) ≡ true) where
   kind-new : (p : ℕ × Bytes) (node : Node) → is_directory_at t p.0 ≡ true → new_number t < length t.nodes → is_directory_at (with_new_node t p.0 p.1 node) n ≡ is_directory_at t n
   kind-new p node dir below =
@@ -277,7 +274,7 @@ module _ (s : State) (pid : ℕ) (me : Process) (call : Call) (whole : IsValid s
       let dir = directory-of place p from in
       let target = directory-of next q into in
       let first : is_directory_at (without_entry s.tree p.0 p.1) n ≡ is_directory_at s.tree n = kind-entries s.tree n old p _ dir in
-      let holds_it : is_directory_at (without_entry s.tree p.0 p.1) q.0 ≡ true = kind-entries s.tree q.0 (some-of (node_at s.tree q.0) target) p _ dir ∙ target in
+      let holds_it : is_directory_at (without_entry s.tree p.0 p.1) q.0 ≡ true = kind-entries s.tree q.0 (directory_is_some (node_at s.tree q.0) target) p _ dir ∙ target in
       kind-entries (without_entry s.tree p.0 p.1) n (still-there s.tree p.0 _ (directory-below s.tree p.0 dir) n old) q _ holds_it ∙ first
   kinds-by _ _ (HasEffect.opens flags place m k flagged allowed is fine written) tree = by flags.truncate
     where

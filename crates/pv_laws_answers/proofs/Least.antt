@@ -22,7 +22,7 @@ use Rattle.pv_laws_answers.proofs.Witnesses.{before-one_more, before-last, befor
 abbrev Earlier : Move → Move → Type 0
 Earlier m n = IsBefore m.witness n.witness
 
-to_later-append : {X : Type 0} (R : X → X → Type 0) (xs ys : List X) → EachToLater R xs → EachToLater R ys → ((x : X) → Among x xs → (y : X) → Among y ys → R x y) → EachToLater R (xs ++ ys)
+pub to_later-append : {X : Type 0} (R : X → X → Type 0) (xs ys : List X) → EachToLater R xs → EachToLater R ys → ((x : X) → Among x xs → (y : X) → Among y ys → R x y) → EachToLater R (xs ++ ys)
 to_later-append R [] ys a b c = b
 to_later-append R (x ∷ xs) ys a b c =
     (each-append (R x) xs ys a.0 (each-from_among (R x) ys (λ y h. c x (inl refl) y h)), to_later-append R xs ys a.1 b (λ z h. c z (inr h)))

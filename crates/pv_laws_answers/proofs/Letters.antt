@@ -13,18 +13,7 @@ use Rattle.pv_model.specs.State.{Process, State}
 use Rattle.pv_model.specs.Tree.{Tree}
 use Rattle.pv_model.specs.Unveil.{Table, permissions_at, judge_entry, governing_entry, judgement}
 use Rattle.pv_laws_answers.specs.Reach.{need_if, needs_with, is_some_letter}
-
-pub or-false : (b : Bool) → (b || false) ≡ b
-or-false true = refl
-or-false false = refl
-
-or-true : (b : Bool) → (b || true) ≡ true
-or-true true = refl
-or-true false = refl
-
-and-true : (b : Bool) → (b && true) ≡ b
-and-true true = refl
-and-true false = refl
+use Rattle.pv_laws_trees.proofs.Targets.{covers-r, covers-w, covers-x, covers-c}
 
 -- each permission of the second set is in the first
 pub record Gives (a b : Perms) : Type 0 where
@@ -53,31 +42,6 @@ covers-gives a b is =
 pub gives-covers : (a b : Perms) → Gives a b → covers a b ≡ true
 gives-covers a b g =
     and_from _ _ (and_from _ _ (and_from _ _ (unless-given a.r b.r g.r) (unless-given a.w b.w g.w)) (unless-given a.x b.x g.x)) (unless-given a.c b.c g.c)
-
--- a single permission
-pub covers-r : (a : Perms) → covers a permission_r ≡ a.r
-covers-r a = by a.r a.w a.x a.c
-  where
-    by : (r w x c : Bool) → ((r || false) && (w || true) && (x || true) && (c || true)) ≡ r
-    by r w x c = simp (or-false, or-true, and-true)
-
-pub covers-w : (a : Perms) → covers a permission_w ≡ a.w
-covers-w a = by a.r a.w a.x a.c
-  where
-    by : (r w x c : Bool) → ((r || true) && (w || false) && (x || true) && (c || true)) ≡ w
-    by r w x c = simp (or-false, or-true, and-true)
-
-pub covers-x : (a : Perms) → covers a permission_x ≡ a.x
-covers-x a = by a.r a.w a.x a.c
-  where
-    by : (r w x c : Bool) → ((r || true) && (w || true) && (x || false) && (c || true)) ≡ x
-    by r w x c = simp (or-false, or-true, and-true)
-
-pub covers-c : (a : Perms) → covers a permission_c ≡ a.c
-covers-c a = by a.r a.w a.x a.c
-  where
-    by : (r w x c : Bool) → ((r || true) && (w || true) && (x || true) && (c || false)) ≡ c
-    by r w x c = simp (or-false, or-true)
 
 -- ---- promises
 

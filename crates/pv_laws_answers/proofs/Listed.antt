@@ -9,8 +9,6 @@ use Rattle.pv_model.specs.declared.call.Call.TheVariants as TheCall
 use Rattle.pv_model.specs.declared.perms.Perms.{Perms}
 use Rattle.pv_model.specs.declared.place.Place.{Place}
 use Rattle.pv_model.specs.declared.promise.Promise.{Promise}
-use Rattle.pv_model.specs.declared.target.Target.{Target}
-use Rattle.pv_model.specs.declared.target.Target.TheVariants.{Directory, Name}
 use Rattle.pv_model.specs.Answers.Needs.{Judged, Asked, asked, asked_in, and_asked, asked_by_one, process_images, onto_process_image, same_promise, needing, same_judged, walks_judged, targets_in, walks_to, permissions_asked, judged, judged_at, judged_walks}
 use Rattle.pv_model.specs.Answers.Nodes.{target_words}
 use Rattle.pv_model.specs.Bytes.{Bytes}
@@ -24,8 +22,8 @@ use Rattle.pv_model.specs.Walk.{Walked}
 use Rattle.pv_model.specs.Walks.{Walk, walks_of, walk_number}
 use Rattle.pv_laws_states.specs.Courses.{is_unveil}
 use Rattle.pv_laws_answers.specs.ProcessImages.{Moment, and_moment, moments, onto_moments, process_images_of, what_is_asked, IsCallOf, IsMadeIn, IsListed, targets_listed, letters_listed}
-use Rattle.pv_laws_answers.proofs.Added.{same-target}
 use Rattle.pv_laws_answers.proofs.Letters.{Gives}
+use Rattle.pv_laws_trees.proofs.Targets.{same_target-same, same_target-itself}
 
 -- ---- membership
 
@@ -168,19 +166,12 @@ promise-listed process_image m a has needs =
 
 -- ---- listed targets
 
-pub target-same : (a b : Target) → same_target a b ≡ true → a ≡ b
-target-same (Directory d) (Directory e) is = ap Directory (eqb-true d e is)
-target-same (Directory d) (Name e name) is = cc is
-target-same (Name d name) (Directory e) is = cc is
-target-same (Name d name) (Name e other) is =
-    let parts = and_parts (d == e) (bytes_eq name other) is in λ i. Name (eqb-true d e parts.0 i) ((bytes_eq-Decides name other).0 parts.1 i)
-
 judged-same : (a b : Judged) → same_judged a b ≡ true → (a.target ≡ b.target) × (a.words ≡ b.words)
-judged-same a b is = let parts = and_parts (same_target a.target b.target) (bytes_eq a.words b.words) is in (target-same a.target b.target parts.0, (bytes_eq-Decides a.words b.words).0 parts.1)
+judged-same a b is = let parts = and_parts (same_target a.target b.target) (bytes_eq a.words b.words) is in (same_target-same a.target b.target parts.0, (bytes_eq-Decides a.words b.words).0 parts.1)
 
 pub same-judged : (a b : Judged) → a.target ≡ b.target → a.words ≡ b.words → same_judged a b ≡ true
 same-judged a b target words =
-    and_from (same_target a.target b.target) (bytes_eq a.words b.words) (ap (same_target a.target) (sym target) ∙ same-target a.target) ((bytes_eq-Decides a.words b.words).1 words)
+    and_from (same_target a.target b.target) (bytes_eq a.words b.words) (ap (same_target a.target) (sym target) ∙ same_target-itself a.target) ((bytes_eq-Decides a.words b.words).1 words)
 
 -- a target that is listed for a walk
 record HasTarget (ws : List (ℕ × Judged)) (j : Judged) : Type 0 where

@@ -1,6 +1,6 @@
 -- Membership in lists, and properties of all elements.
-use Rattle.std.proofs.Common.{◌≡◌, ◌∙◌, sym, ap, subst, Bool, true, false, ◌||◌, ◌&&◌, List, [], ◌∷◌, ◌++◌, map, flat_map, filter, cond, length, slice_get, None, Some, ◌⊎◌, inl, inr, refl}
-use Rattle.std.specs.List.{AllByRecursion, list_any, list_all}
+use Rattle.std.proofs.Common.{◌≡◌, ◌∙◌, sym, ap, subst, Bool, true, false, ◌||◌, ◌&&◌, List, [], ◌∷◌, ◌++◌, map, flat_map, filter, cond, length, slice_get, None, Some, ◌⊎◌, inl, inr, refl, Option}
+use Rattle.std.specs.List.{AllByRecursion, list_any, list_all, cons_option, filter_map}
 
 module _ {X : Type 0} where
   abbrev pub Among : X → List X → Type 0
@@ -143,3 +143,22 @@ module _ {X Y : Type 0} (f : X → List Y) where
       by : (Among y (flat_map f xs) → (z : X) × Among z xs × Among y (f z)) → Among y (f x) ⊎ Among y (flat_map f xs) → (z : X) × Among z (x ∷ xs) × Among y (f z)
       by rest (inl k) = (x, inl refl, k)
       by rest (inr k) = let r = rest k in (r.0, inr r.1, r.2)
+
+-- an element that a partial function maps to a value is counted in its image
+pub among-filter_map : {X Y : Type 0} (g : X → Option Y) (x : X) (y : Y) (xs : List X) → Among x xs → g x ≡ Some y → Among y (filter_map g xs)
+among-filter_map {X} {Y} g x y [] h is = absurd h
+among-filter_map {X} {Y} g x y (z ∷ zs) (inl e) is = subst (λ (o : Option Y). Among y (cons_option o (filter_map g zs))) (sym is ∙ ap g e) (inl refl)
+among-filter_map {X} {Y} g x y (z ∷ zs) (inr h) is = by (g z) (among-filter_map g x y zs h is)
+  where
+    by : (o : Option Y) → Among y (filter_map g zs) → Among y (cons_option o (filter_map g zs))
+    by None later = later
+    by (Some w) later = inr later
+
+pub filter_map-among : {X Y : Type 0} (g : X → Option Y) (y : Y) (xs : List X) → Among y (filter_map g xs) → (x : X) × Among x xs × (g x ≡ Some y)
+filter_map-among {X} {Y} g y [] h = absurd h
+filter_map-among {X} {Y} g y (x ∷ xs) h = by (g x) refl h (filter_map-among g y xs)
+  where
+    by : (o : Option Y) → g x ≡ o → Among y (cons_option o (filter_map g xs)) → (Among y (filter_map g xs) → (z : X) × Among z xs × (g z ≡ Some y)) → (z : X) × Among z (x ∷ xs) × (g z ≡ Some y)
+    by None is k later = let r = later k in (r.0, inr r.1, r.2)
+    by (Some w) is (inl e) later = (x, inl refl, is ∙ ap (λ v. Some v) (sym e))
+    by (Some w) is (inr k) later = let r = later k in (r.0, inr r.1, r.2)

@@ -1,5 +1,6 @@
 -- The lines of a graph that begin a state or a step, or are the last.
 use Rattle.std.proofs.Common.{◌≡◌, ap₂, refl, ℕ, Bool, true, false, ◌||◌, List, [], ◌∷◌, ◌++◌, map, flat_map, codes, Option, None, Some}
+use Rattle.std.proofs.lemmas.Bool.{or_parts}
 use Rattle.std.specs.List.{list_any}
 use Rattle.pv_model.specs.declared.call.Call.{Call}
 use Rattle.pv_model.specs.Answer.{Answered, answer}
@@ -18,7 +19,7 @@ use Rattle.pv_model.specs.Program.{Next, inside, calls_for, next}
 use Rattle.pv_model.specs.State.{Program, Process, ProcessRecord, live, ended_record, State, process_at}
 use Rattle.pv_model.specs.Trace.{Word, call_word, nami_word, pldg_word, unvl_word, gio_word, ret_word, psig_word, wait_word, gone_word, call_lines}
 use Rattle.pv_laws_answers.specs.Graphs.{begins_state, begins_step, is_last, ends_state, ends_step}
-use Rattle.pv_laws_answers.proofs.Marks.{neither, none-append, none-map, none-flat, none-weaker}
+use Rattle.pv_laws_answers.proofs.Marks.{none-append, none-map, none-flat, none-weaker}
 
 -- ---- lines of `state`, `ls` and `reach`
 
@@ -98,13 +99,13 @@ module _ (program_of : Bytes → Option Program) (source : ℕ → Bytes) (s : S
 -- ---- lines without marks
 
 pub of_state : (l : AnswerLine) → ends_step l ≡ false → ends_state l ≡ false
-of_state l none = (neither (begins_step l) (ends_state l) none).1
+of_state l none = (or_parts (begins_step l) (ends_state l) none).1
 
 pub of_start : (l : AnswerLine) → ends_step l ≡ false → begins_state l ≡ false
-of_start l none = (neither (begins_state l) (is_last l) (of_state l none)).0
+of_start l none = (or_parts (begins_state l) (is_last l) (of_state l none)).0
 
 pub of_step : (l : AnswerLine) → ends_step l ≡ false → begins_step l ≡ false
-of_step l none = (neither (begins_step l) (ends_state l) none).0
+of_step l none = (or_parts (begins_step l) (ends_state l) none).0
 
 -- the lines of a state's steps begin no state
 pub steps-plain : (program_of : Bytes → Option Program) (found : List Found) (f : Found) (ms : List Move) → list_any ends_state (flat_map (step_lines program_of found f) ms) ≡ false

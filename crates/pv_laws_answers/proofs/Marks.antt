@@ -3,11 +3,8 @@ use Rattle.std.proofs.Common.{◌≡◌, ◌∙◌, sym, ap, ap₂, refl, Bool, 
 use Rattle.std.specs.List.{list_any}
 use Rattle.std.proofs.lemmas.List.Folds.{list_any-append}
 use Rattle.std.proofs.lemmas.Grind.{flat_map-append}
+use Rattle.std.proofs.lemmas.Bool.{or_parts}
 use Rattle.pv_laws_answers.proofs.Lists.{Among}
-
-pub neither : (a b : Bool) → (a || b) ≡ false → (a ≡ false) × (b ≡ false)
-neither true b is = let bad : true ≡ false = is in cc bad
-neither false b is = (refl, is)
 
 -- an element of a list is between others
 pub among-between : {X : Type 0} (x : X) (xs : List X) → Among x xs → (before : List X) × (after : List X) × (xs ≡ before ++ (x ∷ after))
@@ -31,7 +28,7 @@ module _ {X : Type 0} (p : X → Bool) where
 
   pub none-weaker : (q : X → Bool) → ((x : X) → p x ≡ false → q x ≡ false) → (xs : List X) → list_any p xs ≡ false → list_any q xs ≡ false
   none-weaker q weaker [] none = refl
-  none-weaker q weaker (x ∷ xs) none = let parts = neither (p x) (list_any p xs) none in ap₂ (λ a b. a || b) (weaker x parts.0) (none-weaker q weaker xs parts.1)
+  none-weaker q weaker (x ∷ xs) none = let parts = or_parts (p x) (list_any p xs) none in ap₂ (λ a b. a || b) (weaker x parts.0) (none-weaker q weaker xs parts.1)
 
   -- ---- the position of a mark
 
@@ -41,12 +38,12 @@ module _ {X : Type 0} (p : X → Bool) where
   past-unmarked [] ys before h rest none is same = (before, refl, same)
   past-unmarked (x ∷ xs) ys [] h rest none is same =
       let first : x ≡ h = cc same in
-      let parts = neither (p x) (list_any p xs) none in
+      let parts = or_parts (p x) (list_any p xs) none in
       let both : true ≡ false = sym is ∙ ap p (sym first) ∙ parts.0 in absurd (cc both)
   past-unmarked (x ∷ xs) ys (b ∷ before) h rest none is same =
       let first : x ≡ b = cc same in
       let tail : xs ++ ys ≡ before ++ (h ∷ rest) = cc same in
-      let on = past-unmarked xs ys before h rest (neither (p x) (list_any p xs) none).1 is tail in
+      let on = past-unmarked xs ys before h rest (or_parts (p x) (list_any p xs) none).1 is tail in
       (on.0, ap₂ (λ z (zs : List X). z ∷ zs) (sym first) on.1, on.2)
 
   -- two decompositions agree up to the first mark
@@ -54,14 +51,14 @@ module _ {X : Type 0} (p : X → Bool) where
   same-front [] ys [] vs y v none none' is is' same = refl
   same-front [] ys (u ∷ us) vs y v none none' is is' same =
       let first : y ≡ u = cc same in
-      let both : true ≡ false = sym is ∙ ap p first ∙ (neither (p u) (list_any p us) none').0 in absurd (cc both)
+      let both : true ≡ false = sym is ∙ ap p first ∙ (or_parts (p u) (list_any p us) none').0 in absurd (cc both)
   same-front (x ∷ xs) ys [] vs y v none none' is is' same =
       let first : x ≡ v = cc same in
-      let both : true ≡ false = sym is' ∙ ap p (sym first) ∙ (neither (p x) (list_any p xs) none).0 in absurd (cc both)
+      let both : true ≡ false = sym is' ∙ ap p (sym first) ∙ (or_parts (p x) (list_any p xs) none).0 in absurd (cc both)
   same-front (x ∷ xs) ys (u ∷ us) vs y v none none' is is' same =
       let first : x ≡ u = cc same in
       let tail : xs ++ (y ∷ ys) ≡ us ++ (v ∷ vs) = cc same in
-      ap₂ (λ z (zs : List X). z ∷ zs) first (same-front xs ys us vs y v (neither (p x) (list_any p xs) none).1 (neither (p u) (list_any p us) none').1 is is' tail)
+      ap₂ (λ z (zs : List X). z ∷ zs) first (same-front xs ys us vs y v (or_parts (p x) (list_any p xs) none).1 (or_parts (p u) (list_any p us) none').1 is is' tail)
 
 -- ---- blocks, each with a line in front
 

@@ -53,8 +53,9 @@ use Rattle.pv_laws_answers.specs.ProcessImages.{Moment, IsCallOf, is_counted_for
 use Rattle.pv_laws_answers.specs.Wanted.{HasAllNeeds, reports_need, reports_of_table}
 use Rattle.pv_laws_answers.proofs.Asking.{met-answer, along-one, walks-reported}
 use Rattle.pv_laws_answers.proofs.Letters.{Gives, covers-gives, gives-covers}
-use Rattle.pv_laws_answers.proofs.Listed.{in-cases, not-in, first-in, later-in, made-in, promise-listed, target-same, IsJudgedListed, judged-listed, judged-of, walk-judged, IsWalkJudged, judged-walk}
+use Rattle.pv_laws_answers.proofs.Listed.{in-cases, not-in, first-in, later-in, made-in, promise-listed, IsJudgedListed, judged-listed, judged-of, walk-judged, IsWalkJudged, judged-walk}
 use Rattle.pv_laws_answers.proofs.Wants.{has-all, want-reported, lines-of, is_by_table, table-lines, beyond-allowed, last-decides, allowed-silent, refused-reported, along-walks, at-most-one}
+use Rattle.pv_laws_trees.proofs.Targets.{same_target-same}
 
 -- ---- the next step is the same
 
@@ -559,7 +560,7 @@ module _ (program_of : Bytes → Option Program) (s : State) (pid : ℕ) (p : Pr
 
           by : (b : Bool) → same_target (target_of s.tree place) judged.target ≡ b → by_entry (judgement s.tree (Some table) place w.needed)
           by true here =
-              of (judged-by s.tree table place w.needed k (ap (governing_target s.tree table) (target-same (target_of s.tree place) judged.target here) ∙ gives.governs))
+              of (judged-by s.tree table place w.needed k (ap (governing_target s.tree table) (same_target-same (target_of s.tree place) judged.target here) ∙ gives.governs))
               (covers (permissions_at table k) w.needed) refl
           by false elsewhere =
               let l = listed number w place few found end in

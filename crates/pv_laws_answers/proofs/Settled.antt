@@ -3,6 +3,7 @@ use Rattle.std.proofs.Common.{◌≡◌, ◌≢◌, ℕ, zero, suc, ◌≤◌, B
 use Rattle.std.specs.FinMap.Entries.{put}
 use Rattle.std.specs.Ordering.{nat_cmp}
 use Rattle.std.proofs.lemmas.Bool.{ne_eqb, eq-eqb, cases_eq}
+use Rattle.std.proofs.Math.Bool.{or-false}
 use Rattle.pv_model.specs.declared.call.Call.{Call}
 use Rattle.pv_model.specs.declared.call.Call.TheVariants as TheCall
 use Rattle.pv_model.specs.declared.outcome.Outcome.{Outcome}
@@ -37,7 +38,6 @@ use Rattle.pv_laws_access.specs.Origins.{origin}
 use Rattle.pv_laws_access.proofs.Provenance.{heirs}
 use Rattle.pv_laws_answers.specs.Settings.{HasNoTables, settings_along, SetsEntry, begins_by, begins_program_of, StaysSet, WasSet}
 use Rattle.pv_laws_answers.proofs.Added.{IsWith, set_at-with, with-length}
-use Rattle.pv_laws_answers.proofs.Letters.{or-false}
 use Rattle.pv_laws_answers.proofs.Unveiled.{HasUnveiled, IsNoValue, UnveilLeft, unveil-left, fork-born}
 
 -- ---- settings of one process

@@ -3,6 +3,7 @@ use Rattle.std.proofs.Common.{◌≡◌, ◌↔◌, inl, inr, ℕ, zero, suc, �
 use Rattle.std.specs.Prelude.{take}
 use Rattle.std.specs.List.{list_any, list_all}
 use Rattle.std.proofs.lemmas.Bool.{cases_eq, cases_lt, and_parts}
+use Rattle.std.proofs.Math.Bool.{or-false}
 use Rattle.pv_model.specs.declared.call.Call.{Call}
 use Rattle.pv_model.specs.declared.call.Call.TheVariants as TheCall
 use Rattle.pv_model.specs.declared.errno.Errno.{Errno}
@@ -45,7 +46,6 @@ use Rattle.pv_laws_access.proofs.Pledged.{promise-refuses, promise-kills}
 use Rattle.pv_laws_access.proofs.Spared.{is_of_promise}
 use Rattle.pv_laws_answers.specs.Wanted.{is_want, reports_need, HasAllNeeds, is_of_table_line, reports_of_table, Permits, HasTableLine}
 use Rattle.pv_laws_answers.proofs.Asking.{along-one, walks-reported}
-use Rattle.pv_laws_answers.proofs.Letters.{or-false}
 
 -- ---- promises that are met
 

@@ -1,12 +1,12 @@
 -- Open files under two numberings.
 use Rattle.std.proofs.Common.{◌≡◌, ◌≢◌, ℕ, zero, suc, ◌<◌, ◌≤◌, true, false, ◌==◌, if◌then◌else◌, nat_le, List, [], ◌∷◌, map, length, Option, None, Some, is_some, refl, ap, sym, subst, ◌∙◌, ⊎_elim, arith, suc-le-suc, le_of_suc-le-suc, zero-le}
 use Rattle.std.proofs.lemmas.Bool.{leb-false, cases_eq, eq-eqb, ne_eqb, le-leb, leb-true}
+use Rattle.std.specs.Cmp.{both_ways}
 use Rattle.pv_model.specs.Held.{among}
 use Rattle.pv_model.specs.Numbered.{Numbered, at_number, with_number, without_number, least_free, present, keep}
 use Rattle.pv_model.specs.State.{OpenFile}
 use Rattle.pv_laws_trees.proofs.Numbered.{at_number-below, length-with_number, with_number-same, with_number-other, with_number-same_within, with_number-other_within, without_number-other, least_free-free, least_free-within, least_free-below, present-all, keep-some, keep-passes, length-keep}
 use Rattle.pv_laws_states.proofs.Members.{among-present, present-at}
-use Rattle.pv_laws_steps.proofs.HeldApart.{same-truth}
 use Rattle.pv_laws_classes.proofs.Lists.{among-map, map-among}
 
 -- ---- the number of values
@@ -67,7 +67,7 @@ pub record Matches (f : ℕ → ℕ) (fs gs : Numbered OpenFile) : Type 0 where
 module _ (f : ℕ → ℕ) (fs gs : Numbered OpenFile) (matches : Matches f fs gs) where
   -- the table of open files is full in both, or in neither
   pub full-matches : nat_le 128 (least_free gs) ≡ nat_le 128 (least_free fs)
-  full-matches = same-truth (nat_le 128 (least_free gs)) (nat_le 128 (least_free fs)) back there
+  full-matches = both_ways (nat_le 128 (least_free gs)) (nat_le 128 (least_free fs)) back there
     where
       there : nat_le 128 (least_free fs) ≡ true → nat_le 128 (least_free gs) ≡ true
       there is =
@@ -88,7 +88,7 @@ module _ (f : ℕ → ℕ) (fs gs : Numbered OpenFile) (matches : Matches f fs g
   -- the same nodes have open files
   pub nodes-match : (n : ℕ) → among (map (λ (x : OpenFile). x.node) (present gs)) n ≡ among (map (λ (x : OpenFile). x.node) (present fs)) n
   nodes-match n =
-      same-truth (among (map (λ (x : OpenFile). x.node) (present gs)) n) (among (map (λ (x : OpenFile). x.node) (present fs)) n)
+      both_ways (among (map (λ (x : OpenFile). x.node) (present gs)) n) (among (map (λ (x : OpenFile). x.node) (present fs)) n)
       (λ is.
       let found = present-at (λ (x : OpenFile). x.node) gs n is in
       let had = matches.onto found.0 found.1 found.2 in

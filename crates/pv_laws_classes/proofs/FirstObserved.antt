@@ -1,7 +1,8 @@
 -- What is observed of the steps of two complete searches, of all states and of classes: the same items with the same first
 -- steps.
-use Rattle.std.proofs.Common.{◌≡◌, ◌∙◌, sym, ap, subst, ℕ, Bool, true, false, not, ◌&&◌, ◌==◌, if◌then◌else◌, bytes_eq, List, [], ◌∷◌, ◌++◌, length, map, flat_map, filter, filter_map, codes, Option, None, Some, is_some, ◌⊎◌, inl, inr, refl, arith}
-use Rattle.std.specs.List.{cons_option, list_any}
+use Rattle.std.proofs.Common.{◌≡◌, ◌∙◌, sym, ap, subst, ℕ, Bool, true, false, not, ◌&&◌, ◌==◌, if◌then◌else◌, bytes_eq, List, [], ◌∷◌, ◌++◌, length, map, flat_map, filter, codes, Option, is_some, ◌⊎◌, inl, inr, refl, arith}
+use Rattle.std.specs.List.{list_any}
+use Rattle.std.specs.Cmp.{both_ways}
 use Rattle.pv_model.specs.Answers.Access.{Access, accesses, lines_of_accesses, file_read, reported_accesses, files_read, is_unread, unread_files, unread_line, access_lines}
 use Rattle.pv_model.specs.Answers.Explore.{Found, Move, move, moves_of, states_found, is_complete, new_ones, states_line}
 use Rattle.pv_model.specs.Answers.Files.{named_files}
@@ -16,9 +17,8 @@ use Rattle.pv_model.specs.Tree.{root, find_entry}
 use Rattle.pv_laws_trees.proofs.Entries.{bytes_eq-same, bytes_eq-itself}
 use Rattle.pv_laws_states.specs.States.{EncodesPrograms}
 use Rattle.pv_laws_states.proofs.BySteps.{step-keeps_whole}
-use Rattle.pv_laws_steps.proofs.HeldApart.{same-truth}
 use Rattle.pv_laws_answers.specs.Search.{IsSearched}
-use Rattle.pv_laws_answers.proofs.Lists.{Among, among-any, any-among, among-map, map-among, among-flat, flat-among}
+use Rattle.pv_laws_answers.proofs.Lists.{Among, among-any, any-among, among-map, map-among, among-flat, flat-among, among-filter_map, filter_map-among}
 use Rattle.pv_laws_answers.proofs.New.{new-came, new-like}
 use Rattle.pv_laws_answers.proofs.Reading.{same-state_numbers}
 use Rattle.pv_laws_answers.proofs.Sound.{IsSound, made-by}
@@ -201,28 +201,9 @@ same-accesses program_of limit other s it it' complete complete' =
 
 -- ---- unread files
 
--- an element that a partial function maps to a value is counted in its image
-among-filter_map : {X Y : Type 0} (g : X → Option Y) (x : X) (y : Y) (xs : List X) → Among x xs → g x ≡ Some y → Among y (filter_map g xs)
-among-filter_map {X} {Y} g x y [] h is = absurd h
-among-filter_map {X} {Y} g x y (z ∷ zs) (inl e) is = subst (λ (o : Option Y). Among y (cons_option o (filter_map g zs))) (sym is ∙ ap g e) (inl refl)
-among-filter_map {X} {Y} g x y (z ∷ zs) (inr h) is = by (g z) (among-filter_map g x y zs h is)
-  where
-    by : (o : Option Y) → Among y (filter_map g zs) → Among y (cons_option o (filter_map g zs))
-    by None later = later
-    by (Some w) later = inr later
-
-filter_map-among : {X Y : Type 0} (g : X → Option Y) (y : Y) (xs : List X) → Among y (filter_map g xs) → (x : X) × Among x xs × (g x ≡ Some y)
-filter_map-among {X} {Y} g y [] h = absurd h
-filter_map-among {X} {Y} g y (x ∷ xs) h = by (g x) refl h (filter_map-among g y xs)
-  where
-    by : (o : Option Y) → g x ≡ o → Among y (cons_option o (filter_map g xs)) → (Among y (filter_map g xs) → (z : X) × Among z xs × (g z ≡ Some y)) → (z : X) × Among z (x ∷ xs) × (g z ≡ Some y)
-    by None is k later = let r = later k in (r.0, inr r.1, r.2)
-    by (Some w) is (inl e) later = (x, inl refl, is ∙ ap (λ v. Some v) (sym e))
-    by (Some w) is (inr k) later = let r = later k in (r.0, inr r.1, r.2)
-
 -- lists with the same elements
 same-among : (ms ns : List ℕ) → ((n : ℕ) → Among n ms → Among n ns) → ((n : ℕ) → Among n ns → Among n ms) → (n : ℕ) → list_any (λ m. m == n) ms ≡ list_any (λ m. m == n) ns
-same-among ms ns there back n = same-truth (list_any (λ m. m == n) ms) (list_any (λ m. m == n) ns) (λ is. to ms ns there is) (λ is. to ns ms back is)
+same-among ms ns there back n = both_ways (list_any (λ m. m == n) ms) (list_any (λ m. m == n) ns) (λ is. to ms ns there is) (λ is. to ns ms back is)
   where
     to : (ms ns : List ℕ) → ((n : ℕ) → Among n ms → Among n ns) → list_any (λ m. m == n) ms ≡ true → list_any (λ m. m == n) ns ≡ true
     to ms ns there is = let found = among-any (λ m. m == n) ms is in any-among (λ m. m == n) found.0 ns (there found.0 found.1) found.2

@@ -8,10 +8,9 @@ use Rattle.pv_model.specs.Calls.Processes.{adopt, is_unclaimed, adopter, adopt_o
 use Rattle.pv_model.specs.Held.{among, held_by_process, collect}
 use Rattle.pv_model.specs.Numbered.{Numbered, at_number, present, keep}
 use Rattle.pv_model.specs.State.{OpenFile, Descriptor, Process, ProcessRecord, live, ended_record, State, live_process, process_at, with_process}
-use Rattle.pv_model.specs.Tree.{Tree, root, named_numbers}
-use Rattle.pv_laws_trees.specs.Preserved.{preserved, wanted}
-use Rattle.pv_laws_trees.proofs.Keeping.{wanted-is}
-use Rattle.pv_laws_trees.proofs.Numbered.{keep-agree, keep-passes}
+use Rattle.pv_laws_trees.specs.Preserved.{preserved}
+use Rattle.pv_laws_trees.proofs.Keeping.{preserved-agree}
+use Rattle.pv_laws_trees.proofs.Numbered.{keep-passes}
 use Rattle.pv_laws_states.specs.Held.{used}
 use Rattle.pv_laws_states.proofs.Collect.{held_after}
 use Rattle.pv_laws_states.proofs.Members.{all_of, present-at, among-used}
@@ -88,11 +87,6 @@ module _ (f : ℕ → ℕ) (gs : Numbered OpenFile) where
       gone = put nat_cmp pid (ended_record me.parent status) x.processes
 
 -- ---- collection
-
-preserved-agree : (t : Tree) (ms ns : List ℕ) → ((n : ℕ) → among ms n ≡ among ns n) → preserved t ms ≡ preserved t ns
-preserved-agree t ms ns agree =
-    ap (λ nodes. record t { nodes = nodes }) (keep-agree (among (wanted t ms)) (among (wanted t ns)) t.nodes
-    (λ n. wanted-is t ms n ∙ ap (λ b. (root == n) || (among (named_numbers t) n || b)) (agree n) ∙ sym (wanted-is t ns n)))
 
 module _ (f : ℕ → ℕ) (gs : Numbered OpenFile) (x : State) (fits : Fits f gs x) where
   abbrev y : State

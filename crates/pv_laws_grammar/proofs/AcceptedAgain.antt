@@ -4,7 +4,7 @@ use Rattle.std.specs.Prelude.{◌==◌, ◌&&◌, ◌||◌, not, min, map, flat_
 use Rattle.std.specs.Fmt.{decimal}
 use Rattle.std.specs.List.{AllByRecursion, list_all}
 use Rattle.std.proofs.Math.Seq.{take-append_seam, drop-append_seam}
-use Rattle.std.proofs.lemmas.Bool.{and_parts, and_from, eq-eqb, eqb-true, ne_eqb, false_from_ne_true}
+use Rattle.std.proofs.lemmas.Bool.{and_parts, eq-eqb, eqb-true, ne_eqb, false_from_ne_true}
 use Rattle.std.proofs.lemmas.List.{append-nil, length-append}
 use Rattle.std.proofs.lemmas.Slice.Eq.{bytes_eq-Decides}
 use Rattle.pv_model.specs.declared.fault.ManifestFault.{ManifestFault}
@@ -18,10 +18,10 @@ use Rattle.pv_model.specs.declared.instruction.Instruction.{Instruction}
 use Rattle.pv_model.specs.Answers.Lines.{counted_from, spaced}
 use Rattle.pv_model.specs.Bytes.{Bytes, is_empty}
 use Rattle.pv_model.specs.Grammar.Arguments.{text_at, if_last, without_front}
-use Rattle.pv_model.specs.Grammar.Entries.{EncodesEntry, of_directory, of_file, of_program, of_link, of_name, Lists, at_end, at_schedule, entry, EncodesSizes, AreSizes, EncodesManifest}
+use Rattle.pv_model.specs.Grammar.Entries.{EncodesEntry, of_directory, of_file, of_program, of_link, of_name, Lists, at_end, at_schedule, entry, EncodesSizes, EncodesManifest}
 use Rattle.pv_model.specs.Grammar.Instructions.{instruction_of}
 use Rattle.pv_model.specs.Grammar.Lines.{lines_of, is_digit, decimal_of}
-use Rattle.pv_model.specs.Grammar.Manifests.{Listed, Manifest, Taking, is_manifest_path, if_path, path_of, entry_of, sizes_of, inode_table_blocks, are_sizes, data_blocks, add_entry, and_entries, add_entries, read_manifest, read_bundle}
+use Rattle.pv_model.specs.Grammar.Manifests.{Listed, Manifest, Taking, is_manifest_path, if_path, path_of, entry_of, sizes_of, data_blocks, add_entry, and_entries, add_entries, read_manifest, read_bundle}
 use Rattle.pv_model.specs.Grammar.Programs.{onto_program, or_line, program_from, read_program}
 use Rattle.pv_model.specs.Grammar.Schedules.{turn_of, onto_schedule, or_schedule_line, schedule_from}
 use Rattle.pv_model.specs.Grammar.Encoding.{Decimal, EncodesText}
@@ -31,11 +31,11 @@ use Rattle.pv_model.specs.State.{Program}
 use Rattle.pv_model.specs.Step.{Schedule}
 use Rattle.pv_model.specs.Tree.{Tree, directory_node, file_node, link_node}
 use Rattle.pv_laws_grammar.proofs.Decimals.{digit_bounds, digits_all, decimal_of-Decimal, Decimal-decimal}
-use Rattle.pv_laws_grammar.proofs.EntryLines.{entry_again, sizes_of-EncodesSizes}
+use Rattle.pv_laws_grammar.proofs.EntryLines.{entry_again, sizes_of-EncodesSizes, grouped}
 use Rattle.pv_laws_grammar.proofs.EntryPaths.{is_manifest_path-IsEntryPath}
 use Rattle.pv_laws_grammar.proofs.QuotedTexts.{reads_text}
 use Rattle.pv_laws_grammar.proofs.TextLines.{lines_from_relation}
-use Rattle.pv_laws_grammar.proofs.WholeManifests.{EncodesManifest-whole}
+use Rattle.pv_laws_grammar.proofs.WholeManifests.{EncodesManifest-whole, are_sizes_again}
 use Rattle.pv_laws_grammar.proofs.WholeSchedules.{EncodesTurn-turn_of}
 use Rattle.pv_laws_grammar.specs.Accepted.{IsRightInit, IsRight, IsAccepted, IsEnded}
 use Rattle.pv_model.specs.Source.Blocks.{Block, single, taken, if_letters, mark_of, exec_by, or_cut_off, blocks_at, blocks_from, blocks_of}
@@ -304,9 +304,6 @@ module _ (k : ℕ) (path word : Bytes) (body rest : List Bytes) (t after : Tree)
 
 -- ---- all lines after the first
 
-grouped : (front word other : Bytes) → front ++ word ++ codes " " ++ other ≡ front ++ (word ++ 32 ∷ other)
-grouped front word other = append_assoc (front ++ word) (32 ∷ []) other ∙ append_assoc front word (32 ∷ other)
-
 lines-first : (body rest : List Bytes) → AreLines (body ++ rest) → AreLines body
 lines-first [] rest all = tt
 lines-first (l ∷ body) rest all = (all.0, lines-first body rest all.1)
@@ -362,12 +359,6 @@ again in_bundle _ _ _ (entry n _ _ rest _ others (of_name path word source other
 
 -- ---- whole texts
 
-sizes-again : (blocks inodes : ℕ) → AreSizes blocks inodes → are_sizes blocks inodes ≡ true
-sizes-again blocks inodes h =
-    and_from (nat_le 1 inodes && nat_le inodes 4096 && nat_le (inode_table_blocks inodes + 1) blocks) (nat_le blocks 8192)
-    (and_from (nat_le 1 inodes && nat_le inodes 4096) (nat_le (inode_table_blocks inodes + 1) blocks)
-    (and_from (nat_le 1 inodes) (nat_le inodes 4096) (le-leb 1 inodes h.0) (le-leb inodes 4096 h.1)) (le-leb (inode_table_blocks inodes + 1) blocks h.2)) (le-leb blocks 8192 h.3)
-
 image-words : (line : Bytes) (blocks inodes : ℕ) → EncodesSizes line blocks inodes → (word other : Bytes) × LineWords line (codes "image" ∷ word ∷ other ∷ [])
 image-words line blocks inodes encodes = (
   encodes.0,
@@ -392,7 +383,7 @@ read-again text in_bundle m encodes right turns whole =
     let blocks : blocks_of text ≡ single 1 words ∷ after =
     ap (λ ls. blocks_from (counted_from 1 ls) 0) lines ∙ ap (λ ws. blocks_at 1 ws (counted_from 2 rest) (blocks_from (counted_from 2 rest))) image.2.reads in
     let sizes : sizes_of (spaced words) ≡ Some (m.blocks, m.inodes) = ap sizes_of image.2.spaced_is ∙ sizes_of-EncodesSizes first m.blocks m.inodes form.3 in
-    let judged : judged_first (single 1 words) ≡ (false, known empty) = ap image_so_far sizes ∙ ap (λ (b : Bool). cond {A = Judgement} b (false, known empty) (true, record { tree = None; lacked_room = false })) (sizes-again m.blocks m.inodes encodes.1) in
+    let judged : judged_first (single 1 words) ≡ (false, known empty) = ap image_so_far sizes ∙ ap (λ (b : Bool). cond {A = Judgement} b (false, known empty) (true, record { tree = None; lacked_room = false })) (are_sizes_again m.blocks m.inodes encodes.1) in
     let faults : faults_of_blocks (suc (length (lines_of text))) (single 1 words ∷ after) ≡ [] = ap (λ j. reported_of (single 1 words) j (faults_from after)) judged ∙ all.right in
     let written_ : text_of_blocks (single 1 words ∷ after) ≡ text =
     ap (λ l. ended (l ∷ flat_map written_lines after)) image.2.spaced_is ∙ ap (λ ls. ended (first ∷ ls)) all.written ∙ ap ended (sym lines) ∙ sym whole in

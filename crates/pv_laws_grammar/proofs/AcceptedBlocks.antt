@@ -3,7 +3,7 @@ use Rattle.std.proofs.Common.{◌≡◌, ◌∙◌, ap, ℕ, zero, suc, ◌+◌,
 use Rattle.std.specs.Prelude.{◌==◌, ◌&&◌, ◌||◌, not, min, map, flat_map, codes, bytes_eq, nat_le, is_err, is_none, is_some, option_map, IfSome}
 use Rattle.std.specs.Fmt.{decimal}
 use Rattle.std.specs.List.{AllByRecursion, cons_option}
-use Rattle.std.proofs.lemmas.Bool.{cond_both, cases_lt, eq-eqb, ne_eqb, false≢true}
+use Rattle.std.proofs.lemmas.Bool.{cond_both, cases_lt, eq-eqb, ne_eqb, false≢true, or_parts}
 use Rattle.std.proofs.lemmas.List.{append-nil, length-take-le}
 use Rattle.std.proofs.lemmas.Slice.Eq.{bytes_eq-Decides}
 use Rattle.pv_model.specs.declared.fault.ManifestFault.{ManifestFault}
@@ -116,10 +116,6 @@ reported_split b j onward = by j.0 refl
     by : (t : Bool) → j.0 ≡ t → reported_if t (number_of b) (faults_in b ++ onward j.1) ≡ [] → (j.0 ≡ false) × (faults_in b ≡ []) × (onward j.1 ≡ [])
     by true p is = cc
     by false p is = (p, nothing_first (faults_in b) (onward j.1) is, nothing_second (faults_in b) (onward j.1) is)
-
-or_parts : (a b : Bool) → (a || b) ≡ false → (a ≡ false) × (b ≡ false)
-or_parts true b is = cc
-or_parts false b is = (refl, is)
 
 abbrev pub known : Tree → TreeSoFar
 known t = record { tree = Some t; lacked_room = false }
@@ -437,9 +433,9 @@ taken-parts : (t : Bool) (o : Option Entry) (e : Entry) → cond t o None ≡ So
 taken-parts true o e is = (refl, is)
 taken-parts false o e is = cc
 
-length-map-of : (body : List NumberedLine) → length (bytes_of_lines body) ≡ length body
-length-map-of [] = refl
-length-map-of (line ∷ body) = ap suc (length-map-of body)
+pub length-bytes : (body : List NumberedLine) → length (bytes_of_lines body) ≡ length body
+length-bytes [] = refl
+length-bytes (line ∷ body) = ap suc (length-bytes body)
 
 same_last : (words : List Bytes) → with_last_word (last_word words) words ≡ words
 same_last [] = refl
@@ -502,7 +498,7 @@ listing _ (so_many m others body blocks own lines counts later) t none n =
     let taken_ = bytes_of_lines body in
     let few = taken-parts (nat_le (length body) 9999) (executable taken_ (exec_path (codes "exec" ∷ others))) made.its_entry made.found in
     let file = executable-parts taken_ (exec_path (codes "exec" ∷ others)) made.its_entry few.1 in
-    let size : length taken_ ≡ length body = length-map-of body in
+    let size : length taken_ ≡ length body = length-bytes body in
     let small : length taken_ ≤ 9999 = omega (arith, size, leb-true (length body) 9999 few.0) in
     let count : last_word (codes "exec" ∷ others) ≡ decimal (length taken_) =
     Decimal-encoded (length body) (last_word (codes "exec" ∷ others)) (Decimal-decimal_of (last_word (codes "exec" ∷ others)) (length body) counts) (omega (arith, size, small)) ∙ ap decimal (sym size) in

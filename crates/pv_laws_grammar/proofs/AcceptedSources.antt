@@ -1,17 +1,16 @@
 -- The text written for a source is accepted.
-use Rattle.std.proofs.Common.{◌≡◌, ◌∙◌, ap, ℕ, suc, ◌+◌, Bool, true, false, cond, List, [], ◌∷◌, length, take, Option, None, Some, Ok, refl, sym, subst, inl, inr, leb-true}
-use Rattle.std.specs.Prelude.{◌&&◌, map, flat_map, nat_le, codes}
+use Rattle.std.proofs.Common.{◌≡◌, ◌∙◌, ap, ℕ, suc, Bool, true, false, cond, List, [], ◌∷◌, length, take, Option, None, Some, Ok, refl, sym, subst, inl, inr}
+use Rattle.std.specs.Prelude.{map, flat_map, codes}
 use Rattle.std.specs.Fmt.{decimal}
-use Rattle.std.proofs.lemmas.Bool.{and_parts}
 use Rattle.pv_model.specs.Answers.Lines.{spaced}
 use Rattle.pv_model.specs.Bytes.{Bytes}
-use Rattle.pv_model.specs.Grammar.Entries.{AreSizes, EncodesManifest}
+use Rattle.pv_model.specs.Grammar.Entries.{EncodesManifest}
 use Rattle.pv_model.specs.Grammar.Lines.{lines_of}
-use Rattle.pv_model.specs.Grammar.Manifests.{Manifest, inode_table_blocks, are_sizes, sizes_of, data_blocks, read_manifest, read_bundle}
+use Rattle.pv_model.specs.Grammar.Manifests.{Manifest, are_sizes, sizes_of, data_blocks, read_manifest, read_bundle}
 use Rattle.pv_model.specs.Grammar.Texts.{ended}
 use Rattle.pv_model.specs.Manifest.{empty_tree}
 use Rattle.pv_laws_grammar.proofs.EntryLines.{EncodesSizes-sizes_of}
-use Rattle.pv_laws_grammar.proofs.WholeManifests.{whole-EncodesManifest}
+use Rattle.pv_laws_grammar.proofs.WholeManifests.{whole-EncodesManifest, are_sizes_found}
 use Rattle.pv_laws_grammar.specs.Accepted.{IsRight, IsAccepted, IsEnded}
 use Rattle.pv_model.specs.Source.Blocks.{Block, single, blocks_of}
 use Rattle.pv_model.specs.Source.Judged.{Judgement, image_so_far, judged_first, faults_from, faults_of_blocks, or_faults, read_source}
@@ -43,13 +42,6 @@ block-lines _ (then_turns n others body own lines) =
     (spaced-line (codes "schedule" ∷ others) own, all-append IsLine (map (λ line. spaced line.1) (lines_that_count body)) [] (turn-lines (lines_that_count body) (counting-lines body lines)) tt)
 
 -- ---- the first line
-
-sizes-found : (blocks inodes : ℕ) → are_sizes blocks inodes ≡ true → AreSizes blocks inodes
-sizes-found blocks inodes is =
-    let a = and_parts (nat_le 1 inodes && nat_le inodes 4096 && nat_le (inode_table_blocks inodes + 1) blocks) (nat_le blocks 8192) is in
-    let b = and_parts (nat_le 1 inodes && nat_le inodes 4096) (nat_le (inode_table_blocks inodes + 1) blocks) a.0 in
-    let c = and_parts (nat_le 1 inodes) (nat_le inodes 4096) b.0 in
-    (leb-true 1 inodes c.0, leb-true inodes 4096 c.1, leb-true (inode_table_blocks inodes + 1) blocks b.1, leb-true blocks 8192 a.1)
 
 record IsImage (words : List Bytes) (j : Judgement) : Type 0 where
   blocks : ℕ
@@ -87,7 +79,7 @@ module _ (words : List Bytes) (image : (j : Judgement) × IsImage words j) (bloc
     whole = record { blocks = image.1.blocks; inodes = image.1.inodes; listed = l.listed }
 
     encoded : EncodesManifest in_bundle (ended lines) whole
-    encoded = ((spaced words, flat_map written_lines blocks, (are, inl refl), EncodesSizes-sizes_of (spaced words) (image.1.blocks, image.1.inodes) image.1.reported_as, l.lists), sizes-found image.1.blocks image.1.inodes image.1.right)
+    encoded = ((spaced words, flat_map written_lines blocks, (are, inl refl), EncodesSizes-sizes_of (spaced words) (image.1.blocks, image.1.inodes) image.1.reported_as, l.lists), are_sizes_found image.1.blocks image.1.inodes image.1.right)
 
     right : IsRight whole
     right = record { tree = l.tree; made = l.made; init = l.init }

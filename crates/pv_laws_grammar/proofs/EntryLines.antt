@@ -34,7 +34,7 @@ named_line : (line name rest : Bytes) → name ≡ word_of line → after_word l
 named_line line name rest is following = word_split line ∙ ap (λ w. w ++ after_word line) (sym is) ∙ ap (λ r. name ++ r) following
 
 -- concatenations around two words are reassociated to the left
-grouped : (front word other : Bytes) → front ++ word ++ codes " " ++ other ≡ front ++ (word ++ 32 ∷ other)
+pub grouped : (front word other : Bytes) → front ++ word ++ codes " " ++ other ≡ front ++ (word ++ 32 ∷ other)
 grouped front word other = append_assoc (front ++ word) (32 ∷ []) other ∙ append_assoc front word (32 ∷ other)
 
 -- ---- sizes

@@ -20,7 +20,7 @@ use Rattle.pv_model.specs.Source.Words.{NumberedLine, NumberedWords, before_last
 use Rattle.pv_model.specs.Source.Written.{bytes_of_lines, counted_program, text_of_blocks, written_lines}
 use Rattle.pv_laws_grammar.specs.Comments.{AreBefore, HaveSameCode, code_of, no_line, left_out, added, single as single_line, counted, marked, uncounted, scheduled}
 use Rattle.pv_laws_grammar.proofs.AcceptedAgain.{blocks_skip, bytes-counted, counted-append, judged-again, length-counted, no-mark}
-use Rattle.pv_laws_grammar.proofs.AcceptedBlocks.{added-any, entry-made, known, reported_split}
+use Rattle.pv_laws_grammar.proofs.AcceptedBlocks.{added-any, entry-made, known, reported_split, length-bytes}
 use Rattle.pv_laws_grammar.proofs.AcceptedSources.{faults-parts}
 use Rattle.pv_laws_grammar.proofs.Decimals.{Decimal-decimal, decimal_of-Decimal}
 
@@ -194,10 +194,6 @@ inside-alike _ _ (same_taken n m words body preserved same) none = by (is_init (
     by false none = refl
 inside-alike _ _ (same_schedule n m words body preserved same) none = turns-alike 0 (lines_that_count body) (lines_that_count preserved) same none
 inside-alike _ _ (same_uncounted n m text word preserved body same right few) none = right
-
-length-bytes : (body : List NumberedLine) → length (bytes_of_lines body) ≡ length body
-length-bytes [] = refl
-length-bytes (l ∷ ls) = ap suc (length-bytes ls)
 
 entry-alike : (b c : Block) → SameBlock b c → entry_of_block b ≡ entry_of_block c
 unfolding entry_of_block

@@ -203,14 +203,14 @@ module _ (in_bundle : Bool) where
 
 -- ---- sizes
 
-are_sizes_found : (blocks inodes : ℕ) → are_sizes blocks inodes ≡ true → AreSizes blocks inodes
+pub are_sizes_found : (blocks inodes : ℕ) → are_sizes blocks inodes ≡ true → AreSizes blocks inodes
 are_sizes_found blocks inodes h =
     let a = and_parts (nat_le 1 inodes && nat_le inodes 4096 && nat_le (inode_table_blocks inodes + 1) blocks) (nat_le blocks 8192) h in
     let b = and_parts (nat_le 1 inodes && nat_le inodes 4096) (nat_le (inode_table_blocks inodes + 1) blocks) a.0 in
     let c = and_parts (nat_le 1 inodes) (nat_le inodes 4096) b.0 in
     (leb-true 1 inodes c.0, leb-true inodes 4096 c.1, leb-true (inode_table_blocks inodes + 1) blocks b.1, leb-true blocks 8192 a.1)
 
-are_sizes_again : (blocks inodes : ℕ) → AreSizes blocks inodes → are_sizes blocks inodes ≡ true
+pub are_sizes_again : (blocks inodes : ℕ) → AreSizes blocks inodes → are_sizes blocks inodes ≡ true
 are_sizes_again blocks inodes h =
     and_from (nat_le 1 inodes && nat_le inodes 4096 && nat_le (inode_table_blocks inodes + 1) blocks) (nat_le blocks 8192)
     (and_from (nat_le 1 inodes && nat_le inodes 4096) (nat_le (inode_table_blocks inodes + 1) blocks)

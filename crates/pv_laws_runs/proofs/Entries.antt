@@ -16,6 +16,7 @@ use Rattle.pv_laws_grammar.proofs.EntryPaths.{is_manifest_path-IsEntryPath}
 use Rattle.pv_laws_states.specs.States.{is_byte, are_bytes, is_text_byte, has_bytes}
 use Rattle.pv_laws_trees.proofs.Entries.{list_all-filter}
 use Rattle.pv_laws_trees.proofs.Places.{list_all-weaker}
+use Rattle.pv_laws_trees.proofs.ImageBytes.{join-bytes, split-bytes}
 use Rattle.pv_laws_runs.proofs.Ranges.{text-encoded}
 
 -- ---- bytes
@@ -29,13 +30,6 @@ text-no_zero : (value word : Bytes) → EncodesText value word → list_all (λ 
 text-no_zero value word is =
     list_all-weaker is_text_byte (λ b. not (b == 0)) (λ b good. (and_parts (not (b == 0)) (is_byte b) good).0) value
     (and_parts (nat_le (length value) 1100) (list_all is_text_byte value) (text-encoded value word is)).1
-
--- the lines of a text of bytes are bytes
-pub join-bytes : (a b : Bytes) → are_bytes a ≡ true → are_bytes b ≡ true → are_bytes (a ++ b) ≡ true
-join-bytes a b first second = list_all-append is_byte a b ∙ and_from (are_bytes a) (are_bytes b) first second
-
-pub split-bytes : (a b : Bytes) → are_bytes (a ++ b) ≡ true → (are_bytes a ≡ true) × (are_bytes b ≡ true)
-split-bytes a b all = and_parts (are_bytes a) (are_bytes b) (sym (list_all-append is_byte a b) ∙ all)
 
 ended-bytes : (lines : List Bytes) → list_all are_bytes lines ≡ true → are_bytes (ended lines) ≡ true
 ended-bytes [] all = refl

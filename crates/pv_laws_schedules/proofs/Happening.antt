@@ -16,9 +16,9 @@ use Rattle.pv_laws_answers.proofs.Complete.{among-contains}
 use Rattle.pv_laws_answers.proofs.Lists.{Among, each-among, each-from_among, among-map, map-among, among-flat, flat-among}
 use Rattle.pv_laws_answers.proofs.New.{new-came, new-first, new-differ}
 use Rattle.pv_laws_answers.proofs.Sound.{made-by, witness-more}
+use Rattle.pv_laws_answers.proofs.Least.{to_later-append}
 use Rattle.pv_laws_schedules.specs.Access.{IsFirstObserved, IsAccessLine, IsListedAccess, ListedAccessesHappen}
 use Rattle.pv_laws_schedules.proofs.Reached.{ReachedIn, contains-among, own-move, reached, rising, size, sound-at}
-use Rattle.pv_laws_schedules.proofs.Searches.{to_later-append}
 
 module _ {X : Type 0} (observe : Observer X) (key : X → Numbers) (program_of : Bytes → Option Program) (limit : ℕ) (s : State) (it : IsSearched program_of limit s) where
   abbrev found : List Found

@@ -1,7 +1,6 @@
 -- Accesses to the bytes of files, and reports of nodes, are justified.
 use Rattle.std.proofs.Common.{◌≡◌, ◌∙◌, sym, ap, subst, ℕ, ℤ, Bool, true, false, if◌then◌else◌, ◌==◌, List, [], ◌∷◌, ◌++◌, map, filter_map, not, Contains, Option, None, Some, Ok, option_map, option_and_then, ◌⊎◌, inl, inr, ⊎_elim, refl}
 use Rattle.std.specs.Prelude.{option_to_list}
-use Rattle.std.specs.List.{cons_option}
 use Rattle.pv_model.specs.declared.call.Call.{Call}
 use Rattle.pv_model.specs.declared.call.Call.TheVariants as TheCall
 use Rattle.pv_model.specs.declared.errno.Errno.TheVariants.{ENOEXEC, ENOSYS, EBADF, EINVAL}
@@ -38,21 +37,13 @@ use Rattle.pv_laws_states.proofs.Rests
 use Rattle.pv_laws_access.proofs.Ends.{step-is}
 use Rattle.pv_laws_access.proofs.HasEffect.{open_file_for-is}
 use Rattle.pv_laws_access.proofs.JustReporting.{reporting-justified}
+use Rattle.pv_laws_access.proofs.Next.{answer-does}
+use Rattle.pv_laws_access.proofs.Closed.{found-ok, one-walk}
 use Rattle.pv_laws_answers.proofs.Asking.{along-one}
 use Rattle.pv_laws_answers.proofs.Complete.{among-contains}
-use Rattle.pv_laws_answers.proofs.Lists.{Among, among-either, map-among}
+use Rattle.pv_laws_answers.proofs.Lists.{Among, among-either, map-among, filter_map-among}
 use Rattle.pv_laws_schedules.specs.Access.{is_of_node, AccessesAreJustified}
 use Rattle.pv_laws_schedules.proofs.Reached.{contains-among}
-use Rattle.pv_laws_schedules.proofs.ReadAccess.{answer-is, found-place, only-place}
-
-pub filter_map-among : {X Y : Type 0} (g : X → Option Y) (y : Y) (xs : List X) → Among y (filter_map g xs) → (x : X) × Among x xs × (g x ≡ Some y)
-filter_map-among {X} {Y} g y [] h = absurd h
-filter_map-among {X} {Y} g y (x ∷ xs) h = by (g x) refl h (filter_map-among g y xs)
-  where
-    by : (o : Option Y) → g x ≡ o → Among y (cons_option o (filter_map g xs)) → (Among y (filter_map g xs) → (z : X) × Among z xs × (g z ≡ Some y)) → (z : X) × Among z (x ∷ xs) × (g z ≡ Some y)
-    by None is k later = let r = later k in (r.0, inr r.1, r.2)
-    by (Some w) is (inl e) later = (x, inl refl, is ∙ ap (λ v. Some v) (sym e))
-    by (Some w) is (inr k) later = let r = later k in (r.0, inr r.1, r.2)
 
 -- an outcome that no missing promise has
 abbrev passes : Outcome → Bool
@@ -106,14 +97,14 @@ module _ (program_of : Bytes → Option Program) (s : State) (pid : ℕ) (p : Pr
   module _ (passed : passes o ≡ true) where
     -- the outcome is that of the effect
     outcome-by : (a : Attempt Effect) → e ≡ a → o ≡ (answer_by_attempt s x pid now a).outcome
-    outcome-by a same = outcome-is ∙ ap (λ (w : Answered). w.outcome) (answer-is program_of s pid p call at (held-by passed) ∙ ap (answer_by_attempt s x pid now) same)
+    outcome-by a same = outcome-is ∙ ap (λ (w : Answered). w.outcome) (answer-does program_of s pid p call at (held-by passed) ∙ ap (answer_by_attempt s x pid now) same)
 
     -- the place of the one walk of a call that returns a value is allowed
     allowed-one : is_unveil call ≡ false → (w : Walk) → walks_of call ≡ w ∷ [] → (n : ℕ) → o ≡ Value n → (place : Place) → Contains (places s p call) place → judgement s.tree p.table place w.needed ≡ Allowed
     allowed-one plain w one n value place has = by e refl
       where
         ends : end_of s p w ≡ Ok place
-        ends = found-place (end_of s p w) place (only-place (place_found (end_of s p w)) place (subst (λ (ws : List Walk). Contains (filter_map (λ v. place_found (end_of s p v)) ws) place) one has))
+        ends = found-ok (end_of s p w) place (one-walk (place_found (end_of s p w)) place (subst (λ (ws : List Walk). Contains (filter_map (λ v. place_found (end_of s p v)) ws) place) one has))
 
         along-is : along x now (walks_of call) ≡ after_walks 1 (judgement_or_refusal (judgement s.tree p.table place w.needed) >> give tt)
         along-is = ap (along x now) one ∙ along-one x now w [] place ends
@@ -202,7 +193,7 @@ module _ (program_of : Bytes → Option Program) (s : State) (pid : ℕ) (p : Pr
     walks = if begins_walk path then 1 else 0
 
     ends : end_of s p (execve_walk path) ≡ Ok place
-    ends = found-place (end_of s p (execve_walk path)) place (only-place (place_found (end_of s p (execve_walk path))) place has)
+    ends = found-ok (end_of s p (execve_walk path)) place (one-walk (place_found (end_of s p (execve_walk path))) place has)
 
     effect-of : (j : Judgement) → judgement s.tree p.table place (execve_walk path).needed ≡ j
         → effect program_of y pid me (TheCall.Execve path) ≡ after_walks walks (judgement_or_refusal j >> Rests.execve_1 y pid me program_of place)

@@ -31,13 +31,12 @@ use Rattle.pv_laws_states.specs.Courses.{is_unveil}
 use Rattle.pv_laws_answers.specs.ProcessImages.{Moment, moments, and_moment, process_images_of, IsCallOf, GivesAt, letters_listed, targets_listed, with_own_table}
 use Rattle.pv_laws_answers.specs.Wanted.{reports_of_table}
 use Rattle.pv_laws_answers.proofs.Complete.{among-contains, all-found}
-use Rattle.pv_laws_answers.proofs.Lists.{Among, any-among, among-either, among-filter, among-flat, among-map, filter-among, map-among}
+use Rattle.pv_laws_answers.proofs.Lists.{Among, any-among, among-either, among-filter, among-flat, among-map, filter-among, map-among, filter_map-among}
 use Rattle.pv_laws_answers.proofs.Otherwise.{enough-letters, needed-letters}
 use Rattle.pv_laws_answers.proofs.Searching.{found-there}
 use Rattle.pv_laws_schedules.specs.Policy.{programs, joined_permissions, asks_at_words, GivesAsked, GivesAskedBut, ListedPermissionsAreEnough, ListedPermissionsAreNeeded}
 use Rattle.pv_laws_schedules.proofs.Groups.{in-group, of-group}
 use Rattle.pv_laws_schedules.proofs.Happening.{IsMade, made-in, IsOfCall, of-call}
-use Rattle.pv_laws_schedules.proofs.Justified.{filter_map-among}
 use Rattle.pv_laws_schedules.proofs.Promised.{asks, requested}
 use Rattle.pv_laws_schedules.proofs.Reached.{contains-among}
 

@@ -19,6 +19,7 @@ use Rattle.pv_laws_answers.specs.Witnesses.{EachToLater}
 use Rattle.pv_laws_answers.proofs.Complete.{still}
 use Rattle.pv_laws_answers.proofs.Lists.{Among, each-among, each-from_among, each-weaker, among-any, all-among, among-map, map-among, among-flat, flat-among, among-filter, filter-among}
 use Rattle.pv_laws_answers.proofs.Reading.{reported-apart}
+use Rattle.pv_laws_answers.proofs.Least.{to_later-append}
 use Rattle.pv_laws_schedules.specs.Compare.{IsAlike, ItselfIsAlike, IsCompared, pair_of, AreStepsOfEither, IsShortest}
 use Rattle.pv_laws_schedules.proofs.Searches
 
@@ -279,7 +280,7 @@ module _ (program_of : Bytes → Option Program) where
     moves-in_order : (fs : List FoundPair) → EachToLater (λ f g. size f ≤ size g) fs → EachToLater NoLonger (flat_map (pair_moves program_of) fs)
     moves-in_order [] r = tt
     moves-in_order (f ∷ fs) r =
-        Searches.to_later-append NoLonger (pair_moves program_of f) (flat_map (pair_moves program_of) fs) (own (pair_moves program_of f) (λ m h. h)) (moves-in_order fs r.1)
+        to_later-append NoLonger (pair_moves program_of f) (flat_map (pair_moves program_of) fs) (own (pair_moves program_of f) (λ m h. h)) (moves-in_order fs r.1)
         (λ m h n k.
         let from = flat-among (pair_moves program_of) n fs k in
         let le = each-among (λ g. size f ≤ size g) fs r.0 from.0 from.1 in

@@ -1,8 +1,7 @@
 -- A step that reads a file has an access READ or EXEC to it.
-use Rattle.std.proofs.Common.{◌≡◌, ◌∙◌, sym, ap, subst, ℕ, ◌+◌, ◌-◌, ℤ, Bool, true, false, min, if◌then◌else◌, ◌==◌, List, [], ◌∷◌, length, take, drop, map, filter_map, Contains, Option, None, Some, Ok, Err, ◌⊎◌, inl, inr, ⊎_elim, refl, arith}
+use Rattle.std.proofs.Common.{◌≡◌, ◌∙◌, sym, ap, subst, ℕ, ◌+◌, ◌-◌, ℤ, Bool, true, false, min, if◌then◌else◌, ◌==◌, [], ◌∷◌, length, take, drop, map, Contains, Option, None, Some, Ok, ◌⊎◌, inl, inr, ⊎_elim, refl, arith}
 use Rattle.std.proofs.Math.ListN.{length-take, length-drop}
 use Rattle.std.proofs.lemmas.Bool.Decides.{nat_tests}
-use Rattle.std.specs.List.{cons_option}
 use Rattle.pv_model.specs.declared.call.Call.{Call}
 use Rattle.pv_model.specs.declared.call.Call.TheVariants as TheCall
 use Rattle.pv_model.specs.declared.errno.Errno.{Errno}
@@ -14,7 +13,7 @@ use Rattle.pv_model.specs.declared.outcome.Cause.TheVariants.{Plain}
 use Rattle.pv_model.specs.declared.outcome.Outcome.{Outcome}
 use Rattle.pv_model.specs.declared.outcome.Outcome.TheVariants.{Value, Text, Failed}
 use Rattle.pv_model.specs.declared.place.Place.{Place}
-use Rattle.pv_model.specs.Answer.{Answered, answer, answer_of, answer_where, answer_by_attempt, at_next_line, with_front, update_live, update, effect}
+use Rattle.pv_model.specs.Answer.{Answered, answer, answer_by_attempt, at_next_line, with_front, update_live, update, effect}
 use Rattle.pv_model.specs.Answers.Access.{reads, executes, node_of_descriptor, nodes_of_places, nodes_read, nodes_executed, accesses}
 use Rattle.pv_model.specs.Attempt.{Attempt, done, refused, after_walks, ◌>>=◌, ◌>>◌, refuse_if, demand}
 use Rattle.pv_model.specs.Bytes.{Bytes}
@@ -38,25 +37,11 @@ use Rattle.pv_laws_access.specs.Justice.{reads_bytes}
 use Rattle.pv_laws_access.proofs.Ends.{step-is}
 use Rattle.pv_laws_access.proofs.JustReads.{near-or_read}
 use Rattle.pv_laws_access.proofs.Near.{as_is, as_is-fine, near-view, near-at, AreNear, near_state, IsNear, near-collect, near-bytes, same-but_file, directory-near, resolve-near, judgement-near}
-use Rattle.pv_laws_answers.proofs.Lists.{Among, among-left, among-right, among-map}
+use Rattle.pv_laws_access.proofs.Next.{answer-does}
+use Rattle.pv_laws_access.proofs.Closed.{one-walk, found-ok}
+use Rattle.pv_laws_answers.proofs.Lists.{Among, among-left, among-right, among-map, among-filter_map}
 use Rattle.pv_laws_schedules.proofs.Reached.{contains-among}
-
--- an element that a partial function maps to a value is counted in its image
-pub among-filter_map : {X Y : Type 0} (g : X → Option Y) (x : X) (y : Y) (xs : List X) → Among x xs → g x ≡ Some y → Among y (filter_map g xs)
-among-filter_map {X} {Y} g x y [] h is = absurd h
-among-filter_map {X} {Y} g x y (z ∷ zs) (inl e) is = subst (λ (o : Option Y). Among y (cons_option o (filter_map g zs))) (sym is ∙ ap g e) (inl refl)
-among-filter_map {X} {Y} g x y (z ∷ zs) (inr h) is = by (g z) (among-filter_map g x y zs h is)
-  where
-    by : (o : Option Y) → Among y (filter_map g zs) → Among y (cons_option o (filter_map g zs))
-    by None later = later
-    by (Some w) later = inr later
-
--- the answer of a call whose promises are held
-pub answer-is : (program_of : Bytes → Option Program) (s : State) (pid : ℕ) (me : Process) (call : Call) → process_at s pid ≡ Some me → missing_promise me.promises (needs call) ≡ None
-    → answer program_of s pid call ≡ answer_by_attempt s (at_call s pid me) pid (at_next_line me) (effect program_of (at_call s pid me) pid (at_next_line me) call)
-unfolding answer
-answer-is program_of s pid me call at held =
-    ap (answer_of program_of s pid call) at ∙ ap (answer_where program_of s (at_call s pid me) pid (at_next_line me) call) held
+use Rattle.pv_laws_trees.proofs.Generic.{not-there}
 
 near-update : (f : ℕ) (a : State) (ys : Numbered Node) → AreNear as_is f a.tree.nodes ys → (pid : ℕ) (g : Process → Process) → IsNear as_is f (update a pid g) (update (near_state a ys) pid g)
 near-update f a ys near pid g = by (process_at a pid)
@@ -99,8 +84,8 @@ module _ (program_of : Bytes → Option Program) (s : State) (pid f : ℕ) (ys :
 
   alike-by : (a b : Attempt Effect) → effect program_of x pid now call ≡ a → effect program_of x' pid now call ≡ b → AnswersAlike a b → Alike
   alike-by a b first second alike =
-      let here : answer program_of s pid call ≡ answer_by_attempt s x pid now a = answer-is program_of s pid me call at held ∙ ap (answer_by_attempt s x pid now) first in
-      let there : answer program_of v pid call ≡ answer_by_attempt v x' pid now b = answer-is program_of v pid me call at held ∙ ap (answer_by_attempt v x' pid now) second in
+      let here : answer program_of s pid call ≡ answer_by_attempt s x pid now a = answer-does program_of s pid me call at held ∙ ap (answer_by_attempt s x pid now) first in
+      let there : answer program_of v pid call ≡ answer_by_attempt v x' pid now b = answer-does program_of v pid me call at held ∙ ap (answer_by_attempt v x' pid now) second in
       let one = ap (λ (w : Stepped). w.outcome) (step-by-call s at) ∙ ap (λ (w : Answered). w.outcome) here in
       let two = ap (λ (w : Stepped). w.outcome) (step-by-call v at) ∙ ap (λ (w : Answered). w.outcome) there in
       let after = ap (λ (w : Stepped). w.after) (step-by-call s at) ∙ ap (λ (w : Answered). w.after) here in
@@ -127,7 +112,7 @@ module _ (program_of : Bytes → Option Program) (s : State) (pid f : ℕ) (ys :
   outcome-by : (a : Attempt Effect) → effect program_of x pid now call ≡ a → (step program_of s pid).outcome ≡ (answer_by_attempt s x pid now a).outcome
   outcome-by a first =
       ap (λ (w : Stepped). w.outcome) (step-by-call s at)
-      ∙ ap (λ (w : Answered). w.outcome) (answer-is program_of s pid me call at held ∙ ap (answer_by_attempt s x pid now) first)
+      ∙ ap (λ (w : Answered). w.outcome) (answer-does program_of s pid me call at held ∙ ap (answer_by_attempt s x pid now) first)
 
   abbrev pub HasAccess : Type 0
   HasAccess = Among (reads f) (accesses s pid me call (step program_of s pid)) ⊎ Among (executes f) (accesses s pid me call (step program_of s pid))
@@ -238,25 +223,9 @@ module _ (program_of : Bytes → Option Program) (s : State) (pid f : ℕ) (ys :
 
 -- ---- an execve
 
-pub only-place : (o : Option Place) (place : Place) → Contains (cons_option o []) place → o ≡ Some place
-only-place None place has = absurd (contains-among [] place has)
-only-place (Some found) place has = by (contains-among (found ∷ []) place has)
-  where
-    by : Among place (found ∷ []) → Some found ≡ Some place
-    by (inl e) = ap (λ p. Some p) (sym e)
-    by (inr none) = absurd none
-
-pub found-place : (r : Walked) (place : Place) → place_found r ≡ Some place → r ≡ Ok place
-found-place (Ok found) place is = let same : found ≡ place = cc is in ap (λ p. Ok p) same
-found-place (Err e) place is = cc
-
 executable-alike : (executable : Bool) (old new : Bytes) → Rattle.std.specs.Prelude.is_some (executable_bytes (Some (file_node executable new))) ≡ Rattle.std.specs.Prelude.is_some (executable_bytes (Some (file_node executable old)))
 executable-alike true old new = refl
 executable-alike false old new = refl
-
-is-none : (o : Option Bytes) → Rattle.std.specs.Prelude.is_some o ≡ false → o ≡ None
-is-none None is = refl
-is-none (Some b) is = cc
 
 module _ (program_of : Bytes → Option Program) (s : State) (pid f : ℕ) (ys : Numbered Node) (near : AreNear as_is f s.tree.nodes ys)
     (me : Process) (path : Bytes) (at : process_at s pid ≡ Some me) (is : next me ≡ calls_for (TheCall.Execve path)) (held : missing_promise me.promises (needs (TheCall.Execve path)) ≡ None)
@@ -274,7 +243,7 @@ module _ (program_of : Bytes → Option Program) (s : State) (pid f : ℕ) (ys :
   walks = if begins_walk path then 1 else 0
 
   ends : end_of s me (execve_walk path) ≡ Ok place
-  ends = found-place (end_of s me (execve_walk path)) place (only-place (place_found (end_of s me (execve_walk path))) place has)
+  ends = found-ok (end_of s me (execve_walk path)) place (one-walk (place_found (end_of s me (execve_walk path))) place has)
 
   -- the call after its walk and its judgement
   abbrev rest : State → Option Bytes → Attempt Effect
@@ -306,7 +275,7 @@ module _ (program_of : Bytes → Option Program) (s : State) (pid f : ℕ) (ys :
       none-alike none =
           let there = near-view as_is (λ o. Rattle.std.specs.Prelude.is_some (executable_bytes o)) (node_at z.tree f) (node_at z'.tree f) (λ executable old new long. executable-alike executable old new) (near-at as_is f s.tree.nodes ys near f) in
           refused-alike program_of s pid f ys near me (TheCall.Execve path) at is held (walks + 0) EACCES Plain (first-effect None none)
-          (second-effect (is-none (executable_bytes (node_at z'.tree f)) (there ∙ ap Rattle.std.specs.Prelude.is_some none)))
+          (second-effect (not-there (executable_bytes (node_at z'.tree f)) (there ∙ ap Rattle.std.specs.Prelude.is_some none)))
 
       by-program : (code : Bytes) → executable_bytes (node_at z.tree f) ≡ Some code → (o : Option Program) → program_of code ≡ o → HasAccess program_of s pid f ys near me (TheCall.Execve path) at is held
       by-program code is' None unparsed =

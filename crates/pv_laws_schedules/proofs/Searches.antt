@@ -5,6 +5,7 @@ use Rattle.std.proofs.lemmas.Bool.Decides.{nat_tests}
 use Rattle.pv_model.specs.Answers.Search.{with_move, found_after, found_from, search}
 use Rattle.pv_laws_answers.specs.Witnesses.{EachToLater}
 use Rattle.pv_laws_answers.proofs.Lists.{Among, among-left, among-right, each-among, each-from_among, each-append, each-weaker, get-past, get-seam}
+use Rattle.pv_laws_answers.proofs.Least.{to_later-append}
 
 pub fold-append : {S X : Type 0} (f : S → X → S) (s : S) (xs ys : List X) → fold f s (xs ++ ys) ≡ fold f (fold f s xs) ys
 fold-append f s [] ys = refl
@@ -14,11 +15,6 @@ get-among : {X : Type 0} (xs : List X) (k : ℕ) (x : X) → slice_get xs k ≡ 
 get-among [] k x is = cc
 get-among (y ∷ ys) zero x is = let e : y ≡ x = cc in inl (sym e)
 get-among (y ∷ ys) (suc k) x is = inr (get-among ys k x is)
-
-pub to_later-append : {X : Type 0} (R : X → X → Type 0) (xs ys : List X) → EachToLater R xs → EachToLater R ys → ((x : X) → Among x xs → (y : X) → Among y ys → R x y) → EachToLater R (xs ++ ys)
-to_later-append R [] ys a b c = b
-to_later-append R (x ∷ xs) ys a b c =
-    (each-append (R x) xs ys a.0 (each-from_among (R x) ys (λ y h. c x (inl refl) y h)), to_later-append R xs ys a.1 b (λ z h. c z (inr h)))
 
 module _ {F M : Type 0} (moves_of : F → List M) (found_by : M → F) (is_known : M → List F → Bool) (limit : ℕ) where
   abbrev with_one : List F → M → List F

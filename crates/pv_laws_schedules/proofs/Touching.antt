@@ -15,11 +15,11 @@ use Rattle.pv_model.specs.Step.{step, run}
 use Rattle.pv_model.specs.Touch.{flags_of, has_succeeded, places, reports_of_descriptor, reports_of_place, IsNodeOfDescriptor, IsNodeOfPlace}
 use Rattle.pv_laws_answers.specs.Accesses.{is_listed}
 use Rattle.pv_laws_answers.specs.Search.{IsSearched}
-use Rattle.pv_laws_answers.proofs.Lists.{Among, among-left, among-map, among-right}
+use Rattle.pv_laws_answers.proofs.Lists.{Among, among-left, among-map, among-right, among-filter_map}
 use Rattle.pv_laws_answers.proofs.Observing.{all-observed}
 use Rattle.pv_laws_schedules.specs.Access.{ReadsAreListed, ReportsAreListed}
 use Rattle.pv_laws_schedules.proofs.Reached.{contains-among}
-use Rattle.pv_laws_schedules.proofs.ReadAccess.{among-filter_map, reads-accessed}
+use Rattle.pv_laws_schedules.proofs.ReadAccess.{reads-accessed}
 
 not-both : (call : Call) → reports_of_place call ≡ true → reports_of_descriptor call ≡ true → ⊥
 not-both (Stat path) place descriptor = cc descriptor

@@ -17,11 +17,11 @@ use Rattle.pv_model.specs.Tree.{Node, directory_node, file_node, link_node, Tree
 use Rattle.pv_laws_answers.specs.Search.{IsSearched}
 use Rattle.pv_laws_answers.specs.Unread.{IsReadByNone}
 use Rattle.pv_laws_answers.proofs.Beside.{unread-files}
-use Rattle.pv_laws_answers.proofs.Lists.{Among, each-from_among, any-among, among-flat, among-map, filter-among}
+use Rattle.pv_laws_answers.proofs.Lists.{Among, each-from_among, any-among, among-flat, among-map, filter-among, among-filter_map}
 use Rattle.pv_laws_states.specs.States.{EncodesPrograms, IsValid, is_program}
 use Rattle.pv_laws_states.proofs.BySteps.{first-whole}
 use Rattle.pv_laws_schedules.specs.Access.{UnreadFilesAreReadByNone, UnreadFilesChangeNothing}
-use Rattle.pv_laws_schedules.proofs.ReadAccess.{among-filter_map, IsReadAccess, reads-accessed}
+use Rattle.pv_laws_schedules.proofs.ReadAccess.{IsReadAccess, reads-accessed}
 use Rattle.pv_laws_schedules.proofs.Reached.{contains-among, own-move}
 
 module _ (program_of : Bytes → Option Program) (limit : ℕ) (s : State) (it : IsSearched program_of limit s) where

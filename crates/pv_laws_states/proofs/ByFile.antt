@@ -14,7 +14,6 @@ use Rattle.pv_model.specs.Bytes.{Bytes}
 use Rattle.pv_model.specs.Calls.Descriptors.{within, if_mode, is_past, next_name, open_file_for, read, seek_base, lseek, list_name, getdents}
 use Rattle.pv_model.specs.Effect.{Effect, answers, answers_bytes, descriptor_at, open_file, open_file_of, with_file, bytes_of}
 use Rattle.pv_model.specs.Numbered.{at_number, with_number}
-use Rattle.pv_model.specs.Room.{greatest_length}
 use Rattle.pv_model.specs.State.{OpenFile, Descriptor, Process, State, reads}
 use Rattle.pv_model.specs.Tree.{Entries, Node, directory_node, file_node, link_node, Tree, greatest_name, node_at, entries_of, entries_at, is_directory_at, is_name, is_name_byte}
 use Rattle.pv_laws_states.specs.States.{is_byte, are_bytes, IsOpenFile, is_listed, AreFiles, IsValid}
@@ -23,7 +22,7 @@ use Rattle.pv_laws_states.proofs.ByProcess.{within-limit}
 use Rattle.pv_laws_trees.proofs.Changes.{entries-good}
 use Rattle.pv_laws_trees.proofs.Numbered.{at_number-below, length-with_number, with_number-same, with_number-other}
 use Rattle.pv_laws_states.proofs.Replies.{IsEffect}
-use Rattle.pv_laws_trees.proofs.Rooms.{length-within}
+use Rattle.pv_laws_trees.proofs.Rooms.{length-within, greatest-low}
 use Rattle.pv_laws_states.proofs.Running.{IsReady, list_all-take, list_all-drop}
 use Rattle.pv_laws_states.proofs.Present.{ready, carries-self, solid-present}
 use Rattle.pv_laws_states.proofs.Whole.{has_room, solid}
@@ -59,10 +58,6 @@ open_file_for-at s pid me test d k f is = by (open_file s me d) refl is
               (open_file-at s me d k f (there ∙ some), ap (λ (p : ℕ × OpenFile). test p.1.mode) (sym pair) ∙ passes)
           | false ↦ λ fails none. cc
         ] refl is
-
-pub greatest-low : (v : Version) → greatest_length v ≤ 660480
-greatest-low V1 = omega arith
-greatest-low V2 = omega arith
 
 -- a file has a bounded number of bytes
 pub file-bytes : (s : State) → IsValid s → (n : ℕ) → (length (bytes_of (node_at s.tree n)) ≤ 660480) × (are_bytes (bytes_of (node_at s.tree n)) ≡ true)

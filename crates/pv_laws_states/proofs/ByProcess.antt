@@ -30,8 +30,9 @@ use Rattle.pv_laws_states.proofs.Members.{find_number-list_all, live-found}
 use Rattle.pv_laws_trees.proofs.Numbered.{length-with_number, length-without_number, with_number-same, with_number-other, without_number-same, without_number-other}
 use Rattle.pv_laws_trees.proofs.Places.{link-text}
 use Rattle.pv_laws_trees.proofs.Trees.{sound}
+use Rattle.pv_laws_trees.proofs.ImageBytes.{length-little_endian}
 use Rattle.pv_laws_states.proofs.Replies.{IsEffect}
-use Rattle.pv_laws_states.proofs.Running.{IsReady, list_all-set, list_all-both, list_all-replicate, length-little_endian, bytes-little_endian}
+use Rattle.pv_laws_states.proofs.Running.{IsReady, list_all-set, list_all-both, list_all-replicate, bytes-little_endian}
 use Rattle.pv_laws_states.proofs.Present.{ready, ready-process, my-running, my-placed, running-like, resolve-fine, target-fine}
 use Rattle.pv_model.specs.Walks.{from_here}
 

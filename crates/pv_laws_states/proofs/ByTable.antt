@@ -12,13 +12,15 @@ use Rattle.pv_model.specs.Effect.{answers}
 use Rattle.pv_model.specs.State.{Process, ProcessRecord, live, ended_record, State, process_at, with_process}
 use Rattle.pv_laws_states.specs.States.{IsRunning, IsPlaced, is_number, IsValid}
 use Rattle.pv_laws_states.proofs.Attempts.{Leads, leads-then, leads-refuse_if}
-use Rattle.pv_laws_states.proofs.Ending.{sorted-filtered, length-filtered, found-filtered, filtered-found, running-parent}
+use Rattle.pv_laws_states.proofs.Ending.{sorted-filtered, found-filtered, filtered-found, running-parent}
 use Rattle.pv_laws_trees.proofs.Entries.{report, list_all-filter}
 use Rattle.pv_laws_states.proofs.Members.{find_number_after, find_number-list_all, live-found, found-live}
 use Rattle.pv_laws_trees.proofs.Places.{list_all-weaker}
+use Rattle.pv_laws_trees.proofs.Generic.{filter-fewer}
+use Rattle.pv_laws_trees.proofs.ImageBytes.{length-little_endian}
 use Rattle.pv_laws_states.proofs.Processes.{number-itself}
 use Rattle.pv_laws_states.proofs.Replies.{IsEffect}
-use Rattle.pv_laws_states.proofs.Running.{IsReady, running-result, length-little_endian, bytes-little_endian}
+use Rattle.pv_laws_states.proofs.Running.{IsReady, running-result, bytes-little_endian}
 use Rattle.pv_laws_states.proofs.Present.{my-running, my-placed}
 use Rattle.pv_laws_states.proofs.Whole.{has_room, list_all-put_number, sorted-put_number, put-cases, with_process-cases, still-live}
 
@@ -115,7 +117,7 @@ module _ (s : State) (pid : ℕ) (me : Process) (whole : IsValid s) (at : proces
       processes = record {
         ascending = sorted-filtered (spared k) s.processes whole.processes.ascending;
         numbers = list_all-filter (λ (r : ℕ × ProcessRecord). is_number s.last_process r.0) (spared k) s.processes whole.processes.numbers;
-        count = omega (arith, length-filtered (spared k) s.processes, whole.processes.count);
+        count = omega (arith, filter-fewer (spared k) s.processes, whole.processes.count);
         last = whole.processes.last;
         running = λ j r is. whole.processes.running j r (was j r is);
         placed = λ j r is. whole.processes.placed j r (was j r is);

@@ -22,14 +22,15 @@ use Rattle.pv_model.specs.Tree.{Node, directory_node, file_node, link_node, Tree
 use Rattle.pv_model.specs.Walk.{resolve}
 use Rattle.pv_laws_states.specs.States.{is_byte, are_bytes, has_bytes, is_text, is_text_byte, IsTree, AreFiles, IsValid}
 use Rattle.pv_laws_states.proofs.Attempts.{Leads, leads-then, leads-refuse_if, leads-demand, leads-place, leads-room}
-use Rattle.pv_laws_states.proofs.ByFile.{open_file_for-at, file-bytes, files-with, files-stay, greatest-low}
+use Rattle.pv_laws_states.proofs.ByFile.{open_file_for-at, file-bytes, files-with, files-stay}
 use Rattle.pv_laws_states.proofs.ByProcess.{within-limit}
-use Rattle.pv_laws_trees.proofs.Changes.{directory-below, node_at-other}
+use Rattle.pv_laws_trees.proofs.Changes.{directory-below, node_at-other, directory_is_some}
 use Rattle.pv_laws_trees.proofs.Edits.{stays-new_node, stays-with_entry, stays-without_entry, stays-renamed, new_number-free}
 use Rattle.pv_laws_states.proofs.Grown.{bytes-with_node, bytes-with_entry, bytes-without_entry, carries-with_node, carries-entries, tree-content, carries-content, ready-tree, ready-smaller, new-below}
 use Rattle.pv_laws_trees.proofs.Changes.{still-there}
-use Rattle.pv_laws_trees.proofs.Rooms.{no_larger-without}
+use Rattle.pv_laws_trees.proofs.Rooms.{no_larger-without, greatest-low}
 use Rattle.pv_laws_trees.proofs.Places.{list_all-weaker, not_zero}
+use Rattle.pv_laws_trees.proofs.Generic.{not-there}
 use Rattle.pv_laws_states.proofs.Replies.{IsEffect}
 use Rattle.pv_laws_states.proofs.Running.{IsReady, list_all-take, list_all-drop, list_all-both, list_all-replicate}
 use Rattle.pv_laws_states.proofs.Present.{IsFinePlace, resolve-fine, text-bytes, ready, my-running, my-placed, Carries, carries-along, file-carried, solid-present}
@@ -52,27 +53,19 @@ named-place t (At d name n) p is named =
     let pair : ◌≡◌ {A = ℕ × Bytes} (d, name) p = cc named in
     subst (λ q. FineName t q n) pair (record { directory = is.0; appears = is.1; found = is.2; name = is.3; bytes = is.4 })
 
-no_node : (o : Option ℕ) → is_some o ≡ false → o ≡ None
-no_node None is = refl
-no_node (Some n) is = cc
-
-some_of : (o : Option Node) → is_directory o ≡ true → is_some o ≡ true
-some_of None is = cc
-some_of (Some node) is = refl
-
 -- the node of a place exists
 pub place-there : (t : Tree) → IsTree t → (place : Place) (n : ℕ) → IsFinePlace t place → node_of place ≡ Some n → is_some (node_at t n) ≡ true
-place-there t is (Unnamed m) n fine at = let same : m ≡ n = cc at in ap (λ k. is_some (node_at t k)) (sym same) ∙ some_of (node_at t m) fine
+place-there t is (Unnamed m) n fine at = let same : m ≡ n = cc at in ap (λ k. is_some (node_at t k)) (sym same) ∙ directory_is_some (node_at t m) fine
 place-there t is (At d name None) n fine at = cc
 place-there t is (At d name (Some m)) n fine at = is.well_formed.entries_are_nodes d name n (fine.2 ∙ at)
 
-plain_entries : (o : Option Node) → is_directory o ≡ false → entries_of o ≡ []
+pub plain_entries : (o : Option Node) → is_directory o ≡ false → entries_of o ≡ []
 plain_entries None plain = refl
 plain_entries (Some (directory_node es)) plain = cc
 plain_entries (Some (file_node executable bytes)) plain = refl
 plain_entries (Some (link_node text)) plain = refl
 
-empty-is : {X : Type 0} (xs : List X) → not (is_empty xs) ≡ false → xs ≡ []
+pub empty-is : {X : Type 0} (xs : List X) → not (is_empty xs) ≡ false → xs ≡ []
 empty-is [] is = refl
 empty-is (x ∷ xs) is = cc
 
@@ -122,7 +115,7 @@ module _ (s : State) (pid : ℕ) (me : Process) (whole : IsValid s) (at : proces
       leads-demand (IsEffect s) EEXIST (name_of place) (make_3 node) (λ p named.
       leads-room (IsEffect s) (with_tree s (with_new_node s.tree p.0 p.1 node)) (λ after. answers after 0) (λ short fit.
       let u : Tree = with_new_node s.tree p.0 p.1 node in
-      let fine : FineName s.tree p None = subst (FineName s.tree p) (no_node (node_of place) free) (named-place s.tree place p (fine-place follow path place text found) named) in
+      let fine : FineName s.tree p None = subst (FineName s.tree p) (not-there (node_of place) free) (named-place s.tree place p (fine-place follow path place text found) named) in
       let below = new-below s whole p.0 p.1 node (held_after s) fine.directory fine.found bare (λ n is. is) (ap fits (sym (tree-collect (with_tree s u))) ∙ fit) in
       let both = tree-new p node fine good bytes bare below in
       (ready-tree s whole u both.0 both.1 (room-of (with_tree s u) short fit), omega arith)))))
@@ -170,7 +163,7 @@ module _ (s : State) (pid : ℕ) (me : Process) (whole : IsValid s) (at : proces
       leads-demand (IsEffect s) EEXIST (name_of new_place) (link_6 n) (λ p named.
       leads-room (IsEffect s) (with_tree s (with_entry s.tree p.0 p.1 n)) (λ after. answers after 0) (λ short fit.
       let u : Tree = with_entry s.tree p.0 p.1 n in
-      let fine : FineName s.tree p None = subst (FineName s.tree p) (no_node (node_of new_place) free) (named-place s.tree new_place p (fine-place Keep new new_place news new_found) named) in
+      let fine : FineName s.tree p None = subst (FineName s.tree p) (not-there (node_of new_place) free) (named-place s.tree new_place p (fine-place Keep new new_place news new_found) named) in
       let there = place-there s.tree whole.tree old_place n (fine-place Last path old_place text old_found) is in (
         ready-tree s whole u
             (record {
@@ -265,7 +258,7 @@ module _ (s : State) (pid : ℕ) (me : Process) (whole : IsValid s) (at : proces
       let between : Tree = without_entry s.tree p.0 p.1 in
       let u : Tree = with_entry between q.0 q.1 n in
       let first : Carries s.tree between = carries-entries s.tree p.0 _ from.directory in
-      let dir : is_directory_at between q.0 ≡ true = first.directory q.0 (some_of (node_at s.tree q.0) into.directory) ∙ into.directory in (
+      let dir : is_directory_at between q.0 ≡ true = first.directory q.0 (directory_is_some (node_at s.tree q.0) into.directory) ∙ into.directory in (
         ready-tree s whole u
             (record {
               well_formed = stays-renamed s.tree whole.tree.well_formed p.0 p.1 q.0 q.1 n from.found (into.directory, into.appears) into.name clear

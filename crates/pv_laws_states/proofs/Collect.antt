@@ -29,6 +29,10 @@ pub processes-collect : (s : State) → (collect s).processes ≡ s.processes
 unfolding collect
 processes-collect s = refl
 
+pub last-collect : (s : State) → (collect s).last_process ≡ s.last_process
+unfolding collect
+last-collect s = refl
+
 pub is_collected : (s : State) → IsCollected s (collect s)
 unfolding collect
 is_collected s = record {

@@ -1,5 +1,5 @@
 -- The end of a process preserves the invariant before collection.
-use Rattle.std.proofs.Common.{◌≡◌, ◌≢◌, ℕ, suc, ◌≤◌, Bool, true, false, cond, not, ◌&&◌, ◌==◌, nat_le, List, [], ◌∷◌, map, filter, length, Option, None, Some, is_some, refl, ap, ap₂, sym, subst, ◌∙◌, ⊎_elim, arith}
+use Rattle.std.proofs.Common.{◌≡◌, ◌≢◌, ℕ, ◌≤◌, Bool, true, false, cond, not, ◌&&◌, ◌==◌, nat_le, List, [], ◌∷◌, map, filter, Option, None, Some, is_some, refl, ap, ap₂, sym, subst, ◌∙◌, ⊎_elim, arith}
 use Rattle.std.specs.List.{list_any, list_all}
 use Rattle.std.specs.Ordering.{nat_cmp, is_lt, is_eq, eq_by_cmp}
 use Rattle.std.specs.FinMap.Entries.{find, put, is_sorted, below_all}
@@ -9,6 +9,7 @@ use Rattle.pv_model.specs.Calls.Processes.{parent_of, with_parent, adopt, is_unc
 use Rattle.pv_model.specs.State.{Process, ProcessRecord, live, ended_record, State, live_process, process_at, with_process}
 use Rattle.pv_laws_states.specs.States.{IsRunning, IsPlaced, is_number, IsSolid}
 use Rattle.pv_laws_trees.proofs.Entries.{list_all-filter}
+use Rattle.pv_laws_trees.proofs.Generic.{filter-fewer}
 use Rattle.pv_laws_states.proofs.Members.{find_number_after, find_number_cases, find_number-list_all, live-found, found-live}
 use Rattle.pv_laws_states.proofs.Processes.{find-put_same, find-put_other}
 use Rattle.pv_laws_states.proofs.Whole.{list_all-put_number, length-put_there, sorted-put_number}
@@ -59,11 +60,6 @@ module _ {X : Type 0} (keeps : ℕ × X → Bool) where
   sorted-filtered (e ∷ es) sorted =
       let parts = and_parts (below_all nat_cmp e.0 es) (is_sorted nat_cmp es) sorted in
       elim (keeps e) as (λ b. is_sorted nat_cmp (cond b (e ∷ filter keeps es) (filter keeps es)) ≡ true) [ true ↦ and_from _ _ (below-filtered e.0 es parts.0) (sorted-filtered es parts.1) | false ↦ sorted-filtered es parts.1 ]
-
-  pub length-filtered : (es : List (ℕ × X)) → length (filter keeps es) ≤ length es
-  length-filtered [] = omega arith
-  length-filtered (e ∷ es) =
-      elim (keeps e) as (λ b. length (cond b (e ∷ filter keeps es) (filter keeps es)) ≤ suc (length es)) [ true ↦ omega (arith, length-filtered es) | false ↦ omega (arith, length-filtered es) ]
 
   -- an element found in a filtered list is in the list, and passes
   pub found-filtered : (es : List (ℕ × X)) → is_sorted nat_cmp es ≡ true → (k : ℕ) (r : X) → find nat_cmp k (filter keeps es) ≡ Some r → (find nat_cmp k es ≡ Some r) × (keeps (k, r) ≡ true)
@@ -243,7 +239,7 @@ module _ (s : State) (is : IsSolid s) (pid : ℕ) (p me : Process) (at : process
           (keys-mapped (adopted pid heir) (is_number s.last_process) put_away.processes
           ∙ list_all-put_number (is_number s.last_process) pid gone s.processes (find_number-list_all (is_number s.last_process) pid (live p) s.processes is.processes.numbers was_found) is.processes.numbers);
       count =
-          let few = length-filtered claimed (mapped (adopted pid heir) put_away.processes) in
+          let few = filter-fewer claimed (mapped (adopted pid heir) put_away.processes) in
           let long = length-map {B = ℕ × ProcessRecord} put_away.processes (λ e. (e.0, adopted pid heir e.1)) in
           let put = length-put_there pid gone (live p) s.processes is.processes.ascending was_found in
           omega (arith, few, long, put, is.processes.count);
@@ -280,3 +276,7 @@ module _ (s : State) (is : IsSolid s) (pid : ℕ) (p me : Process) (at : process
 pub tree-end : (s : State) (pid : ℕ) (me : Process) (status : ℕ) → (end_process s pid me status).tree ≡ s.tree
 unfolding end_process
 tree-end s pid me status = refl
+
+pub last-end : (s : State) (pid : ℕ) (me : Process) (status : ℕ) → (end_process s pid me status).last_process ≡ s.last_process
+unfolding end_process
+last-end s pid me status = refl

@@ -19,6 +19,7 @@ use Rattle.pv_model.specs.Walk.{resolve}
 use Rattle.pv_laws_states.specs.States.{is_byte, is_text_byte, are_bytes, has_bytes, is_text, IsTree, is_listed, IsOpenFile, AreFiles, is_target, is_table, IsRunning, IsPlaced, AreProcesses, IsSolid, IsValid}
 use Rattle.pv_laws_trees.proofs.Places.{list_all-weaker, IsGoodPlace, is_encoded, resolve-good, component-name, link-text, not_zero}
 use Rattle.pv_laws_trees.proofs.Trees.{sound}
+use Rattle.pv_laws_trees.proofs.Changes.{directory_is_some}
 use Rattle.pv_laws_states.proofs.Running.{IsReady}
 use Rattle.pv_laws_states.proofs.Whole.{has_room, solid, solid-with_process, table-same}
 -- ---- places
@@ -84,13 +85,9 @@ carries-along t u w a still b = record {
   file = λ n is. b.file n (still n is) ∙ a.file n is;
 }
 
-file_or_directory : (o : Option Node) → (is_file o || is_directory o) ≡ true → is_some o ≡ true
+pub file_or_directory : (o : Option Node) → (is_file o || is_directory o) ≡ true → is_some o ≡ true
 file_or_directory None is = cc
 file_or_directory (Some node) is = refl
-
-directory_some : (o : Option Node) → is_directory o ≡ true → is_some o ≡ true
-directory_some None is = cc
-directory_some (Some node) is = refl
 
 pub file-carried : (t u : Tree) (f : OpenFile) → Carries t u → IsOpenFile t f → IsOpenFile u f
 file-carried t u f carries is =
@@ -127,10 +124,10 @@ table-there t (Some table) is n held = targets-there t table (and_parts (nat_le 
 pub placed-carried : (t u : Tree) (fs gs : Numbered OpenFile) (p : Process) → Carries t u → ((k : ℕ) → is_some (at_number fs k) ≡ true → is_some (at_number gs k) ≡ true)
     → IsPlaced t fs p → IsPlaced u gs p
 placed-carried t u fs gs p carries still is = record {
-  directory = carries.directory p.directory (directory_some (node_at t p.directory) is.directory) ∙ is.directory;
+  directory = carries.directory p.directory (directory_is_some (node_at t p.directory) is.directory) ∙ is.directory;
   descriptors = is.descriptors;
   opens = λ d x at. still x.file (is.opens d x at);
-  table = table-same t u p.table carries.version (λ n held. carries.directory n (directory_some (node_at t n) (table-there t p.table is.table n held))) is.table;
+  table = table-same t u p.table carries.version (λ n held. carries.directory n (directory_is_some (node_at t n) (table-there t p.table is.table n held))) is.table;
 }
 
 -- a state with another tree and other open files keeps the invariant before collection

@@ -109,10 +109,6 @@ running-next p is = record {
 }
 
 -- the bytes of a number
-pub length-little_endian : (k n : ℕ) → length (little_endian k n) ≡ k
-length-little_endian zero n = refl
-length-little_endian (suc k) n = ap suc (length-little_endian k _)
-
 pub bytes-little_endian : (k n : ℕ) → are_bytes (little_endian k n) ≡ true
 bytes-little_endian zero n = refl
 bytes-little_endian (suc k) n = and_from _ _ (lt-ltb _ 256 (omega arith)) (bytes-little_endian k _)

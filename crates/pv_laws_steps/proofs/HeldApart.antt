@@ -3,6 +3,7 @@ use Rattle.std.proofs.Common.{◌≡◌, ◌≢◌, ℕ, Bool, true, false, ◌&
 use Rattle.std.proofs.lemmas.Bool.{cases_eq}
 use Rattle.std.specs.FinMap.Entries.{is_sorted}
 use Rattle.std.specs.Ordering.{nat_cmp}
+use Rattle.std.specs.Cmp.{both_ways}
 use Rattle.pv_model.specs.declared.call.Call.{Call}
 use Rattle.pv_model.specs.Answer.{at_next_line, effect}
 use Rattle.pv_model.specs.Attempt.{Attempt, done, refused}
@@ -19,6 +20,7 @@ use Rattle.pv_model.specs.Tree.{Tree, root, named_numbers, IsWellFormed}
 use Rattle.pv_laws_trees.specs.Preserved.{preserved, wanted}
 use Rattle.pv_laws_trees.proofs.Keeping.{wanted-is, in_turn}
 use Rattle.pv_laws_trees.proofs.Numbered.{at_number-keep, keep_if-some, keep-keep, keep-agree, with_number-other_within, least_free-within, least_free-free}
+use Rattle.pv_laws_trees.proofs.Generic.{implied}
 use Rattle.pv_laws_states.specs.Held.{used}
 use Rattle.pv_laws_states.specs.States.{EncodesPrograms, IsValid, is_call}
 use Rattle.pv_laws_states.proofs.Attempts.{Leads}
@@ -36,11 +38,6 @@ use Rattle.pv_laws_steps.proofs.Alongside.{moved, step-beside_to, SteppedTo, Fit
 use Rattle.pv_laws_steps.proofs.BesideCalls.{changes}
 use Rattle.pv_laws_steps.proofs.Commuted.{put-changes}
 use Rattle.pv_laws_steps.proofs.Exchange.{KeepsParent, changed, process-changed, with-changed, end-changed}
-
-pub same-truth : (a b : Bool) → (a ≡ true → b ≡ true) → (b ≡ true → a ≡ true) → a ≡ b
-same-truth true b there back = sym (there refl)
-same-truth false true there back = back refl
-same-truth false false there back = refl
 
 -- the process with a number is unique
 pub found-same : (z : State) (i pid : ℕ) (p q : Process) → i ≡ pid → process_at z i ≡ Some p → process_at z pid ≡ Some q → p ≡ q
@@ -78,10 +75,6 @@ preserved-turn t many few w fewer =
 pub record NoMore (j : ℕ) (f : Process → Process) (x : State) : Type 0 where
   pub used : (m : ℕ) → among (used (with_change x j f)) m ≡ true → among (used x) m ≡ true
   pub held : (n : ℕ) → among (held_after (with_change x j f)) n ≡ true → among (wanted x.tree (held_after x)) n ≡ true
-
-implied : (a b : Bool) → (a ≡ true → b ≡ true) → (a && b) ≡ a
-implied true b there = there refl
-implied false b there = refl
 
 -- collecting before the change does not affect collecting after it
 pub collect-turn : (j : ℕ) (f : Process → Process) (x : State) → IsWellFormed x.tree → NoMore j f x → collect (with_change (collect x) j f) ≡ collect (with_change x j f)
@@ -152,7 +145,7 @@ module _ (j : ℕ) (f : Process → Process) where
     -- if the change removes no open file, the same are used
     pub use-left : ((i : ℕ) (q : Process) (d : ℕ) (v : Descriptor) → process_at x i ≡ Some q → at_number q.descriptors d ≡ Some v → is_some (at_number x.files v.file) ≡ true)
         → UsesNoMore p.descriptors (f p).descriptors → (collect (with_change x j f)).files ≡ x.files → SameUse x
-    use-left opens fewer left = record { same = λ m. same-truth (among (used (with_change x j f)) m) (among (used x) m) (used-before fewer m) (following m) }
+    use-left opens fewer left = record { same = λ m. both_ways (among (used (with_change x j f)) m) (among (used x) m) (used-before fewer m) (following m) }
       where
         stays : (m : ℕ) (o : Option OpenFile) → at_number x.files m ≡ o → is_some o ≡ true → among (used (with_change x j f)) m ≡ true
         stays m None at some = cc some

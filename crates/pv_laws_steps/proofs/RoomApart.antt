@@ -2,6 +2,7 @@
 use Rattle.std.proofs.Common.{◌≡◌, ◌≢◌, ℕ, suc, true, false, ◌==◌, ◌&&◌, List, [], ◌∷◌, Option, Some, is_some, refl, ap, ap₂, sym, subst, ◌∙◌, ⊎_elim}
 use Rattle.std.specs.FinMap.Entries.{is_sorted, below_all}
 use Rattle.std.specs.Ordering.{nat_cmp, is_lt}
+use Rattle.std.specs.Cmp.{both_ways}
 use Rattle.std.proofs.lemmas.Bool.{cases_eq, cases_Bool, eqb-true, or_cases, or_left}
 use Rattle.pv_model.specs.declared.call.Call.{Call}
 use Rattle.pv_model.specs.Answer.{at_next_line, effect}
@@ -32,7 +33,7 @@ use Rattle.pv_laws_steps.specs.Beside.{with_change}
 use Rattle.pv_laws_steps.proofs.Alongside.{HaveRoomAlike, same-room, Beside, moved, room-beside}
 use Rattle.pv_laws_steps.proofs.BesideCalls.{changes}
 use Rattle.pv_laws_steps.proofs.Exchange.{KeepsParent, changed, put-other, process-changed, with-changed}
-use Rattle.pv_laws_steps.proofs.HeldApart.{UsesNoMore, found-same, same-truth, more-with_number}
+use Rattle.pv_laws_steps.proofs.HeldApart.{UsesNoMore, found-same, more-with_number}
 use Rattle.pv_laws_steps.proofs.RoomCalls.{directory-there, GoesOn, RoomsKnown, calls-fit}
 
 -- the nodes that a process references exist
@@ -130,7 +131,7 @@ same-collected a b whole_a whole_b tree x y same on_x on_y =
     tree-collect y
     ∙ ap (λ nodes. record (y.tree) { nodes = nodes })
     (keep-agree (among (wanted y.tree (held_after y))) (among (wanted y.tree (held_after x))) y.tree.nodes
-    (λ n. same-truth (among (wanted y.tree (held_after y)) n) (among (wanted x.tree (held_after x)) n)
+    (λ n. both_ways (among (wanted y.tree (held_after y)) n) (among (wanted x.tree (held_after x)) n)
     (wanted-on b a whole_b whole_a (sym tree) y x (sym same) on_y on_x n) (wanted-on a b whole_a whole_b tree x y same on_x on_y n)
     ∙ ap (λ t. among (wanted t (held_after x)) n) (sym same)))
     ∙ ap (λ t. preserved t (held_after x)) same ∙ sym (tree-collect x)

@@ -40,13 +40,14 @@ use Rattle.pv_laws_trees.proofs.NewNodes.{entry-stays, stays-new, named-new}
 use Rattle.pv_laws_trees.proofs.Numbered.{at_number-below, with_number-same_within, with_number-other_within, least_free-within, least_free-free, length-drop_one}
 use Rattle.pv_laws_trees.proofs.Rooms.{no_larger-without}
 use Rattle.pv_laws_trees.proofs.Trees.{IsOrdered, ordered, among-entry, entry-among}
+use Rattle.pv_laws_trees.proofs.Generic.{not-there}
 use Rattle.pv_laws_states.specs.States.{is_text, is_call, IsValid}
 use Rattle.pv_laws_states.proofs.Attempts.{Leads}
 use Rattle.pv_laws_states.proofs.ByFile.{open_file_for-at}
 use Rattle.pv_laws_states.proofs.ByTree.{FineName, named-place, place-there, fine-place}
 use Rattle.pv_laws_states.proofs.Grown.{carries-entries}
 use Rattle.pv_laws_states.proofs.Rests
-use Rattle.pv_laws_states.proofs.Present.{IsFinePlace, resolve-fine, my-placed}
+use Rattle.pv_laws_states.proofs.Present.{IsFinePlace, resolve-fine, my-placed, file_or_directory}
 use Rattle.pv_laws_states.proofs.Starts.{StartsWell, leads-start}
 use Rattle.pv_laws_access.proofs.Changed.{entries-content}
 use Rattle.pv_laws_steps.specs.Beside.{with_change}
@@ -118,16 +119,8 @@ pub record RoomsKnown (k : ℕ) (f : Process → Process) (s : State) (pid : ℕ
   pub smaller : (t : Tree) (n : ℕ) → IsNoLarger t s.tree
       → R (with_room (record s { tree = t }) >>= (λ roomy. answers roomy n)) (with_room (record (with_change s k f) { tree = t }) >>= (λ roomy. answers roomy n))
 
-some_of : (o : Option Node) → (is_file o || is_directory o) ≡ true → is_some o ≡ true
-some_of None is = cc is
-some_of (Some node) is = refl
-
 pub directory-there : (t : Tree) (n : ℕ) → is_directory_at t n ≡ true → is_some (node_at t n) ≡ true
-directory-there t n is = some_of (node_at t n) (or_right (is_file (node_at t n)) (is_directory_at t n) is)
-
-no_node : (o : Option ℕ) → is_some o ≡ false → o ≡ None
-no_node None is = refl
-no_node (Some n) is = cc is
+directory-there t n is = file_or_directory (node_at t n) (or_right (is_file (node_at t n)) (is_directory_at t n) is)
 
 module _ (k : ℕ) (f : Process → Process) (s : State) (pid : ℕ) (me : Process) (whole : IsValid s) (at : process_at s pid ≡ Some me) (R : Attempt Effect → Attempt Effect → Type 0) (S : State → State → Type 0)
     (along : CallsAlong k f s pid me R S) (rooms : RoomsKnown k f s pid me R) where
@@ -169,7 +162,7 @@ module _ (k : ℕ) (f : Process → Process) (s : State) (pid : ℕ) (me : Proce
   in_order = ordered s.tree whole.tree.well_formed.each_node
 
   file-there : (m : ℕ) (file : OpenFile) → at_number s.files m ≡ Some file → is_some (node_at s.tree file.node) ≡ true
-  file-there m file is = some_of (node_at s.tree file.node) (whole.files.each m file is).node
+  file-there m file is = file_or_directory (node_at s.tree file.node) (whole.files.each m file is).node
 
   -- the node of each entry has a name in the tree
   abbrev Names : Tree → Type 0
@@ -234,7 +227,7 @@ module _ (k : ℕ) (f : Process → Process) (s : State) (pid : ℕ) (me : Proce
       judged me.directory follow path permission_c (Rests.make_1 s pid me node) (Rests.make_1 u pid me node) (λ place found.
       tested EEXIST (is_some (node_of place)) (Rests.make_2 s pid me node place) (Rests.make_2 u pid me node place) (λ free.
       demanded EEXIST (name_of place) (Rests.make_3 s pid me node) (Rests.make_3 u pid me node) (λ p named.
-      let fine = free-name place p (fine-place s pid me whole at follow path place text found) named (no_node (node_of place) free) in
+      let fine = free-name place p (fine-place s pid me whole at follow path place text found) named (not-there (node_of place) free) in
       rooms.room (with_new_node s.tree p.0 p.1 node) s.files 0 (goes-on (with_new_node s.tree p.0 p.1 node) (names-new p fine node bare)))))
 
   link-known : (path new : Bytes) → is_text new ≡ true → R (link s pid me path new) (link u pid me path new)
@@ -245,7 +238,7 @@ module _ (k : ℕ) (f : Process → Process) (s : State) (pid : ℕ) (me : Proce
       tested EPERM (is_directory_at s.tree n) (Rests.link_4 s pid me new_place n) (Rests.link_4 u pid me new_place n) (λ plain.
       tested EEXIST (is_some (node_of new_place)) (Rests.link_5 s pid me new_place n) (Rests.link_5 u pid me new_place n) (λ free.
       demanded EEXIST (name_of new_place) (Rests.link_6 s pid me n) (Rests.link_6 u pid me n) (λ p named.
-      let fine = free-name new_place p (fine-place s pid me whole at Keep new new_place text new_found) named (no_node (node_of new_place) free) in
+      let fine = free-name new_place p (fine-place s pid me whole at Keep new new_place text new_found) named (not-there (node_of new_place) free) in
       rooms.room (with_entry s.tree p.0 p.1 n) s.files 0
       (goes-on (with_entry s.tree p.0 p.1 n) (λ e q x has. entry-among (with_entry s.tree p.0 p.1 n) e q x (entry-stays s.tree p.0 p.1 fine.directory fine.found n e q x has)))))))))
 

@@ -67,7 +67,7 @@ shape-along t u w a b = record {
   each_node = b.each_node;
 }
 
-directory_is_some : (o : Option Node) → is_directory o ≡ true → is_some o ≡ true
+pub directory_is_some : (o : Option Node) → is_directory o ≡ true → is_some o ≡ true
 directory_is_some None is = cc
 directory_is_some (Some node) is = refl
 

@@ -1,6 +1,5 @@
 -- The reported error of bytes that are not an image is the first one.
 use Rattle.std.proofs.Common.{◌≡◌, ℕ, zero, suc, ◌+◌, ◌<◌, ◌≤◌, Bool, true, false, cond, nat_lt, length, take, Option, None, Some, Result, Ok, Err, ap, sym, subst, ◌∙◌, refl, arith, ltb-true, ltb-false, lt-ltb, le-ltb}
-use Rattle.std.proofs.lemmas.Slice.Eq.{bytes_eq-Decides}
 use Rattle.std.specs.Prelude.{if◌then◌else◌, find, bytes_eq}
 use Rattle.std.specs.List.{range_with_len}
 use Rattle.pv_model.specs.declared.fault.ImageFault.{ImageFault}
@@ -12,6 +11,7 @@ use Rattle.pv_model.specs.Bytes.{Bytes}
 use Rattle.pv_model.specs.Image.{magic}
 use Rattle.pv_model.specs.Mount.{version_of, inode_number, has_sizes, has_bad_inode, has_bad_block, has_bad_content, has_bad_place, least_with, or_fault, inode_fault, tree_in, or_tree, mounted_as, mounted, PassesNone, PassesLeast, HasSizes, IsFaultOf, short, other_magic, other_sizes, bad_inode, bad_block, bad_content, bad_place}
 use Rattle.pv_model.specs.Tree.{Tree}
+use Rattle.pv_laws_trees.proofs.Entries.{bytes_eq-same}
 
 -- ---- the least number for which a test succeeds
 
@@ -165,17 +165,14 @@ front_of V2 = refl
 pub version_of-magic : (bytes : Bytes) (v : Version) → take 8 bytes ≡ magic v → version_of bytes ≡ Some v
 version_of-magic bytes v is = ap by_front is ∙ front_of v
 
-same_bytes : (a b : Bytes) → bytes_eq a b ≡ true → a ≡ b
-same_bytes a b is = (bytes_eq-Decides a b).0 is
-
 pub magic-version_of : (bytes : Bytes) (v : Version) → version_of bytes ≡ Some v → take 8 bytes ≡ magic v
 magic-version_of bytes v is =
     elim (bytes_eq (take 8 bytes) (magic V1)) as (λ b. bytes_eq (take 8 bytes) (magic V1) ≡ b
     → (if b then Some V1 else if bytes_eq (take 8 bytes) (magic V2) then Some V2 else None) ≡ Some v → take 8 bytes ≡ magic v) [
-      | true ↦ λ first h. same_bytes (take 8 bytes) (magic V1) first ∙ ap magic (ap (some_or V1) h)
+      | true ↦ λ first h. bytes_eq-same (take 8 bytes) (magic V1) first ∙ ap magic (ap (some_or V1) h)
       | false ↦ λ first h.
           elim (bytes_eq (take 8 bytes) (magic V2)) as (λ b. bytes_eq (take 8 bytes) (magic V2) ≡ b → (if b then Some V2 else None) ≡ Some v → take 8 bytes ≡ magic v) [
-            | true ↦ λ second g. same_bytes (take 8 bytes) (magic V2) second ∙ ap magic (ap (some_or V2) g)
+            | true ↦ λ second g. bytes_eq-same (take 8 bytes) (magic V2) second ∙ ap magic (ap (some_or V2) g)
             | false ↦ λ second g. absurd cc
           ] refl h
     ] refl is

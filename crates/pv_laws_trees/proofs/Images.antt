@@ -35,7 +35,7 @@ one_fewer : (e k l : ℕ) → l ≡ e * suc k → (e ≤ l) × (l - e ≡ e * k)
 one_fewer e k l is = let more : e * suc k ≡ e + e * k = omega arith in (omega (arith, is, more), omega (arith, is, more))
 
 -- each slot has room for the longest name
-room_for : (v : Version) → 4 + greatest_name v ≤ entry_length v
+pub room_for : (v : Version) → 4 + greatest_name v ≤ entry_length v
 room_for V1 = omega arith
 room_for V2 = omega arith
 

@@ -11,6 +11,7 @@ use Rattle.pv_laws_trees.specs.Preserved.{EachIsNamed, wanted, preserved}
 use Rattle.pv_laws_trees.specs.Tree.{IsSound}
 use Rattle.pv_laws_trees.proofs.Numbered.{keep-all, keep-keep, keep-agree, keep-some, keep-passes, keep-fails, at_number-keep, length-keep}
 use Rattle.pv_laws_trees.proofs.Trees.{ordered, among-entry, entry-among, sound}
+use Rattle.pv_laws_trees.proofs.Generic.{implied}
 
 -- a tree whose nodes are all among the numbers is unchanged
 pub only_nodes_all : (t : Tree) (ns : List ℕ) → ((n : ℕ) (node : Node) → node_at t n ≡ Some node → among ns n ≡ true) → only_nodes t ns ≡ t
@@ -34,6 +35,13 @@ wanted-named t held n named = wanted-is t held n ∙ or_right (root == n) _ (or_
 
 pub wanted-held : (t : Tree) (held : List ℕ) (n : ℕ) → among held n ≡ true → among (wanted t held) n ≡ true
 wanted-held t held n is = wanted-is t held n ∙ or_right (root == n) _ (or_right (among (named_numbers t) n) (among held n) is)
+
+-- the same references keep the same nodes
+pub preserved-agree : (t : Tree) (ms ns : List ℕ) → ((n : ℕ) → among ms n ≡ among ns n) → preserved t ms ≡ preserved t ns
+preserved-agree t ms ns same =
+    ap (λ nodes. record t { nodes = nodes })
+    (keep-agree (among (wanted t ms)) (among (wanted t ns)) t.nodes
+    (λ n. wanted-is t ms n ∙ ap (λ b. (root == n) || (among (named_numbers t) n || b)) (same n) ∙ sym (wanted-is t ns n)))
 
 -- if each node other than the root has a name, no node is collected, whatever is referenced
 pub preserved_all : (t : Tree) (held : List ℕ) → EachIsNamed t → preserved t held ≡ t
@@ -117,10 +125,6 @@ among-only t ns s covers n =
     both_ways (among (named_numbers u) n) (among (named_numbers t) n)
     (λ is. let found = among-entry u (ordered u (only-sound t ns s covers).each_node) n is in entry-among t found.0 found.1 n (sym (same found.0 found.1) ∙ found.2))
     (λ is. let found = among-entry t (ordered t s.each_node) n is in entry-among u found.0 found.1 n (same found.0 found.1 ∙ found.2))
-
-implied : (a b : Bool) → (a ≡ true → b ≡ true) → (a && b) ≡ a
-implied true b is = is refl
-implied false b is = refl
 
 -- references can be released one at a time
 pub preserved_in_turn : (t : Tree) (many few : List ℕ) → IsSound t → ((n : ℕ) → among few n ≡ true → among many n ≡ true) → preserved (preserved t many) few ≡ preserved t few

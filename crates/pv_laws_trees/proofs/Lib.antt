@@ -1,13 +1,16 @@
 -- Lemmas about trees, walks and images. They are public because proofs of code use them.
+-- - Generic (tests, optional values and lists of any type), Targets (targets and permissions of unveil(2)).
 -- - Trees: Numbered (maps from numbers), Entries (the entries of a directory), NameOrder, Members (membership in
 --   lists), Trees (well-formed trees by their entries; parents), Encoded (bytes of names).
 -- - Collection and room: Keeping, Rooms, NameCounts, ReferenceCounts, Empty (the tree with only the root).
 -- - Changes: Changes (one node replaced), NewNodes, Edits (changes that keep a tree well-formed), Above (ancestors),
 --   Found (lookups before and after a change).
 -- - Walks: Walks (the function computes the relation), Places (valid places, and what a walk reads).
--- - Image bytes: Ranges, Directories, Inodes, Nodes, Blocks, ImagePlaces, Names, Reached, Slots, Faults, Starts.
+-- - Image bytes: Ranges, Directories, Inodes, Nodes, Blocks, ImagePlaces, Names, Reached, Slots, Faults, Starts,
+--   ImageBytes.
 -- - Mounting: Passed and ImageTrees (inodes that pass all tests hold a well-formed tree), Images (the bytes are an
 --   image of it), and conversely Held, ImageEntries, Listed and Back. Accepted: booting.
+pub mod Generic
 pub mod Numbered
 pub mod Entries
 pub mod Trees
@@ -26,6 +29,7 @@ pub mod ReferenceCounts
 pub mod Found
 pub mod Members
 pub mod NameOrder
+pub mod Targets
 -- ---- image bytes
 pub mod Faults
 pub mod Slots
@@ -38,6 +42,7 @@ pub mod Names
 pub mod Blocks
 pub mod ImagePlaces
 pub mod Reached
+pub mod ImageBytes
 -- ---- mounting
 pub mod Passed
 pub mod ImageTrees

@@ -142,6 +142,11 @@ module _ {X : Type 0} where
 
   -- ---- the number of values
 
+  pub present-within : (xs : Numbered X) → length (present xs) ≤ length xs
+  present-within [] = zero-le
+  present-within (None ∷ xs) = omega (arith, present-within xs)
+  present-within (Some x ∷ xs) = omega (arith, present-within xs)
+
   pub least_free-below : (xs : Numbered X) (n : ℕ) → n < least_free xs → is_some (at_number xs n) ≡ true
   least_free-below [] n below = absurd (omega arith)
   least_free-below (None ∷ xs) n below = absurd (omega arith)

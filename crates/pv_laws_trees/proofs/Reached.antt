@@ -10,13 +10,9 @@ use Rattle.pv_model.specs.Tree.{root, IsReached, from_root, by_entry}
 use Rattle.pv_laws_trees.specs.Inodes.{EachOnce, HasInodes}
 use Rattle.pv_laws_trees.proofs.Names.{steps_to, further, entry-within, entry-slot}
 use Rattle.pv_laws_trees.proofs.Ranges.{any_in_range, range_any}
+use Rattle.pv_laws_trees.proofs.Generic.{filter-fewer}
 
 -- ---- the number of elements that pass
-
-few_left : {X : Type 0} (p : X → Bool) (xs : List X) → length (filter p xs) ≤ length xs
-few_left p [] = omega arith
-few_left p (x ∷ xs) =
-    elim (p x) as (λ b. length (cond b (x ∷ filter p xs) (filter p xs)) ≤ suc (length xs)) [ true ↦ omega (arith, few_left p xs) | false ↦ omega (arith, few_left p xs) ]
 
 no_fewer : {X : Type 0} (p q : X → Bool) → ((x : X) → p x ≡ true → q x ≡ true) → (xs : List X) → length (filter p xs) ≤ length (filter q xs)
 no_fewer p q more [] = omega arith
@@ -129,7 +125,7 @@ module _ (v : Version) (bytes : Bytes) (is : EachOnce v bytes) where
 
   enough-last : 1 ≤ last → IsEnough last
   enough-last some =
-      ⊎_elim (λ enough. enough) (λ more. absurd (omega (arith, more, few_left (within last) (range_with_len 1 last), length-range_with_len 1 last))) (enough-or_more some last)
+      ⊎_elim (λ enough. enough) (λ more. absurd (omega (arith, more, filter-fewer (within last) (range_with_len 1 last), length-range_with_len 1 last))) (enough-or_more some last)
 
   pub reached-within : HasInodes v bytes → (n : ℕ) → IsReached (tree_in v bytes) n → within last n ≡ true
   reached-within has _ from_root = at_root last root refl

@@ -16,6 +16,7 @@ use Rattle.pv_laws_trees.specs.Room.{IsNoLonger, IsNoLarger}
 use Rattle.pv_laws_trees.proofs.Changes.{node_at-same, node_at-other, directory-below}
 use Rattle.pv_laws_trees.proofs.Entries.{by_name, is_other}
 use Rattle.pv_laws_trees.proofs.Numbered.{at_number-keep}
+use Rattle.pv_laws_trees.proofs.Generic.{filter-fewer}
 
 index_grows : (v : Version) (a b : ℕ) → a ≤ b → index_blocks v a ≤ index_blocks v b
 index_grows V1 a b le = by (nat_le a 10) (nat_le b 10) refl refl
@@ -32,6 +33,10 @@ unfolding need
 need_grows v m n le =
     let blocks : rounded_up m 512 ≤ rounded_up n 512 = omega arith in
     omega (arith, index_grows v (rounded_up m 512) (rounded_up n 512) blocks)
+
+pub greatest-low : (v : Version) → greatest_length v ≤ 660480
+greatest-low V1 = omega arith
+greatest-low V2 = omega arith
 
 module _ (v : Version) where
   abbrev needed : Node → ℕ
@@ -126,17 +131,13 @@ preserved-no_larger t held = record {
 
 -- ---- one entry less
 
-length-filter : {X : Type 0} (p : X → Bool) (xs : List X) → length (filter p xs) ≤ length xs
-length-filter p [] = omega arith
-length-filter p (x ∷ xs) = elim (p x) as (λ b. length (cond b (x ∷ filter p xs) (filter p xs)) ≤ suc (length xs)) [ true ↦ omega (arith, length-filter p xs) | false ↦ omega (arith, length-filter p xs) ]
-
 no_longer-self : (v : Rattle.pv_model.specs.declared.version.Version.Version) (o : Option Node) → IsNoLonger v o o
 no_longer-self v None = tt
 no_longer-self v (Some node) = Rattle.std.proofs.Common.le_refl _
 
 shorter : (t : Tree) (d : ℕ) (keeps : Bytes × ℕ → Bool) (o : Option Node) → is_directory o ≡ true → IsNoLonger t.version (Some (directory_node (filter keeps (entries_of o)))) o
 shorter t d keeps None dir = cc
-shorter t d keeps (Some (directory_node es)) dir = Rattle.std.proofs.Common.mul-le-mul_left (entry_length t.version) (length-filter keeps es)
+shorter t d keeps (Some (directory_node es)) dir = Rattle.std.proofs.Common.mul-le-mul_left (entry_length t.version) (filter-fewer keeps es)
 shorter t d keeps (Some (file_node executable bytes)) dir = cc
 shorter t d keeps (Some (link_node text)) dir = cc
 

@@ -1,11 +1,12 @@
 -- The components of a path, split off one by one.
-use Rattle.std.proofs.Common.{◌≡◌, ◌<◌, ℕ, zero, suc, ◌==◌, not, Bool, true, false, filter, List, [], ◌∷◌, length, get_or, take, drop, Option, None, Some, is_some, refl, sym, ap, ◌∙◌, arith, position, unwrap_or}
+use Rattle.std.proofs.Common.{◌≡◌, ◌<◌, ℕ, zero, suc, ◌==◌, not, Bool, true, false, filter, List, [], ◌∷◌, length, get_or, take, drop, Option, None, Some, is_some, refl, sym, ap, ◌∙◌, arith, position, unwrap_or, nat_lt}
 use Rattle.std.proofs.lemmas.List.{drop_all, length-drop}
 use Rattle.std.proofs.lemmas.List.Quantifiers.{position-Some}
 use Rattle.std.proofs.lemmas.List.Sums.{prefix_len-le-length, prefix_len-drop_yes}
 use Rattle.std.proofs.Math.Numerals.{one-add}
+use Rattle.std.proofs.lemmas.Option.{cond_some}
 use Rattle.std.specs.List.{position_or_len}
-use Rattle.pv_namei.proofs.FirstPlaces.{place_or_length, place_past, place_is}
+use Rattle.pv_namei.proofs.FirstPlaces.{place_or_length, place_past}
 use Rattle.pv_model.specs.Bytes.{Bytes, is_empty, onto_first}
 use Rattle.pv_model.specs.Walk.{split_slashes, components, ends_in_slash}
 
@@ -102,7 +103,7 @@ module _ (path : Bytes) (start end : ℕ) (found : position is_other path ≡ So
   pub components_next : components path ≡ take end (drop start path) ∷ components (drop end (drop start path))
   components_next =
       let at = position-Some is_other path start 0 found in
-      let from : slashes path ≡ start = place_is (slashes path) (length path) start found in
+      let from : slashes path ≡ start = (cond_some (nat_lt (slashes path) (length path)) (slashes path) start found).1 in
       let some : 0 < others (drop start path) = omega (arith, others_next, some_next) in
       let there : 0 < length (drop start path) = omega (arith, length-drop start path, at.0) in
       sym (components_skip path) ∙ ap (λ n. components (drop n path)) from ∙ rw others_next (components_cut (drop start path) some there)

@@ -7,6 +7,3 @@ place_or_length n m within = grind (arith, nat_tests)
 
 pub place_past : (n m : ℕ) → n ≤ m → cond (nat_lt n m) (Some n) None ≡ None → n ≡ m
 place_past n m within none = grind (arith, nat_tests)
-
-pub place_is : (n m i : ℕ) → cond (nat_lt n m) (Some n) None ≡ Some i → n ≡ i
-place_is n m i some = grind (arith, nat_tests)

@@ -4,15 +4,7 @@ use Rattle.std.specs.Prelude.{◌==◌}
 use Rattle.std.specs.List.{AllByRecursion, filter}
 use Rattle.std.proofs.lemmas.List.{length-map}
 use Rattle.pv_model.specs.Answers.Needs.{Asked, Judged, asked_by_one, onto_process_image, process_images, walks_judged}
-
--- a filtered list is not longer
-pub filter-fewer : {X : Type 0} (p : X → Bool) (xs : List X) → length (filter p xs) ≤ length xs
-filter-fewer p [] = omega arith
-filter-fewer p (x ∷ xs) = by (p x) (filter-fewer p xs)
-  where
-    by : (b : Bool) → length (filter p xs) ≤ length xs → length (cond b (x ∷ filter p xs) (filter p xs)) ≤ length (x ∷ xs)
-    by true few = omega arith
-    by false few = omega arith
+use Rattle.pv_laws_trees.proofs.Generic.{filter-fewer}
 
 -- there are at most this many calls and walks
 pub record AreFew (calls walks : ℕ) (process_image : List Asked) : Type 0 where

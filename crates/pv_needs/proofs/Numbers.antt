@@ -28,18 +28,12 @@ use Rattle.pv_laws_states.proofs.BySteps.{step-keeps_whole}
 use Rattle.pv_laws_states.proofs.Members.{find_number-list_all, live-found}
 use Rattle.pv_laws_states.proofs.Outcomes.{at_call, by_answer}
 use Rattle.pv_laws_states.proofs.Processes.{last_process-update}
+use Rattle.pv_laws_states.proofs.Collect.{last-collect}
+use Rattle.pv_laws_states.proofs.Ending.{last-end}
 use Rattle.pv_needs.specs.Granted.{demand, demands_in, is_refused}
 use Rattle.pv_needs.proofs.Walks.{by-unveil, walks-short}
 
 -- ---- the last process number never decreases
-
-last-collect : (s : State) → (collect s).last_process ≡ s.last_process
-unfolding collect
-last-collect s = refl
-
-last-end : (s : State) (pid : ℕ) (me : Process) (status : ℕ) → (end_process s pid me status).last_process ≡ s.last_process
-unfolding end_process
-last-end s pid me status = refl
 
 last-reported : (s after : State) (pid : ℕ) (f : Process → Process) → s.last_process ≤ after.last_process → s.last_process ≤ (collect (update after pid f)).last_process
 last-reported s after pid f low =

@@ -19,8 +19,9 @@ use Rattle.pv_needs.specs.declared.process_images.TheConstants.{MANY}
 use Rattle.pv_needs.specs.declared.process_images.Times.{Times}
 use Rattle.pv_needs.specs.ProcessImages.{recorded_image, recorded_promise, recorded_target, times_of}
 use Rattle.pv_needs.specs.Restraints.{c_part, if_counted, image_restraints, joined, judged_of, promises_of_calls, recorded_image_restraints, program_part, recorded_promises, restraints_of, same_path, targets_of_calls, and_unveiling, Unveiling, unveilings}
-use Rattle.pv_needs.proofs.Bounds.{Each, filter-fewer}
+use Rattle.pv_needs.proofs.Bounds.{Each}
 use Rattle.pv_needs.proofs.LineBytes.{counted-length, counted-one, counted-zero}
+use Rattle.pv_laws_trees.proofs.Generic.{filter-fewer}
 
 onto : (b : Bool) (n : ℕ) (bs : Bytes) → if_permission b n [] ++ bs ≡ if_permission b n bs
 onto true n bs = refl

@@ -1,32 +1,23 @@
 -- The targets at which walks were checked, and their records, with one more walk.
 use Rattle.std.proofs.Common.{◌≡◌, ◌∙◌, ℕ, Bool, true, false, cond, not, ◌&&◌, ◌||◌, bytes_eq, List, [], ◌∷◌, ◌++◌, map, append_assoc, refl, sym, ap, ap₂}
-use Rattle.std.specs.Prelude.{◌==◌}
 use Rattle.std.specs.List.{filter, list_any}
-use Rattle.std.proofs.lemmas.Bool.{and_parts, eqb-true, or_parts}
+use Rattle.std.proofs.lemmas.Bool.{and_parts, or_parts}
 use Rattle.std.proofs.lemmas.List.{append-nil, map-append}
 use Rattle.std.proofs.lemmas.List.Elements.{filter-append}
 use Rattle.std.proofs.lemmas.Slice.Eq.{bytes_eq-Decides}
 use Rattle.pv_model.specs.declared.perms.Perms.{Perms}
 use Rattle.pv_model.specs.declared.target.Target.{Target}
-use Rattle.pv_model.specs.declared.target.Target.TheVariants.{Directory, Name}
 use Rattle.pv_model.specs.Answers.Needs.{Judged, permissions_asked, same_judged, targets_in, walks_to}
 use Rattle.pv_model.specs.Bytes.{Bytes}
 use Rattle.pv_model.specs.Unveil.{same_target}
 use Rattle.pv_laws_trees.proofs.Entries.{bytes_eq-itself}
-use Rattle.pv_unveil.proofs.EntryLemmas.{same_target-same}
+use Rattle.pv_laws_trees.proofs.Targets.{same_target-itself, same_target-same}
 use Rattle.pv_needs.specs.declared.process_images.RecordedTarget.{RecordedTarget}
 use Rattle.pv_needs.specs.declared.process_images.Times.{Times}
 use Rattle.pv_needs.specs.ProcessImages.{first_walk, recorded_target, recorded_targets, target_more, times_of, walk_more, walks_more}
 use Rattle.pv_needs.proofs.Times.{permissions-more, times-more}
 
 -- ---- equal targets
-
-target-equal : (a b : Target) → same_target a b ≡ true → a ≡ b
-target-equal (Directory d) (Directory e) same = ap Directory (eqb-true d e same)
-target-equal (Directory d) (Name e name) same = cc same
-target-equal (Name d name) (Directory e) same = cc same
-target-equal (Name d name) (Name e other) same =
-    let parts = and_parts (d == e) (bytes_eq name other) same in ap₂ Name (eqb-true d e parts.0) ((bytes_eq-Decides name other).0 parts.1)
 
 record AreOne (a b : Judged) : Type 0 where
   target : a.target ≡ b.target
@@ -35,14 +26,14 @@ record AreOne (a b : Judged) : Type 0 where
 are-one : (a b : Judged) → same_judged a b ≡ true → AreOne a b
 are-one a b same =
     let parts = and_parts (same_target a.target b.target) (bytes_eq a.words b.words) same in
-    record { target = target-equal a.target b.target parts.0; words = (bytes_eq-Decides a.words b.words).0 parts.1 }
+    record { target = same_target-same a.target b.target parts.0; words = (bytes_eq-Decides a.words b.words).0 parts.1 }
 
 -- equality of targets is transitive
 alike : (a b x : Judged) → same_judged a b ≡ true → same_judged a x ≡ same_judged b x
 alike a b x same = let one = are-one a b same in ap₂ (λ (t : Target) (w : Bytes). same_target t x.target && bytes_eq w x.words) one.target one.words
 
 same-self : (a : Judged) → same_judged a a ≡ true
-same-self a = both (same_target a.target a.target) (bytes_eq a.words a.words) (same_target-same a.target) (bytes_eq-itself a.words)
+same-self a = both (same_target a.target a.target) (bytes_eq a.words a.words) (same_target-itself a.target) (bytes_eq-itself a.words)
   where
     both : (x y : Bool) → x ≡ true → y ≡ true → (x && y) ≡ true
     both true y p q = q

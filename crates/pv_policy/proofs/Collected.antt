@@ -12,6 +12,7 @@ use Rattle.std.proofs.lemmas.List.Sums.{fold-append}
 use Rattle.std.proofs.lemmas.Simd.{map-map}
 use Rattle.std.proofs.Math.Bool.{or_assoc}
 use Rattle.pv_laws_trees.proofs.Entries.{bytes_eq-itself, bytes_eq-same}
+use Rattle.pv_laws_trees.proofs.Generic.{flat-same as flat-alike}
 use Rattle.pv_model.specs.declared.call.Call.{Call}
 use Rattle.pv_model.specs.declared.call.Call.TheVariants as Calls
 use Rattle.pv_model.specs.declared.open_flags.Mode.{Mode}
@@ -63,10 +64,6 @@ bytes-flat lines (x ∷ xs) = flat_map-append answer_line_bytes (lines x) (flat_
 flat-same : {X : Type 0} (f g : X → Bytes) (xs : List X) → AllByRecursion (λ x. f x ≡ g x) xs → flat_map f xs ≡ flat_map g xs
 flat-same f g [] same = refl
 flat-same f g (x ∷ xs) same = ap₂ (λ (a b : Bytes). a ++ b) same.0 (flat-same f g xs same.1)
-
-pub flat-alike : {X Y : Type 0} (f g : X → List Y) → ((x : X) → f x ≡ g x) → (xs : List X) → flat_map f xs ≡ flat_map g xs
-flat-alike f g same [] = refl
-flat-alike {Y = Y} f g same (x ∷ xs) = ap₂ (λ (a b : List Y). a ++ b) (same x) (flat-alike f g same xs)
 
 -- ---- promises
 

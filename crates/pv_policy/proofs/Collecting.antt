@@ -20,11 +20,12 @@ use Rattle.pv_model.specs.Tree.{Tree}
 use Rattle.pv_policy.specs.Collecting.{calls_at, calls_of, calls_of_process, visited_bytes}
 use Rattle.pv_policy.specs.Groups.{and_one}
 use Rattle.pv_policy.specs.Usage.{Noted, Usage, and_calls, noted, noted_by, noted_key, request_of, unused_by, usage_bytes, usage_key, usage_more}
-use Rattle.pv_policy.proofs.Collected.{flat-alike, policy-bytes}
+use Rattle.pv_policy.proofs.Collected.{policy-bytes}
 use Rattle.pv_policy.proofs.Nexts.{flat-all, flat-next}
 use Rattle.pv_procs.specs.declared.processes.Fetched.{Fetched}
 use Rattle.pv_procs.specs.declared.processes.Fetched.TheVariants.{Gone, Register}
 use Rattle.pv_procs.specs.Turns.{IsFetched, RegisterNext}
+use Rattle.pv_laws_trees.proofs.Generic.{flat-same}
 
 module _ {X Y Z : Type 0} (f : Y → Z) (g : X → List Y) where
   map-flat : (xs : List X) → map f (flat_map g xs) ≡ flat_map (λ x. map f (g x)) xs
@@ -41,7 +42,7 @@ calls-of f =
 pub calls-of-search : (limit : ℕ) (s : State) → map noted (requests program_of limit s) ≡ flat_map calls_of (states_found program_of limit s)
 calls-of-search limit s =
     map-flat noted (observations_at (of_calls (request program_of)) program_of) (states_found program_of limit s)
-    ∙ flat-alike (λ f. map noted (observations_at (of_calls (request program_of)) program_of f)) calls_of calls-of (states_found program_of limit s)
+    ∙ flat-same (λ f. map noted (observations_at (of_calls (request program_of)) program_of f)) calls_of calls-of (states_found program_of limit s)
 
 -- ---- the next step of a process
 

@@ -4,7 +4,7 @@ use Rattle.std.specs.List.{AllByRecursion, list_any}
 use Rattle.std.proofs.lemmas.List.{length-map, map-append}
 use Rattle.pv_model.specs.Answers.Numbers.{Numbers}
 use Rattle.pv_model.specs.Bytes.{Bytes}
-use Rattle.pv_laws_steps.proofs.HeldApart.{same-truth}
+use Rattle.std.specs.Cmp.{both_ways}
 use Rattle.pv_laws_trees.proofs.Entries.{bytes_eq-same, bytes_eq-itself}
 use Rattle.pv_explore.specs.Rows.{Grew, IsAmong, group_row, number_in}
 use Rattle.pv_explore.proofs.Rows.{all-grew, all-more, get-number, numbers-now, same-number, unpacked-packed}
@@ -62,7 +62,7 @@ module _ (parts : List Bytes) where
   row-test : (list : List Bytes) (row : Bytes) → IsRowOf parts row → bytes_eq (group_row parts list) row ≡ same_parts list (parts_in_row parts row)
   row-test list row is =
       let back = row-back row is in
-      same-truth (bytes_eq (group_row parts list) row) (same_parts list (parts_in_row parts row))
+      both_ways (bytes_eq (group_row parts list) row) (same_parts list (parts_in_row parts row))
       (λ same.
       let rows : group_row parts list ≡ group_row parts is.list = bytes_eq-same (group_row parts list) row same ∙ is.is in
       let lists : list ≡ is.list = same-numbers list is.list is.stored (packed-apart (map (number_in parts) list) (map (number_in parts) is.list) rows) in

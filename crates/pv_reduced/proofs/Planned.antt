@@ -21,7 +21,7 @@ use Rattle.pv_laws_trees.proofs.Entries.{bytes_eq-same, bytes_eq-itself}
 use Rattle.pv_laws_answers.proofs.Lists.{each-append}
 use Rattle.pv_laws_answers.proofs.Reading.{reported-apart, same-state_numbers}
 use Rattle.pv_laws_classes.specs.Reduced.{are_identified, bound_after, bound_at, bound_by, is_identified, may_step, reduced_found, reduced_moves, reduced_moves_of, representative}
-use Rattle.pv_laws_steps.proofs.HeldApart.{same-truth}
+use Rattle.std.specs.Cmp.{both_ways}
 use Rattle.pv_state_encoding.specs.Groups.{joined, state_groups}
 use Rattle.pv_state_encoding.specs.Packed.{packed_all}
 use Rattle.pv_state_encoding.proofs.Apart.{packed-apart}
@@ -67,7 +67,7 @@ same-by_parts t u is =
 
 -- comparing the parts of two states with bounds compares the bounds and the representatives
 parts-test : (b c : ℕ) (t u : State) → same_parts (reduced_parts b t) (reduced_parts c u) ≡ ((c == b) && same_state (representative u) (representative t))
-parts-test b c t u = same-truth (same_parts (reduced_parts b t) (reduced_parts c u)) ((c == b) && same_state v r) there back
+parts-test b c t u = both_ways (same_parts (reduced_parts b t) (reduced_parts c u)) ((c == b) && same_state v r) there back
   where
     r : State
     r = representative t

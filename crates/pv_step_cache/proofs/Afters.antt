@@ -21,7 +21,7 @@ use Rattle.pv_step_cache.proofs.Keys.{same-groups}
 
 -- ---- indices of groups
 
-plain-at : (gs : List (List Bytes)) (i : ℕ) (c : Encoded) → slice_get (map plain gs) i ≡ Some c → c.owner ≡ 0
+pub plain-at : (gs : List (List Bytes)) (i : ℕ) (c : Encoded) → slice_get (map plain gs) i ≡ Some c → c.owner ≡ 0
 plain-at [] i c at = cc
 plain-at (g ∷ gs) zero c at = let same : plain g ≡ c = cc in sym (ap (λ (x : Encoded). x.owner) same)
 plain-at (g ∷ gs) (suc i) c at = plain-at gs i c at

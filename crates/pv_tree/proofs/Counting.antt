@@ -9,7 +9,7 @@ use Rattle.pv_model.specs.Tree.{Node, Tree, root, node_at, is_directory, is_dire
 use Rattle.pv_dirs.specs.Trees.{without_node}
 use Rattle.pv_laws_trees.specs.Preserved.{wanted, preserved}
 use Rattle.pv_laws_trees.specs.Tree.{IsSound}
-use Rattle.pv_laws_trees.proofs.Changes.{some-below}
+use Rattle.pv_laws_trees.proofs.Changes.{some-below, directory_is_some}
 use Rattle.pv_laws_trees.proofs.Entries.{by_name}
 use Rattle.pv_laws_trees.proofs.Numbered.{keep-some, keep-passes, length-keep}
 use Rattle.pv_laws_trees.proofs.Places.{parent-directory}
@@ -157,12 +157,8 @@ stored-directory t u parents names holds tied same n is other = ap (λ v. is_dir
 pub below-seen : (t u : Tree) (parents names holds : List ℕ) → IsTied t parents names holds → t ≡ u → (n : ℕ) → is_some (node_at u n) ≡ true → n < 4097
 below-seen t u parents names holds tied same n is = below t parents names holds tied.counted n (ap (λ v. is_some (node_at v n)) same ∙ is)
 
-pub directory-some : (o : Option Node) → is_directory o ≡ true → is_some o ≡ true
-directory-some None is = cc
-directory-some (Some node) is = refl
-
 pub directory-below-seen : (t u : Tree) (parents names holds : List ℕ) → IsTied t parents names holds → t ≡ u → (n : ℕ) → is_directory_at u n ≡ true → n < 4097
-directory-below-seen t u parents names holds tied same n is = below-seen t u parents names holds tied same n (directory-some (node_at u n) is)
+directory-below-seen t u parents names holds tied same n is = below-seen t u parents names holds tied same n (directory_is_some (node_at u n) is)
 
 -- ---- references
 

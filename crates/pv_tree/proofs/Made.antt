@@ -10,7 +10,7 @@ use Rattle.pv_model.specs.Tree.{Node, directory_node, Tree, node_at, entries_at,
 use Rattle.pv_laws_trees.specs.Encoded.{are_bytes, has_bytes}
 use Rattle.pv_laws_trees.specs.Tree.{IsSound, Appears}
 use Rattle.pv_laws_trees.proofs.Above.{appears-reached}
-use Rattle.pv_laws_trees.proofs.Changes.{directory-below, node_at-other, with_entry-cases, with_entry-stays, found-with, still-there}
+use Rattle.pv_laws_trees.proofs.Changes.{directory-below, node_at-other, with_entry-cases, with_entry-stays, found-with, still-there, directory_is_some}
 use Rattle.pv_laws_trees.proofs.Edits.{new_number-free, sound-with_new_node}
 use Rattle.pv_laws_trees.proofs.Entries.{by_name}
 use Rattle.pv_laws_trees.proofs.Encoded.{bytes-with_node, bytes-with_entry}
@@ -20,7 +20,7 @@ use Rattle.pv_tree.specs.Changes.{new_node}
 use Rattle.pv_tree.specs.Rooms.{refusal}
 use Rattle.pv_tree.specs.Present.{stored, IsCounted, IsTied}
 use Rattle.pv_tree.proofs.Carrying.{carried}
-use Rattle.pv_tree.proofs.Counting.{unnamed, directory-some, read-same, read-other, preserved-more, preserved-named}
+use Rattle.pv_tree.proofs.Counting.{unnamed, read-same, read-other, preserved-more, preserved-named}
 use Rattle.pv_tree.proofs.Keeping.{collected-all, all-preserved}
 use Rattle.pv_tree.proofs.Linking.{one_if-same, one_if-other}
 use Rattle.pv_laws_trees.proofs.NewNodes.{new-entries}
@@ -84,7 +84,7 @@ module _ (t : Tree) (parents names holds : List ℕ) (tied : IsTied t parents na
 
   was-there : (x : ℕ) → x ≢ m → is_some (node_at u x) ≡ true → is_some (node_at t x) ≡ true
   was-there x apart is =
-      ⊎_elim (λ here. directory-some (node_at t x) (ap (is_directory_at t) here ∙ appears.0)) (λ away. ap is_some (sym (other-node x apart away)) ∙ is) (cases_eq x d)
+      ⊎_elim (λ here. directory_is_some (node_at t x) (ap (is_directory_at t) here ∙ appears.0)) (λ away. ap is_some (sym (other-node x apart away)) ∙ is) (cases_eq x d)
 
   was-directory : (x : ℕ) → x ≢ m → is_directory_at u x ≡ true → is_directory_at t x ≡ true
   was-directory x apart is =

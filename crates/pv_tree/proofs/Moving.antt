@@ -31,6 +31,7 @@ use Rattle.pv_tree.proofs.Keeping.{is_preserved, collected-all, all-preserved}
 use Rattle.pv_tree.proofs.Linking.{one_if-same, one_if-other}
 use Rattle.pv_tree.proofs.Making.{with_node-twice, filled}
 use Rattle.pv_laws_trees.proofs.NameCounts.{name_count}
+use Rattle.pv_laws_trees.proofs.Generic.{not-there}
 use Rattle.pv_tree.proofs.Names.{names-with_entry, names-without_entry}
 use Rattle.pv_tree.proofs.Parents.{parent-same}
 use Rattle.pv_tree.proofs.Rooms.{refusal-none, refusal-fits, no_longer, no_longer-self, smaller-allowed}
@@ -76,16 +77,12 @@ module _ (t : Tree) (d : ℕ) (name : Bytes) (is : is_directory_at t d ≡ true)
 abbrev pub GoodNodes : Tree → Type 0
 GoodNodes t = (n : ℕ) (node : Node) → node_at t n ≡ Some node → is_node t.version node ≡ true
 
-none-there : (o : Option Node) → is_some o ≡ false → o ≡ None
-none-there None is = refl
-none-there (Some node) is = cc
-
 pub shaped-less : (t : Tree) → IsShaped t → GoodNodes t → (d : ℕ) (name : Bytes) → is_directory_at t d ≡ true → IsShaped (without_entry t d name)
 shaped-less t s each d name is =
     let shape = shape-without_entry t d name is each in
     record {
       numbers = shape.numbers ∙ s.numbers;
-      no_zero = none-there (node_at (without_entry t d name) 0) (shape.there 0 ∙ ap is_some s.no_zero);
+      no_zero = not-there (node_at (without_entry t d name) 0) (shape.there 0 ∙ ap is_some s.no_zero);
       ordered = ordered (without_entry t d name) shape.each_node;
       short = no_longer t (without_entry t d name) (no_larger-without t d name is) s.short;
     }

@@ -14,9 +14,9 @@ use Rattle.pv_laws_trees.proofs.Empty.{free-at, only-root, no-entries, none-pres
 use Rattle.pv_laws_trees.specs.Tree.{IsSound}
 use Rattle.pv_laws_trees.proofs.Entries.{by_name}
 use Rattle.pv_laws_trees.proofs.Trees.{well_formed, parent-root}
+use Rattle.pv_laws_trees.proofs.Changes.{directory_is_some}
 use Rattle.pv_tree.specs.Changes.{root_alone}
 use Rattle.pv_tree.specs.Present.{stored, IsTied}
-use Rattle.pv_tree.proofs.Counting.{directory-some}
 use Rattle.pv_tree.proofs.Keeping.{collected-all}
 
 pub zeros-at : (k n : ℕ) → slice_index (replicate k 0) n ≡ 0
@@ -75,7 +75,7 @@ module _ (v : Version) (blocks inodes : ℕ) (some : 1 ≤ inodes) where
       places_of_names = refl;
       places_of_holds = refl;
       parents_stored = λ n is.
-          let top : n ≡ root = top-only n (directory-some (node_at t n) is) in
+          let top : n ≡ root = top-only n (directory_is_some (node_at t n) is) in
           ap (slice_index (slice_set (replicate 4097 0) root root)) top ∙ ap stored (sym (parent-root t)) ∙ ap (λ k. stored (parent t k)) (sym top);
       names_counted = λ n. zeros-at 4097 n ∙ ap length (sym (no-names n));
     };

@@ -19,6 +19,7 @@ use Rattle.pv_laws_trees.proofs.Rooms.{preserved-no_larger}
 use Rattle.pv_tree.specs.Holding.{held_numbers, collected}
 use Rattle.pv_laws_trees.specs.Room.{IsNoLonger, IsNoLarger}
 use Rattle.pv_laws_trees.proofs.Trees.{ordered}
+use Rattle.pv_laws_trees.proofs.Numbered.{present-within}
 use Rattle.pv_tree.specs.Rooms.{refusal}
 use Rattle.pv_tree.specs.Present.{IsShaped, IsCounted}
 use Rattle.pv_tree.proofs.Entries.{length_more}
@@ -59,14 +60,9 @@ collected-allowed t holds allowed = let room = refusal-none t allowed in smaller
 
 -- ---- whether a tree fits
 
-present-most : (xs : Numbered Node) → length (present xs) ≤ length xs
-present-most [] = omega arith
-present-most (None ∷ xs) = omega (arith, present-most xs)
-present-most (Some x ∷ xs) = omega (arith, present-most xs)
-
 present-few : (xs : Numbered Node) (n : ℕ) → length xs ≡ suc n → Rattle.pv_model.specs.Numbered.at_number xs 0 ≡ None → length (present xs) ≤ n
 present-few [] n long none = absurd (omega arith)
-present-few (None ∷ xs) n long none = omega (arith, present-most xs)
+present-few (None ∷ xs) n long none = omega (arith, present-within xs)
 present-few (Some x ∷ xs) n long none = cc none
 
 pub fits-from : (t : Tree) → length t.nodes ≡ suc t.inodes → node_at t 0 ≡ None → total_need t ≤ t.blocks → fits t ≡ true

@@ -10,9 +10,8 @@ use Rattle.std.specs.List.{position_or_len}
 use Rattle.std.specs.Prelude.{position}
 use Rattle.pv_model.specs.declared.perms.Perms.{Perms}
 use Rattle.pv_model.specs.declared.target.Target.{Target}
-use Rattle.pv_model.specs.declared.target.Target.TheVariants.{Directory, Name}
 use Rattle.pv_model.specs.Unveil.{Table, same_target, entry_for, permissions_at, permissions_of}
-use Rattle.pv_laws_trees.proofs.Entries.{bytes_eq-itself}
+use Rattle.pv_laws_trees.proofs.Targets.{same_target-itself}
 
 not_within : (b : Bool) (n : ℕ) → cond b (Some n) None ≡ None → b ≡ false
 not_within true n none = cc
@@ -34,14 +33,10 @@ module _ {X : Type 0} (p : X → Bool) (xs : List X) (y : X) (passes : p y ≡ t
       let within : length xs < length xs + 1 = omega arith in
       rw (first, length_push, lt-ltb _ _ within) refl
 
-pub same_target-same : (target : Target) → same_target target target ≡ true
-same_target-same (Directory d) = eq-eqb d d refl
-same_target-same (Name d name) = rw (eq-eqb d d refl, bytes_eq-itself name) refl
-
 module _ (table : Table) (target : Target) (permissions : Perms) where
   -- replacing the entry of a target
   pub entry_for-set : (k : ℕ) → entry_for table target ≡ Some k → entry_for (slice_set table k (target, permissions)) target ≡ Some k
-  entry_for-set k found = position-set (λ e. same_target e.0 target) table (target, permissions) (same_target-same target) k found
+  entry_for-set k found = position-set (λ e. same_target e.0 target) table (target, permissions) (same_target-itself target) k found
 
   pub permissions_at-set : (k : ℕ) → k < length table → permissions_at (slice_set table k (target, permissions)) k ≡ permissions
   permissions_at-set k within =
@@ -50,7 +45,7 @@ module _ (table : Table) (target : Target) (permissions : Perms) where
 
   -- appending an entry
   pub entry_for-push : entry_for table target ≡ None → entry_for (table ++ (target, permissions) ∷ []) target ≡ Some (length table)
-  entry_for-push none = position-push (λ e. same_target e.0 target) table (target, permissions) (same_target-same target) none
+  entry_for-push none = position-push (λ e. same_target e.0 target) table (target, permissions) (same_target-itself target) none
 
   pub permissions_at-push : permissions_at (table ++ (target, permissions) ∷ []) (length table) ≡ permissions
   permissions_at-push =

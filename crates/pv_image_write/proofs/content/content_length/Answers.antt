@@ -7,8 +7,9 @@ use Rattle.pv_model.specs.Tree.{node_at, is_directory_at, greatest_name}
 use Rattle.pv_tree.specs.Holding.{HeldTree}
 use Rattle.pv_tree.specs.Present.{IsPresent}
 use Rattle.pv_image_write.specs.Encoding.{content_of}
-use Rattle.pv_image_write.proofs.PlacedTrees.{content-allowed, directory-length, greatest-small, other-length}
+use Rattle.pv_image_write.proofs.PlacedTrees.{content-allowed, directory-length, other-length}
 use Rattle.pv_image_write.proofs.content.content_length.Goals as goal
+use Rattle.pv_laws_trees.proofs.Rooms.{greatest-low}
 
 of_directory : (h : HeldTree) → IsPresent h → (v : Version) → greatest_name h.tree.version ≤ greatest_name v → (n size slot : ℕ) → slot ≡ entry_length v
     → is_directory_at h.tree n ≡ true → option_map size_of (node_at h.tree n) ≡ Some size → slot * size ≡ length (content_of v (node_at h.tree n))
@@ -23,7 +24,7 @@ overflow_mul-result c =
     let s = c.invariant.ensures in
     let long = of_directory h s c.args.version c.requires.names c.args.node c.size-size.result c.layout.result.slot_length c.layout.ensures.slot_length (sym c.is_directory.ensures ∙ c.if-is_directory.true) c.size-size.ensures.value in
     let few = short h s c.args.version c.requires.names c.args.node in
-    omega (arith, long, few, greatest-small c.args.version)
+    omega (arith, long, few, greatest-low c.args.version)
 
 pub returns-then-is_directory : goal.returns-then-is_directory
 returns-then-is_directory c =

@@ -2,7 +2,6 @@ use Rattle.std.proofs.Common.{rules, ◌≡◌, ◌≤◌, ◌<◌, ◌+◌, ◌
 use Rattle.std.proofs.lemmas.List.{length-take-le}
 use Rattle.std.proofs.lemmas.Result.{IfErr-weaker}
 use Rattle.pv_files.specs.Counted.{with_file}
-use Rattle.pv_laws_states.proofs.ByFile.{greatest-low}
 use Rattle.pv_model.specs.Calls.Descriptors.{with_bytes_written}
 use Rattle.pv_model.specs.Held.{collect}
 use Rattle.pv_model.specs.Numbered.{at_number}
@@ -12,6 +11,7 @@ use Rattle.pv_tree.specs.Rooms.{refusal}
 use Rattle.pv_calls_state.proofs.Alone.{counted-changed}
 use Rattle.pv_calls_state.proofs.Writing.{own-buffer, write-changed, write-refused}
 use Rattle.pv_calls_state.proofs.parts.Parts.write_front.Goals as goal
+use Rattle.pv_laws_trees.proofs.Rooms.{greatest-low}
 
 pub overflow_add-at : goal.overflow_add-at
 overflow_add-at c =
