@@ -38,7 +38,7 @@ module _ (f : ℕ → ℕ) (gs : Numbered OpenFile) (s : State) (pid : ℕ) (p :
   abbrev you : Process
   you = renumbered_process f p
 
-  start-same : (start : Start) (path : Bytes) → start_directory t you start path ≡ start_directory s p start path
+  pub start-same : (start : Start) (path : Bytes) → start_directory t you start path ≡ start_directory s p start path
   start-same WorkingDirectory path = refl
   start-same (AtDescriptor d) path = ap (λ n. if is_absolute path then p.directory else n) (directory-file f gs s pid p fits mine d)
 

@@ -188,7 +188,7 @@ all-observations observe program_of limit other s it it' complete complete' inva
 -- ---- accesses
 
 -- an observer of calls that does not depend on the numbers of open files
-of-classes : {X : Type 0} (observe : CallObserver X) → IsSame observe → (program_of : Bytes → Option Program) → EncodesPrograms program_of → IsOfClasses (of_calls observe) program_of
+pub of-classes : {X : Type 0} (observe : CallObserver X) → IsSame observe → (program_of : Bytes → Option Program) → EncodesPrograms program_of → IsOfClasses (of_calls observe) program_of
 of-classes observe same program_of encodes s t pid whole_s whole_t (f, is) =
     let both = renumbered-steps program_of f s t pid whole_s whole_t is in
     observed-same observe same pid (step program_of s pid) (step program_of t pid) both.outcome
@@ -202,7 +202,7 @@ same-accesses program_of limit other s it it' complete complete' =
 -- ---- unread files
 
 -- lists with the same elements
-same-among : (ms ns : List ℕ) → ((n : ℕ) → Among n ms → Among n ns) → ((n : ℕ) → Among n ns → Among n ms) → (n : ℕ) → list_any (λ m. m == n) ms ≡ list_any (λ m. m == n) ns
+pub same-among : (ms ns : List ℕ) → ((n : ℕ) → Among n ms → Among n ns) → ((n : ℕ) → Among n ns → Among n ms) → (n : ℕ) → list_any (λ m. m == n) ms ≡ list_any (λ m. m == n) ns
 same-among ms ns there back n = both_ways (list_any (λ m. m == n) ms) (list_any (λ m. m == n) ns) (λ is. to ms ns there is) (λ is. to ns ms back is)
   where
     to : (ms ns : List ℕ) → ((n : ℕ) → Among n ms → Among n ns) → list_any (λ m. m == n) ms ≡ true → list_any (λ m. m == n) ns ≡ true

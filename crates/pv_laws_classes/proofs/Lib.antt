@@ -6,7 +6,7 @@
 --   and offsets), OpenCalls (a new open file).
 -- - Steps: steps and runs. Forms: the equivalence and the canonical form.
 -- - Searches, for any steps and any classes: Searching (step by step), Orders (lists in an order, and witnesses), Visited
---   (the visited states and reported steps).
+--   (the visited states and reported steps), SearchObservations (what is observed of the steps).
 -- - Searches that make each step, for any function that gives the class of a state: Classes (such functions: the identity
 --   and the canonical form), StateSearches (they are searches), BothSearches (two complete searches), Fewer (the number of
 --   visited states).
@@ -31,6 +31,13 @@
 -- - ReducedClasses: classes of states that are equal but for the numbers of open files and for dead variables.
 -- - ReducedSearch: the visited states and reported steps. ReducedReports: the reduced search and the full search.
 --   ReducedExampleRuns: examples by computation.
+--
+-- Lemmas on what `access`, `policy` and `exposure` show of a process.
+-- - It depends neither on numbers of open files (RenumberedShown), nor on dead variables, nor on steps of other processes
+--   on registers (Sights; BegunWalks: the walks that a call began, from its lines; LooksAlike: a process that looks alike in
+--   two states).
+-- - So the reduced search sees it: SeenSchedules (a reduced schedule after which it is the same as after a schedule), Seen
+--   (both searches see the same), SeenAccesses (the listed accesses). ShownLaws: the laws.
 pub mod Lists
 pub mod Files
 pub mod States
@@ -64,6 +71,11 @@ pub mod ReducedSchedules
 pub mod ReducedClasses
 pub mod ReducedSearch
 pub mod ReducedReports
+pub mod RenumberedShown
+pub mod SearchObservations
+pub mod SeenSchedules
+pub mod Seen
+pub mod SeenAccesses
 pub mod ReducedExampleRuns
 pub mod LiveLists
 pub mod LiveValues
@@ -79,3 +91,7 @@ pub mod LiveExact
 pub mod LiveExampleRuns
 pub mod LiveClasses
 pub mod LiveCleared
+pub mod BegunWalks
+pub mod LooksAlike
+pub mod Sights
+pub mod ShownLaws

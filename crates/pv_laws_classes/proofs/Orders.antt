@@ -28,6 +28,19 @@ to_later-filter {X} R test (x ∷ xs) a = by (test x) (to_later-filter R test xs
     by true rest = (each-from_among (R x) (filter test xs) (λ y h. each-among (R x) xs a.0 y (filter-among test y xs h).0), rest)
     by false rest = rest
 
+-- lists in an order, for elements in an order
+pub to_later-flat : {X Y : Type 0} (R : X → X → Type 0) (Q : Y → Y → Type 0) (f : Y → List X) (ys : List Y) → EachToLater Q ys → ((y : Y) → Among y ys → EachToLater R (f y))
+    → ((y z : Y) → Among y ys → Among z ys → Q y z → (x w : X) → Among x (f y) → Among w (f z) → R x w) → EachToLater R (flat_map f ys)
+to_later-flat R Q f [] order own between = tt
+to_later-flat R Q f (y ∷ ys) order own between =
+    to_later-append R (f y) (flat_map f ys) (own y (inl refl))
+    (to_later-flat R Q f ys order.1 (λ z h. own z (inr h)) (λ z u h k. between z u (inr h) (inr k)))
+    (λ x h w k. let from = flat-among f w ys k in between y from.0 (inl refl) (inr from.1) (each-among (Q y) ys order.0 from.0 from.1) x w h from.2)
+
+pub to_later-all : {X : Type 0} (R : X → X → Type 0) (xs : List X) → ((x y : X) → Among x xs → Among y xs → R x y) → EachToLater R xs
+to_later-all R [] all = tt
+to_later-all R (x ∷ xs) all = (each-from_among (R x) xs (λ y h. all x y (inl refl) (inr h)), to_later-all R xs (λ y z h k. all y z (inr h) (inr k)))
+
 -- two lists in a strict order that have the same elements are equal
 module _ {X : Type 0} (R : X → X → Type 0) (irreflexive : (x : X) → R x x → ⊥) (transitive : (x y z : X) → R x y → R y z → R x z) where
   -- the first elements are equal
@@ -88,6 +101,12 @@ pub no_later-both : (a b : List ℕ) → IsNoLater a b → IsNoLater b a → a �
 no_later-both a b (inl e) k = e
 no_later-both a b (inr h) (inl e) = sym e
 no_later-both a b (inr h) (inr k) = absurd (before-itself a (before-then a b a h k))
+
+-- a witness that is no later is no longer
+pub no_later-longer : (w v : List ℕ) → IsNoLater w v → length w ≤ length v
+no_later-longer w v (inl e) = omega (arith, ap length e)
+no_later-longer w v (inr (inl h)) = omega (arith, h)
+no_later-longer w v (inr (inr h)) = omega (arith, h.0)
 
 -- a list has one last element
 pub same-last : (xs ys : List ℕ) (x y : ℕ) → xs ++ x ∷ [] ≡ ys ++ y ∷ [] → (xs ≡ ys) × (x ≡ y)

@@ -12,14 +12,14 @@ use Rattle.pv_laws_answers.proofs.Complete.{among-contains}
 use Rattle.pv_laws_answers.proofs.Lists.{Among, each-from_among}
 use Rattle.pv_laws_classes.specs.Reduced.{reduced_found, is_reduced_complete, reduced_reported, HasShortestWitness, HasEqual, ReducedReportsAreSame, ReducedEndingsAreSame}
 use Rattle.pv_laws_classes.proofs.BothSearches.{is-report}
-use Rattle.pv_laws_classes.proofs.Orders.{to_later-weaker, no-longer}
-use Rattle.pv_laws_classes.proofs.ReducedSearch.{reduced-search, no_later-longer, reduced-step, reduced-shortest, reduced-ending_there}
+use Rattle.pv_laws_classes.proofs.Orders.{to_later-weaker, no-longer, no_later-longer}
+use Rattle.pv_laws_classes.proofs.ReducedSearch.{reduced-search, reduced-step, reduced-shortest, reduced-ending_there}
 use Rattle.pv_laws_classes.proofs.Searching.{visited}
 use Rattle.pv_laws_classes.proofs.StateSearches.{full-search, ending-there}
 use Rattle.pv_laws_classes.proofs.Visited.{endings-differ, can-happen, reported-once, ends-in, text-reported}
 
 -- lists of different elements that have images of each other's elements are equally long
-same-length : {X : Type 0} (Q : X → X → Type 0) (xs ys : List X) → ((x y z : X) → Q x y → Q z y → Q x z) → EachToLater (λ x y. Q x y → ⊥) xs → EachToLater (λ x y. Q x y → ⊥) ys
+pub same-length : {X : Type 0} (Q : X → X → Type 0) (xs ys : List X) → ((x y z : X) → Q x y → Q z y → Q x z) → EachToLater (λ x y. Q x y → ⊥) xs → EachToLater (λ x y. Q x y → ⊥) ys
     → ((x : X) → Among x xs → (y : X) × Among y ys × Q x y) → ((y : X) → Among y ys → (x : X) × Among x xs × Q y x) → length xs ≡ length ys
 same-length {X} Q xs ys join once_x once_y there back = omega (arith, one xs ys once_x there, one ys xs once_y back)
   where

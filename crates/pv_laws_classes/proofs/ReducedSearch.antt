@@ -1,5 +1,5 @@
 -- The reduced search is a search: the visited states and the reported steps.
-use Rattle.std.proofs.Common.{◌≡◌, ◌≢◌, ◌↔◌, ◌∙◌, sym, ap, ap₂, subst, ℕ, suc, ◌≤◌, Bool, true, false, if◌then◌else◌, ◌==◌, cond, List, [], ◌∷◌, ◌++◌, length, filter, Option, is_some, inl, inr, refl, arith}
+use Rattle.std.proofs.Common.{◌≡◌, ◌≢◌, ◌↔◌, ◌∙◌, sym, ap, ap₂, subst, ℕ, suc, ◌≤◌, Bool, true, false, if◌then◌else◌, ◌==◌, cond, List, [], ◌∷◌, ◌++◌, length, filter, Option, is_some, refl, arith}
 use Rattle.std.proofs.lemmas.Bool.{and_parts, and_from, eqb-true, eq-eqb}
 use Rattle.pv_model.specs.Answers.Explore.{Found, Move, found_by, move, moves_of, move_text, has_ended, endings}
 use Rattle.pv_model.specs.Answers.Numbers.{same_state}
@@ -10,7 +10,7 @@ use Rattle.pv_model.specs.Step.{step, run, final_tree}
 use Rattle.pv_model.specs.Trace.{trace_bytes}
 use Rattle.pv_laws_states.specs.States.{EncodesPrograms, IsValid}
 use Rattle.pv_laws_answers.specs.Search.{IsSearched, step_text, CanHappen, EndsIn}
-use Rattle.pv_laws_answers.specs.Witnesses.{AreSteps, IsWitness, IsNoLater}
+use Rattle.pv_laws_answers.specs.Witnesses.{AreSteps, IsWitness}
 use Rattle.pv_laws_answers.proofs.Complete.{among-contains}
 use Rattle.pv_laws_answers.proofs.Lists.{Among, each-from_among, among-filter, filter-among}
 use Rattle.pv_laws_answers.proofs.LiveOnes.{moves-ascending}
@@ -19,7 +19,7 @@ use Rattle.pv_laws_answers.proofs.Searching.{Ascending}
 use Rattle.pv_laws_answers.proofs.Sound.{IsSound}
 use Rattle.pv_laws_classes.specs.Reduced.{representative, bound_by, may_step, bound_after, AreReducedFrom, AreReduced, bound_at, reduced_moves_of, are_identified, reduced_found, reduced_reported, is_reduced_complete, AreNotIdentified, ReducedStatesAreReached, EachTextIsReportedReduced, HasShortestWitness, ReducedWitnessesAreShortest, ReducedEndingsHappen, ReducedEndingsAreAll}
 use Rattle.pv_laws_classes.specs.Together.{on_registers}
-use Rattle.pv_laws_classes.proofs.Orders.{to_later-weaker}
+use Rattle.pv_laws_classes.proofs.Orders.{to_later-weaker, no_later-longer}
 use Rattle.pv_laws_classes.proofs.ReducedClasses.{representative-states, representative-on_registers}
 use Rattle.pv_laws_classes.proofs.ReducedSchedules.{bound-last, reduced-parts, reduced-more, reaches-each, reaches-endings}
 use Rattle.pv_laws_classes.proofs.Registers.{no-lines}
@@ -40,12 +40,6 @@ ascending-filter test w low (m ∷ ms) a = by (test m) (ascending-filter test w 
     by : (b : Bool) → Ascending w (suc m.pid) (filter test ms) → Ascending w low (cond b (m ∷ filter test ms) (filter test ms))
     by true rest = (a.0, a.1, rest)
     by false rest = ascending-later w low (suc m.pid) (filter test ms) (let le = a.1 in omega (arith, le)) rest
-
--- a witness that is no later is no longer
-pub no_later-longer : (w v : List ℕ) → IsNoLater w v → length w ≤ length v
-no_later-longer w v (inl e) = omega (arith, ap length e)
-no_later-longer w v (inr (inl h)) = omega (arith, h)
-no_later-longer w v (inr (inr h)) = omega (arith, h.0)
 
 -- ---- the search
 

@@ -186,7 +186,7 @@ module _ (program_of : Bytes → Option Program) (f : ℕ → ℕ) (gs : Numbere
       there : process_at t pid ≡ Some r
       there = process-renumbered f gs s pid ∙ ap (option_map (renumbered_process f)) at
 
-      answer-both : AreAnswered (answer program_of s pid call) (answer program_of t pid call)
+      pub answer-both : AreAnswered (answer program_of s pid call) (answer program_of t pid call)
       unfolding answer
       answer-both =
           subst (λ o. AreAnswered (answer_of program_of s pid call o) (answer_of program_of t pid call (process_at t pid))) (sym at)

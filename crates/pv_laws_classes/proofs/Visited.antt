@@ -119,6 +119,12 @@ module _ {program_of : Bytes → Option Program} {s : State} {C : Type 0} {class
   sound-reached f begins = record { whole = it.whole; witness = record { steps = tt; leads = refl } }
   sound-reached f (goes_on g m reached within) = (made g m (sound-reached g reached) within).sound
 
+  -- the step of a process that is made from a state is made from each state of its class
+  pub like-move : (f g : Found) (pid : ℕ) → IsSound program_of s f → IsSound program_of s g → class_of g ≡ class_of f → Among (move program_of f pid) (moves f) → Among (move program_of g pid) (moves g)
+  like-move f g pid sound_f sound_g same within =
+      let own = it.like f g (move program_of f pid) sound_f sound_g same within in
+      subst (λ (m : Move). Among m (moves g)) ((made g own.0 sound_g own.1).is ∙ ap (move program_of g) own.2.pid) own.1
+
   module _ (limit : ℕ) (room : 1 ≤ limit) where
     abbrev pub found : List Found
     found = visited same moves limit s
@@ -179,7 +185,7 @@ module _ {program_of : Bytes → Option Program} {s : State} {C : Type 0} {class
     -- ---- witnesses are the least
 
     -- a state of the class is visited with no later witness, or all visited states have no later witness
-    HasNoLater : Found → Type 0
+    unfoldable pub HasNoLater : Found → Type 0
     HasNoLater f =
         ((g : Found) × Among g found × (class_of g ≡ class_of f) × IsNoLater g.witness f.witness) ⊎ AllByRecursion (λ g. IsNoLater g.witness f.witness) found
 
@@ -222,7 +228,7 @@ module _ {program_of : Bytes → Option Program} {s : State} {C : Type 0} {class
         on (inl next) = inl (next.0, next.1, next.2 ∙ own.like.after, no_later-then next.0.witness own.step.witness m.witness next.3 own.later)
         on (inr full) = inr (all-no_later own.step.witness m.witness own.later full.1)
 
-    no_later-reached : (f : Found) → IsReached program_of s moves f → HasNoLater f
+    pub no_later-reached : (f : Found) → IsReached program_of s moves f → HasNoLater f
     unfolding HasNoLater
     no_later-reached f begins = inl (record { witness = []; state = s }, start-in, refl, inl refl)
     no_later-reached f (goes_on g m reached within) = no_later-next g m (sound-reached g reached) within (no_later-reached g reached)
@@ -355,6 +361,10 @@ module _ {program_of : Bytes → Option Program} {s : State} {C : Type 0} {class
           let own = it.like g there.0 m (sound-reached g reached) (sound-at there.0 there.1) there.2 within in
           let next = class-there class_of it.decides own.0 found (all-among (λ (n : Move). is_known same n found) made_moves complete own.0 (among-flat moves there.0 own.0 found there.1 own.1)) in
           (next.0, next.1, next.2 ∙ own.2.after)
+
+      -- with no later witness
+      pub found-no_later : (f : Found) → IsReached program_of s moves f → (g : Found) × Among g found × (class_of g ≡ class_of f) × IsNoLater g.witness f.witness
+      found-no_later f reached = let there = all-found f reached in (there.0, there.1, there.2, visited-least there.0 there.1 f reached (sym there.2))
 
       -- the text of each step is reported
       pub text-reported : (f : Found) (n : Move) → IsReached program_of s moves f → Among n (moves f) → move_text n ≢ [] → (m : Move) × Among m reported × (move_text m ≡ move_text n)

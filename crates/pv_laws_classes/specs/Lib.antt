@@ -8,4 +8,6 @@ pub mod TogetherExamples
 pub mod Liveness
 pub mod LivenessExamples
 pub mod Reduced
+pub mod ReducedAnswers
+pub mod Shown
 pub mod ReducedExamples

@@ -12,6 +12,7 @@
 //! - `together`: the normal form of a schedule, and combined steps.
 //! - `reduced`: the search that identifies states in both ways and makes the steps of a process on registers directly before
 //!   its next step, and what it has in common with the search of all states.
+//! - `shown`: what `access`, `policy` and `exposure` show of a process, which the reduced search finds.
 //! - `examples`: worked runs and searches, and counterexamples: a map of numbers that is not injective, and live registers
 //!   and bytes.
 //! - `together_examples`: worked runs, and a read, which cannot be combined with the next step.
@@ -25,5 +26,6 @@ pub mod reduced;
 pub mod reduced_examples;
 pub mod renumbering;
 pub mod search;
+pub mod shown;
 pub mod together;
 pub mod together_examples;

@@ -1,12 +1,13 @@
 -- The lines of `exposure`: each leak of each state is listed, and each listed line leaks.
-use Rattle.std.proofs.Common.{◌<◌, filter, ◌≡◌, ◌∙◌, sym, ap, subst, ℕ, suc, ◌≤◌, Bool, true, false, not, ◌||◌, ◌==◌, if◌then◌else◌, nat_le, max, fold, List, [], ◌∷◌, map, flat_map, Contains, Option, Some, ◌⊎◌, inl, inr, refl, arith}
+use Rattle.std.proofs.Common.{◌<◌, filter, ◌≡◌, ◌∙◌, sym, ap, subst, ℕ, suc, ◌≤◌, Bool, true, false, not, ◌||◌, ◌==◌, if◌then◌else◌, nat_le, max, fold, List, [], ◌∷◌, map, flat_map, Contains, Option, None, Some, option_map, ◌⊎◌, inl, inr, refl, arith}
 use Rattle.std.specs.List.{AllByRecursion, list_all, range_with_len}
 use Rattle.std.proofs.lemmas.Bool.Decides.{nat_tests}
 use Rattle.pv_model.specs.declared.verdict.Why.{Why}
 use Rattle.pv_model.specs.Answers.Explore.{Found, states_found, is_complete}
-use Rattle.pv_model.specs.Answers.Exposure.{Located, located_at, located, program_key, Leak, leak_of, leaks_at, line_of, greatest_line, onto_ranges, in_ranges, lines_leaking, is_closed_to, safe_files}
+use Rattle.pv_model.specs.Answers.Exposure.{Located, located_at, located, program_key, Leak, leak_of, leaks_at, line_of, greatest_line, last_leak, onto_ranges, in_ranges, lines_leaking, is_closed_to, safe_files}
 use Rattle.pv_model.specs.Answers.Nodes.{first_of}
 use Rattle.pv_model.specs.Answers.Files.{node_brief, is_file_at, named_files, files_of_tree}
+use Rattle.pv_model.specs.Answers.Observed.{groups}
 use Rattle.pv_model.specs.Answers.ProgramNames.{program_numbers}
 use Rattle.pv_model.specs.Bytes.{Bytes, is_empty}
 use Rattle.pv_model.specs.Closed.{IsClosed}
@@ -14,17 +15,20 @@ use Rattle.pv_model.specs.Held.{among, live_processes}
 use Rattle.pv_model.specs.Sealed.{leaks}
 use Rattle.pv_model.specs.State.{Program, Process, State, process_at}
 use Rattle.pv_model.specs.Step.{run}
+use Rattle.pv_model.specs.Tree.{IsWellFormed}
 use Rattle.pv_laws_access.proofs.Verdicts.{leaks-closed}
-use Rattle.pv_laws_states.specs.States.{IsValid}
 use Rattle.pv_laws_answers.specs.Search.{IsSearched}
 use Rattle.pv_laws_answers.proofs.Complete.{among-contains, all-found}
 use Rattle.pv_laws_answers.proofs.Lists.{Among, all-among, among-any, any-among, among-filter, among-flat, among-map, filter-among, flat-among, map-among}
 use Rattle.pv_laws_answers.proofs.LiveOnes.{live-listed, listed-live}
 use Rattle.pv_laws_answers.proofs.Searching.{found-there}
-use Rattle.pv_laws_schedules.specs.Exposure.{leaks_by_file, programs, IsListedLeak, IsLeak, IsWitnessed, WitnessesLeak, UnlistedLinesAreClosed, ListedLinesLeak, SafeFilesAreClosed}
+use Rattle.pv_laws_answers.proofs.Sound.{IsSound}
+use Rattle.pv_laws_classes.specs.Shown.{ShownProcess, shown_process}
+use Rattle.pv_laws_schedules.specs.Exposure.{leaks_by_file, IsInRanges, programs, IsListedLeak, IsLeak, IsWitnessed, WitnessesLeak, UnlistedLinesAreClosed, ListedLinesLeak, SafeFilesAreClosed}
 use Rattle.pv_laws_schedules.proofs.Groups.{HasGroup, group-head, grouped, of-group, in-group, same-programs}
 use Rattle.pv_laws_schedules.proofs.Pairs.{among-range}
-use Rattle.pv_laws_schedules.proofs.Reached.{contains-among, sound-at}
+use Rattle.pv_laws_classes.proofs.Seen.{themselves}
+use Rattle.pv_laws_schedules.proofs.Reached.{sound-at}
 
 -- ---- ranges
 
@@ -135,95 +139,108 @@ listed-line ls n h =
     let leak = map-among line_of there.0 ls there.1 in
     (leak.0, leak.1, sym leak.2 ∙ grind (arith, nat_tests, there.2))
 
--- ---- the processes of states
+-- ---- the processes of visited states
 
-module _ (program_of : Bytes → Option Program) (limit : ℕ) (s : State) (it : IsSearched program_of limit s) where
-  abbrev found : List Found
-  found = states_found program_of limit s
+-- among the processes of these states, a program has a line LEAK with the description of a file and a range that includes
+-- a line
+pub record IsListedIn (found : List Found) (program : Program) (file : Bytes) (line : ℕ) : Type 0 where
+  pub group : Located × List Located
+  pub listed : Contains (groups program_key (located found)) group
+  pub same_program : group.0.process.program ≡ program
+  pub leaks : Leak × List Leak
+  pub leaks_listed : Contains (leaks_by_file group.1) leaks
+  pub same_file : leaks.0.file ≡ file
+  pub range : IsInRanges line (in_ranges (lines_leaking leaks.1))
 
-  abbrev place : Found → ℕ → Process → Located
-  place g pid p = record { found = g; pid = pid; process = p }
-
-  placed : (g : Found) → Among g found → (pid : ℕ) (p : Process) → process_at g.state pid ≡ Some p → Among (place g pid p) (located found)
-  placed g within pid p is =
-      among-flat located_at g (place g pid p) found within (among-map (λ (r : ℕ × Process). place g r.0 r.1) (pid, p) (live_processes g.state.processes) (live-listed g.state pid p is))
-
+module _ (program_of : Bytes → Option Program) (limit : ℕ) (s : State) (found : List Found) (sound : (f : Found) → Among f found → IsSound program_of s f) where
   -- a located process is live in a visited state
   record IsPlaced (l : Located) : Type 0 where
     pub within : Among l.found found
     pub live : process_at l.found.state l.pid ≡ Some l.process
 
+  placed : (l : Located) → IsPlaced l → Among l (located found)
+  placed l at =
+      among-flat located_at l.found l found at.within
+      (among-map (λ (r : ℕ × Process). record { found = l.found; pid = r.0; process = r.1 }) (l.pid, l.process) (live_processes l.found.state.processes)
+      (live-listed l.found.state l.pid l.process at.live))
+
   of-located : (l : Located) → Among l (located found) → IsPlaced l
   of-located l h =
       let from = flat-among located_at l found h in
-      let p = map-among (λ (r : ℕ × Process). place from.0 r.0 r.1) l (live_processes from.0.state.processes) from.2 in
-      let live = listed-live from.0.state p.0.0 p.0.1 (sound-at program_of limit s it from.0 from.1).whole.processes.ascending p.1 in
+      let p = map-among (λ (r : ℕ × Process). record { found = from.0; pid = r.0; process = r.1 }) l (live_processes from.0.state.processes) from.2 in
+      let live = listed-live from.0.state p.0.0 p.0.1 (sound from.0 from.1).whole.processes.ascending p.1 in
       subst IsPlaced (sym p.2) (record { within = from.1; live = live })
 
   -- a process that is not closed to a file of a visited state is listed
-  leak-listed : (g : Found) → Among g found → (pid : ℕ) (p : Process) → process_at g.state pid ≡ Some p → (f : ℕ) → Among f (files_of_tree g.state.tree) → (why : Why) (whys : List Why)
-      → leaks g.state p f ≡ why ∷ whys → IsListedLeak program_of limit s p.program (node_brief g.state.tree f) p.line
-  leak-listed g within pid p live f file why whys is =
-      let l = place g pid p in
-      let group : HasGroup program_key (located found) l = grouped program_key (located found) l (placed g within pid p live) in
-      let leak : Leak = record { at = l; file = node_brief g.state.tree f; why = why } in
+  leak-listed : (l : Located) → IsPlaced l → (f : ℕ) → Among f (files_of_tree l.found.state.tree) → (why : Why) (whys : List Why) → leaks l.found.state l.process f ≡ why ∷ whys
+      → IsListedIn found l.process.program (node_brief l.found.state.tree f) l.process.line
+  leak-listed l at f file why whys is =
+      let group : HasGroup program_key (located found) l = grouped program_key (located found) l (placed l at) in
+      let leak : Leak = record { at = l; file = node_brief l.found.state.tree f; why = why } in
       let own : Among leak (leaks_at l) =
-      among-flat (λ f. leak_of l f (leaks g.state p f)) f leak (files_of_tree g.state.tree) file (subst (λ (ws : List Why). Among leak (leak_of l f ws)) (sym is) (inl refl)) in
+      among-flat (λ f. leak_of l f (leaks l.found.state l.process f)) f leak (files_of_tree l.found.state.tree) file (subst (λ (ws : List Why). Among leak (leak_of l f ws)) (sym is) (inl refl)) in
       let all : Among leak (flat_map leaks_at group.group.1) = among-flat leaks_at l leak group.group.1 group.within own in
       let files : HasGroup (λ (leak : Leak). leak.file) (flat_map leaks_at group.group.1) leak = grouped (λ (leak : Leak). leak.file) (flat_map leaks_at group.group.1) leak all in
-      let low = (sound-at program_of limit s it g within).whole.processes.running pid p live in
-      let covered = ranges-cover p.line (lines_leaking files.group.1) (line-listed files.group.1 leak files.within low.line.0) in
+      let low = (sound l.found at.within).whole.processes.running l.pid l.process at.live in
+      let covered = ranges-cover l.process.line (lines_leaking files.group.1) (line-listed files.group.1 leak files.within low.line.0) in
       record {
         group = group.group;
-        listed = among-contains group.group (programs program_of limit s) group.listed;
-        same_program = same-programs g.state.tree group.group.0.process.program p.program group.same;
+        listed = among-contains group.group (groups program_key (located found)) group.listed;
+        same_program = same-programs l.found.state.tree group.group.0.process.program l.process.program group.same;
         leaks = files.group;
         leaks_listed = among-contains files.group (leaks_by_file group.group.1) files.listed;
         same_file = files.same;
         range = (covered.0, among-contains covered.0 (in_ranges (lines_leaking files.group.1)) covered.1, covered.2, covered.3);
       }
 
-  -- the state that a schedule leads to is visited
-  module _ (complete : is_complete program_of limit s ≡ true) (pids : List ℕ) where
-    there : (g : Found) × Among g found × (g.state ≡ (run program_of pids s).final)
-    there = found-there (run program_of pids s).final found (all-found program_of limit s it complete pids)
+  -- ---- a process that shows the same in a visited state as in another state
 
-    unlisted : (u : State) → ((g : Found) × Among g found × (g.state ≡ u)) → IsValid u → (pid : ℕ) (p : Process) (f : ℕ) → process_at u pid ≡ Some p → Among f (files_of_tree u.tree)
-        → (IsListedLeak program_of limit s p.program (node_brief u.tree f) p.line → ⊥) → IsClosed u p f
-    unlisted u (g, within, same) whole pid p f live file none = (leaks-closed u p f whole.tree.well_formed).0 (by (leaks u p f) refl)
+  abbrev pub IsShownIn : State → ℕ → Type 0
+  IsShownIn u pid = (g : Found) × Among g found × (option_map (shown_process g.state) (process_at g.state pid) ≡ option_map (shown_process u) (process_at u pid))
+
+  module _ (u : State) (pid : ℕ) (p : Process) (is_shown : IsShownIn u pid) (live : process_at u pid ≡ Some p) (f : ℕ) where
+    -- the process in the visited state
+    record IsAlike : Type 0 where
+      pub there : Located
+      pub is_placed : IsPlaced there
+      pub same : shown_process there.found.state there.process ≡ shown_process u p
+
+    alike : IsAlike
+    alike = by (process_at is_shown.0.state pid) refl (is_shown.2 ∙ ap (option_map (shown_process u)) live)
+      where
+        by : (o : Option Process) → process_at is_shown.0.state pid ≡ o → option_map (shown_process is_shown.0.state) o ≡ Some (shown_process u p) → IsAlike
+        by None none is = cc is
+        by (Some q) at is = record { there = record { found = is_shown.0; pid = pid; process = q }; is_placed = record { within = is_shown.1; live = at }; same = cc is }
+
+    closed-by : leaks u p f ≡ [] → IsClosed u p f
+    closed-by =
+        (leaks-closed u p f (subst (λ (x : ShownProcess). IsWellFormed x.tree) alike.same (sound alike.there.found alike.is_placed.within).whole.tree.well_formed)).0
+
+    pub unlisted-closed : Among f (files_of_tree u.tree) → (IsListedIn found p.program (node_brief u.tree f) p.line → ⊥) → IsClosed u p f
+    unlisted-closed file none = closed-by (by (leaks u p f) refl)
       where
         by : (ws : List Why) → leaks u p f ≡ ws → ws ≡ []
         by [] is = refl
         by (why ∷ whys) is =
-            absurd (none (subst (λ (v : State). IsListedLeak program_of limit s p.program (node_brief v.tree f) p.line) same
-            (leak-listed g within pid p (ap (λ v. process_at v pid) same ∙ live) f (subst (λ (v : State). Among f (files_of_tree v.tree)) (sym same) file) why whys
-            (ap (λ v. leaks v p f) same ∙ is))))
+            absurd (none (subst (λ (x : ShownProcess). IsListedIn found x.program (node_brief x.tree f) x.line) alike.same
+            (leak-listed alike.there alike.is_placed f (subst (λ (x : ShownProcess). Among f (files_of_tree x.tree)) (sym alike.same) file) why whys
+            (ap (λ (x : ShownProcess). x.leaks f) alike.same ∙ is))))
 
-    whole-there : IsValid (run program_of pids s).final
-    whole-there = subst IsValid there.2 (sound-at program_of limit s it there.0 there.1).whole
-
-    unlisted-closed : (pid : ℕ) (p : Process) (f : ℕ) → process_at (run program_of pids s).final pid ≡ Some p → Among f (files_of_tree (run program_of pids s).final.tree)
-        → (IsListedLeak program_of limit s p.program (node_brief (run program_of pids s).final.tree f) p.line → ⊥) → IsClosed (run program_of pids s).final p f
-    unlisted-closed = unlisted (run program_of pids s).final there whole-there
-
-    safe-by : (u : State) → ((g : Found) × Among g found × (g.state ≡ u)) → IsValid u → (group : Located × List Located) → Among group (programs program_of limit s) → (f : ℕ)
-        → Among f (safe_files program_of limit s group.1) → (pid : ℕ) (p : Process) → process_at u pid ≡ Some p → p.program ≡ group.0.process.program → is_file_at u.tree f ≡ true → IsClosed u p f
-    safe-by u (g, within, same) whole group listed f safe pid p live program file =
-        let l = place g pid p in
-        let member = in-group program_key (located found) group listed l (placed g within pid p (ap (λ v. process_at v pid) same ∙ live)) (ap program_numbers program) in
+    pub safe-closed : (group : Located × List Located) → Among group (groups program_key (located found)) → Among f (safe_files program_of limit s group.1)
+        → p.program ≡ group.0.process.program → is_file_at u.tree f ≡ true → IsClosed u p f
+    safe-closed group listed safe program file =
+        let member =
+        in-group program_key (located found) group listed alike.there (placed alike.there alike.is_placed)
+        (ap program_numbers (ap (λ (x : ShownProcess). x.program) alike.same ∙ program)) in
         let all = (filter-among (λ f. list_all (is_closed_to f) group.1) f (named_files s.tree) safe).1 in
-        let closed : is_closed_to f l ≡ true = all-among (is_closed_to f) group.1 all l member in
-        (leaks-closed u p f whole.tree.well_formed).0
-        (empty (leaks u p f) (ap (λ b. not b || is_empty (leaks u p f)) (sym file) ∙ ap (λ (v : State). not (is_file_at v.tree f) || is_empty (leaks v p f)) (sym same) ∙ closed))
+        let closed : is_closed_to f alike.there ≡ true = all-among (is_closed_to f) group.1 all alike.there member in
+        closed-by
+        (empty (leaks u p f)
+        (ap (λ b. not b || is_empty (leaks u p f)) (sym file) ∙ ap (λ (x : ShownProcess). not (is_file_at x.tree f) || is_empty (x.leaks f)) (sym alike.same) ∙ closed))
       where
         empty : (ws : List Why) → (not true || is_empty ws) ≡ true → ws ≡ []
         empty [] is = refl
-        empty (w ∷ ws) is = cc
-
-    safe-closed : (group : Located × List Located) → Among group (programs program_of limit s) → (f : ℕ) → Among f (safe_files program_of limit s group.1)
-        → (pid : ℕ) (p : Process) → process_at (run program_of pids s).final pid ≡ Some p → p.program ≡ group.0.process.program → is_file_at (run program_of pids s).final.tree f ≡ true
-        → IsClosed (run program_of pids s).final p f
-    safe-closed = safe-by (run program_of pids s).final there whole-there
+        empty (w ∷ ws) is = cc is
 
   -- ---- listed lines
 
@@ -256,11 +273,11 @@ module _ (program_of : Bytes → Option Program) (limit : ℕ) (s : State) (it :
   leak-at : (program : Program) (file : Bytes) (line : ℕ) (l : Located) → IsPlaced l → l.process.program ≡ program → l.process.line ≡ line → (f : ℕ) → Among f (files_of_tree l.found.state.tree)
       → node_brief l.found.state.tree f ≡ file → (leaks l.found.state l.process f ≡ [] → ⊥) → IsLeak program_of limit s program file line
   leak-at program file line l placed same_program same_line f within same_file some =
-      let sound = sound-at program_of limit s it l.found placed.within in
-      let leads : l.found.state ≡ (run program_of l.found.witness s).final = sym sound.witness.leads in
+      let own = sound l.found placed.within in
+      let leads : l.found.state ≡ (run program_of l.found.witness s).final = sym own.witness.leads in
       record {
         pids = l.found.witness;
-        steps = sound.witness.steps;
+        steps = own.witness.steps;
         pid = l.pid;
         process = l.process;
         live = ap (λ v. process_at v l.pid) (sym leads) ∙ placed.live;
@@ -269,14 +286,14 @@ module _ (program_of : Bytes → Option Program) (limit : ℕ) (s : State) (it :
         number = f;
         within = subst (λ (v : State). Contains (files_of_tree v.tree) f) leads (among-contains f (files_of_tree l.found.state.tree) within);
         same_file = ap (λ (v : State). node_brief v.tree f) (sym leads) ∙ same_file;
-        open_to = subst (λ (v : State). IsClosed v l.process f → ⊥) leads (λ closed. some ((leaks-closed l.found.state l.process f sound.whole.tree.well_formed).1 closed));
+        open_to = subst (λ (v : State). IsClosed v l.process f → ⊥) leads (λ closed. some ((leaks-closed l.found.state l.process f own.whole.tree.well_formed).1 closed));
       }
 
-  listed-leak : (program : Program) (file : Bytes) (line : ℕ) → IsListedLeak program_of limit s program file line → IsLeak program_of limit s program file line
+  pub listed-leak : (program : Program) (file : Bytes) (line : ℕ) → IsListedIn found program file line → IsLeak program_of limit s program file line
   listed-leak program file line is =
-      let group = contains-among (programs program_of limit s) is.group is.listed in
-      let files = contains-among (leaks_by_file is.group.1) is.leaks is.leaks_listed in
-      let line' = listed-line is.leaks.1 line (covered-by line (lines_leaking is.leaks.1) (is.range.0, contains-among (in_ranges (lines_leaking is.leaks.1)) is.range.0 is.range.1, is.range.2, is.range.3)) in
+      let group = themselves (groups program_key (located found)) is.group is.listed in
+      let files = themselves (leaks_by_file is.group.1) is.leaks is.leaks_listed in
+      let line' = listed-line is.leaks.1 line (covered-by line (lines_leaking is.leaks.1) (is.range.0, themselves (in_ranges (lines_leaking is.leaks.1)) is.range.0 is.range.1, is.range.2, is.range.3)) in
       let leak = line'.0 in
       let own = of-group (λ (k : Leak). k.file) (flat_map leaks_at is.group.1) is.leaks files leak line'.1 in
       let at = flat-among leaks_at leak is.group.1 own.0 in
@@ -315,31 +332,34 @@ first-passes {X} test xs x h is = by (filter test xs) refl (among-filter test x 
         let own = filter-among test y xs (subst (λ (zs : List X). Among y zs) (sym same) (inl refl)) in
         (y, ap first_of same, own.0, own.1)
 
-module _ (program_of : Bytes → Option Program) (limit : ℕ) (s : State) (it : IsSearched program_of limit s) (group : Located × List Located) (listed : Among group (programs program_of limit s))
-    (h : Leak × List Leak) (leaks_listed : Among h (leaks_by_file group.1)) where
+module _ (program_of : Bytes → Option Program) (limit : ℕ) (s : State) (found : List Found) (sound : (f : Found) → Among f found → IsSound program_of s f)
+    (group : Located × List Located) (listed : Contains (groups program_key (located found)) group) (h : Leak × List Leak) (has_leaks : Contains (leaks_by_file group.1) h) where
+  leaks_listed : Among h (leaks_by_file group.1)
+  leaks_listed = themselves (leaks_by_file group.1) h has_leaks
+
   -- a leak of the group, with the process that it is of
   record IsOfGroup (leak : Leak) : Type 0 where
-    pub placed : IsPlaced program_of limit s it leak.at
-    pub file : IsOfFile program_of limit s it leak.at leak
+    pub placed : IsPlaced program_of limit s found sound leak.at
+    pub file : IsOfFile program_of limit s found sound leak.at leak
     pub same_file : leak.file ≡ h.0.file
 
   in-all : (leak : Leak) → Among leak h.1 → IsOfGroup leak
   in-all leak own =
       let of = of-group (λ (k : Leak). k.file) (flat_map leaks_at group.1) h leaks_listed leak own in
       let at = flat-among leaks_at leak group.1 of.0 in
-      let member = of-group program_key (located (states_found program_of limit s)) group listed at.0 at.1 in
-      let file = of-file program_of limit s it at.0 leak at.2 in
+      let member = of-group program_key (located found) group (themselves (groups program_key (located found)) group listed) at.0 at.1 in
+      let file = of-file program_of limit s found sound at.0 leak at.2 in
       let here : at.0 ≡ leak.at = sym file.at in
       record {
-        placed = subst (IsPlaced program_of limit s it) here (of-located program_of limit s it at.0 member.0);
-        file = subst (λ (l : Located). IsOfFile program_of limit s it l leak) here file;
+        placed = subst (IsPlaced program_of limit s found sound) here (of-located program_of limit s found sound at.0 member.0);
+        file = subst (λ (l : Located). IsOfFile program_of limit s found sound l leak) here file;
         same_file = of.1;
       }
 
   low : (leak : Leak) → Among leak h.1 → 1 ≤ line_of leak
   low leak own =
       let of = in-all leak own in
-      let running = (sound-at program_of limit s it leak.at.found of.placed.within).whole.processes.running leak.at.pid leak.at.process of.placed.live in
+      let running = (sound leak.at.found of.placed.within).whole.processes.running leak.at.pid leak.at.process of.placed.live in
       running.line.0
 
   head-in : Among h.0 h.1
@@ -347,22 +367,23 @@ module _ (program_of : Bytes → Option Program) (limit : ℕ) (s : State) (it :
       let at = group-head (λ (k : Leak). k.file) (flat_map leaks_at group.1) h leaks_listed in
       in-group (λ (k : Leak). k.file) (flat_map leaks_at group.1) h leaks_listed h.0 at refl
 
-  witnessed : IsWitnessed program_of s h
+  witnessed-by : (leak : Leak) → last_leak h.1 ≡ Some leak → line_of leak ≡ greatest_line h.1 → IsOfGroup leak → IsWitnessed program_of s h
+  witnessed-by leak is_last greatest of = record {
+    leak = leak;
+    is_last = is_last;
+    greatest = greatest;
+    reached = (sound leak.at.found of.placed.within).witness;
+    live = of.placed.live;
+    number = of.file.number;
+    within = among-contains of.file.number (files_of_tree leak.at.found.state.tree) of.file.within;
+    same_file = sym of.file.same_file ∙ of.same_file;
+    reason = of.file.reason;
+  }
+
+  pub witnessed : IsWitnessed program_of s h
   witnessed =
       let last = first-passes (λ (leak : Leak). line_of leak == greatest_line h.1) h.1 most.0 most.1 (grind (arith, nat_tests, most.2)) in
-      let of = in-all last.0 last.2 in
-      let sound = sound-at program_of limit s it last.0.at.found of.placed.within in
-      record {
-        leak = last.0;
-        is_last = last.1;
-        greatest = grind (arith, nat_tests, last.3);
-        reached = sound.witness;
-        live = of.placed.live;
-        number = of.file.number;
-        within = among-contains of.file.number (files_of_tree last.0.at.found.state.tree) of.file.within;
-        same_file = sym of.file.same_file ∙ of.same_file;
-        reason = of.file.reason;
-      }
+      witnessed-by last.0 last.1 (grind (arith, nat_tests, last.3)) (in-all last.0 last.2)
     where
       most : (leak : Leak) × Among leak h.1 × (line_of leak ≡ greatest_line h.1)
       most = by (max-attained (map line_of h.1) 0)
@@ -371,17 +392,41 @@ module _ (program_of : Bytes → Option Program) (limit : ℕ) (s : State) (it :
           by (inl none) = absurd (omega (arith, none, low h.0 head-in, max-most (map line_of h.1) 0 (line_of h.0) (among-map line_of h.0 h.1 head-in)))
           by (inr there) = let leak = map-among line_of (greatest_line h.1) h.1 there in (leak.0, leak.1, sym leak.2)
 
-pub witnesses-leak : WitnessesLeak
-witnesses-leak program_of limit s group h it listed leaks_listed =
-    witnessed program_of limit s it group (contains-among (programs program_of limit s) group listed) h (contains-among (leaks_by_file group.1) h leaks_listed)
+-- ---- the laws
+
+module _ (program_of : Bytes → Option Program) (limit : ℕ) (s : State) where
+  listed-there : (program : Program) (file : Bytes) (line : ℕ) → IsListedIn (states_found program_of limit s) program file line → IsListedLeak program_of limit s program file line
+  listed-there program file line is =
+      record { group = is.group; listed = is.listed; same_program = is.same_program; leaks = is.leaks; leaks_listed = is.leaks_listed; same_file = is.same_file; range = is.range }
+
+  there-listed : (program : Program) (file : Bytes) (line : ℕ) → IsListedLeak program_of limit s program file line → IsListedIn (states_found program_of limit s) program file line
+  there-listed program file line is =
+      record { group = is.group; listed = is.listed; same_program = is.same_program; leaks = is.leaks; leaks_listed = is.leaks_listed; same_file = is.same_file; range = is.range }
+
+  module _ (it : IsSearched program_of limit s) where
+    -- the state that a schedule leads to is visited
+    shown-there : is_complete program_of limit s ≡ true → (pids : List ℕ) (pid : ℕ)
+        → IsShownIn program_of limit s (states_found program_of limit s) (sound-at program_of limit s it) (run program_of pids s).final pid
+    shown-there complete pids pid =
+        let there = found-there (run program_of pids s).final (states_found program_of limit s) (all-found program_of limit s it complete pids) in
+        (there.0, there.1, ap (λ v. option_map (shown_process v) (process_at v pid)) there.2)
 
 pub unlisted-lines : UnlistedLinesAreClosed
 unlisted-lines program_of limit s pids pid p f it complete live file none =
-    unlisted-closed program_of limit s it complete pids pid p f live (contains-among (files_of_tree (run program_of pids s).final.tree) f file) none
+    unlisted-closed program_of limit s (states_found program_of limit s) (sound-at program_of limit s it) (run program_of pids s).final pid p
+    (shown-there program_of limit s it complete pids pid) live f (themselves (files_of_tree (run program_of pids s).final.tree) f file)
+    (λ is. none (listed-there program_of limit s p.program (node_brief (run program_of pids s).final.tree f) p.line is))
 
 pub listed-lines : ListedLinesLeak
-listed-lines program_of limit s program file line it is = listed-leak program_of limit s it program file line is
+listed-lines program_of limit s program file line it is =
+    listed-leak program_of limit s (states_found program_of limit s) (sound-at program_of limit s it) program file line (there-listed program_of limit s program file line is)
 
 pub safe-files : SafeFilesAreClosed
 safe-files program_of limit s group f pids pid p it complete listed safe live program file =
-    safe-closed program_of limit s it complete pids group (contains-among (programs program_of limit s) group listed) f (contains-among (safe_files program_of limit s group.1) f safe) pid p live program file
+    safe-closed program_of limit s (states_found program_of limit s) (sound-at program_of limit s it) (run program_of pids s).final pid p
+    (shown-there program_of limit s it complete pids pid) live f group (themselves (programs program_of limit s) group listed)
+    (themselves (safe_files program_of limit s group.1) f safe) program file
+
+pub witnesses-leak : WitnessesLeak
+witnesses-leak program_of limit s group h it listed has_leaks =
+    witnessed program_of limit s (states_found program_of limit s) (sound-at program_of limit s it) group listed h has_leaks

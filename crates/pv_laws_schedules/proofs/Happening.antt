@@ -18,7 +18,40 @@ use Rattle.pv_laws_answers.proofs.New.{new-came, new-first, new-differ}
 use Rattle.pv_laws_answers.proofs.Sound.{made-by, witness-more}
 use Rattle.pv_laws_answers.proofs.Least.{to_later-append}
 use Rattle.pv_laws_schedules.specs.Access.{IsFirstObserved, IsAccessLine, IsListedAccess, ListedAccessesHappen}
-use Rattle.pv_laws_schedules.proofs.Reached.{ReachedIn, contains-among, own-move, reached, rising, size, sound-at}
+use Rattle.pv_laws_classes.proofs.Seen.{themselves}
+use Rattle.pv_laws_schedules.proofs.Reached.{ReachedIn, own-move, reached, rising, size, sound-at}
+use Rattle.pv_laws_schedules.proofs.Seen.{AreSound}
+
+module _ {X : Type 0} (observe : Observer X) (program_of : Bytes → Option Program) where
+  -- an observation is made at one of the states
+  pub record IsMade (fs : List Found) (o : Observation X) : Type 0 where
+    pub from : Found
+    pub within : Among from fs
+    pub process : Process
+    pub lives : process_at from.state o.move.pid ≡ Some process
+    pub is : o.move ≡ move program_of from o.move.pid
+    pub item : Among o.item (observe from.state o.move.pid (step program_of from.state o.move.pid))
+
+  module _ (s : State) (fs : List Found) (sound : AreSound program_of s fs) where
+    made-at : (f : Found) → Among f fs → (o : Observation X) → Among o (observations_at observe program_of f) → IsMade fs o
+    made-at f within o h =
+        let of = flat-among (λ (m : Move). map (observed m) (observe f.state m.pid m.stepped)) o (moves_of program_of f) h in
+        let item = map-among (observed of.0) o (observe f.state of.0.pid of.0.stepped) of.2 in
+        let made = made-by program_of s f of.0 (sound f within).whole of.1 in
+        let same : of.0 ≡ o.move = sym (ap (λ (q : Observation X). q.move) item.2) in
+        record {
+          from = f;
+          within = within;
+          process = made.0;
+          lives = ap (λ (m : Move). process_at f.state m.pid) (sym same) ∙ made.1;
+          is = sym same ∙ made.2 ∙ ap (λ (m : Move). move program_of f m.pid) same;
+          item = subst (λ (m : Move). Among o.item (observe f.state m.pid (step program_of f.state m.pid))) same
+              (subst (λ (st : Stepped). Among o.item (observe f.state of.0.pid st)) (ap (λ (m : Move). m.stepped) made.2)
+              (subst (λ (x : X). Among x (observe f.state of.0.pid of.0.stepped)) (sym (ap (λ (q : Observation X). q.item) item.2)) item.1));
+        }
+
+    pub made-in : (o : Observation X) → Among o (flat_map (observations_at observe program_of) fs) → IsMade fs o
+    made-in o h = let from = flat-among (observations_at observe program_of) o fs h in made-at from.0 from.1 o from.2
 
 module _ {X : Type 0} (observe : Observer X) (key : X → Numbers) (program_of : Bytes → Option Program) (limit : ℕ) (s : State) (it : IsSearched program_of limit s) where
   abbrev found : List Found
@@ -27,36 +60,10 @@ module _ {X : Type 0} (observe : Observer X) (key : X → Numbers) (program_of :
   abbrev all : List (Observation X)
   all = observations observe program_of limit s
 
-  -- an observation is made at a visited state
-  pub record IsMade (o : Observation X) : Type 0 where
-    pub from : Found
-    pub within : Among from found
-    pub process : Process
-    pub lives : process_at from.state o.move.pid ≡ Some process
-    pub is : o.move ≡ move program_of from o.move.pid
-    pub item : Among o.item (observe from.state o.move.pid (step program_of from.state o.move.pid))
+  abbrev IsMadeAt : Observation X → Type 0
+  IsMadeAt o = IsMade observe program_of found o
 
-  made-at : (f : Found) → Among f found → (o : Observation X) → Among o (observations_at observe program_of f) → IsMade o
-  made-at f within o h =
-      let of = flat-among (λ (m : Move). map (observed m) (observe f.state m.pid m.stepped)) o (moves_of program_of f) h in
-      let item = map-among (observed of.0) o (observe f.state of.0.pid of.0.stepped) of.2 in
-      let made = made-by program_of s f of.0 (sound-at program_of limit s it f within).whole of.1 in
-      let same : of.0 ≡ o.move = sym (ap (λ (q : Observation X). q.move) item.2) in
-      record {
-        from = f;
-        within = within;
-        process = made.0;
-        lives = ap (λ (m : Move). process_at f.state m.pid) (sym same) ∙ made.1;
-        is = sym same ∙ made.2 ∙ ap (λ (m : Move). move program_of f m.pid) same;
-        item = subst (λ (m : Move). Among o.item (observe f.state m.pid (step program_of f.state m.pid))) same
-            (subst (λ (st : Stepped). Among o.item (observe f.state of.0.pid st)) (ap (λ (m : Move). m.stepped) made.2)
-            (subst (λ (x : X). Among x (observe f.state of.0.pid of.0.stepped)) (sym (ap (λ (q : Observation X). q.item) item.2)) item.1));
-      }
-
-  pub made-in : (o : Observation X) → Among o all → IsMade o
-  made-in o h = let from = flat-among (observations_at observe program_of) o found h in made-at from.0 from.1 o from.2
-
-  made-size : (o : Observation X) (made : IsMade o) → length o.move.witness ≡ suc (size program_of limit s it made.from)
+  made-size : (o : Observation X) (made : IsMadeAt o) → length o.move.witness ≡ suc (size program_of limit s it made.from)
   made-size o made = ap (λ (m : Move). length m.witness) made.is ∙ (omega (arith, length-append made.from.witness (o.move.pid ∷ [])))
 
   -- ---- the order of observations
@@ -95,7 +102,7 @@ module _ {X : Type 0} (observe : Observer X) (key : X → Numbers) (program_of :
   abbrev pub reported : List (Observation X)
   reported = first_observations key all
 
-  shortest-by : (o : Observation X) → Among o reported → (made : IsMade o) → (pids : List ℕ) (pid : ℕ) (x : X) → ReachedIn program_of limit s it (length pids) (run program_of pids s).final
+  shortest-by : (o : Observation X) → Among o reported → (made : IsMadeAt o) → (pids : List ℕ) (pid : ℕ) (x : X) → ReachedIn program_of limit s it (length pids) (run program_of pids s).final
       → ((t : State) → process_at t pid ≡ None → Among x (observe t pid (step program_of t pid)) → ⊥)
       → Among x (observe (run program_of pids s).final pid (step program_of (run program_of pids s).final pid)) → key x ≡ key o.item → length made.from.witness ≤ length pids
   shortest-by o h made pids pid x (inr many) none has same = each-among (λ (g : Found). length g.witness ≤ length pids) found many made.from made.within
@@ -122,7 +129,8 @@ module _ {X : Type 0} (observe : Observer X) (key : X → Numbers) (program_of :
 
   pub first-observed : IsOfLive → (o : Observation X) → Among o reported → IsFirstObserved observe key program_of s o
   first-observed of_live o h =
-      let made = made-in o (new-came (λ (q : Observation X). key q.item) [] all o h) in
+      let within = new-came (λ (q : Observation X). key q.item) [] all o h in
+      let made : IsMadeAt o = made-in observe program_of s found (sound-at program_of limit s it) o within in
       let sound = sound-at program_of limit s it made.from made.within in
       let witness : o.move.witness ≡ made.from.witness ++ o.move.pid ∷ [] = ap (λ (m : Move). m.witness) made.is in
       let leads : (run program_of made.from.witness s).final ≡ made.from.state = sound.witness.leads in
@@ -137,7 +145,7 @@ module _ {X : Type 0} (observe : Observer X) (key : X → Numbers) (program_of :
             (among-contains o.item (observe made.from.state o.move.pid (step program_of made.from.state o.move.pid)) made.item));
         shortest = λ pids pid x has same.
             shortest-by o h made pids pid x (reached program_of limit s it pids) (λ t none there. of_live t pid x none there)
-            (contains-among (observe (run program_of pids s).final pid (step program_of (run program_of pids s).final pid)) x has) same;
+            (themselves (observe (run program_of pids s).final pid (step program_of (run program_of pids s).final pid)) x has) same;
       }
 
 -- ---- observers of calls
@@ -177,7 +185,7 @@ accesses-happen program_of limit s it = record {
   where
     line : (t : State) (pid : ℕ) (now : Stepped) → now ≡ step program_of t pid → (l : AnswerLine) → Contains (of_calls lines_of_accesses t pid now) l → IsAccessLine program_of t pid l
     line t pid now is l has =
-        let call = of-call lines_of_accesses t pid (step program_of t pid) l (subst (λ (st : Stepped). Among l (of_calls lines_of_accesses t pid st)) is (contains-among (of_calls lines_of_accesses t pid now) l has)) in
+        let call = of-call lines_of_accesses t pid (step program_of t pid) l (subst (λ (st : Stepped). Among l (of_calls lines_of_accesses t pid st)) is (themselves (of_calls lines_of_accesses t pid now) l has)) in
         let access = map-among (access_line t pid call.process call.call (step program_of t pid)) l (accesses t pid call.process call.call (step program_of t pid)) call.has in
         record {
           process = call.process;

@@ -43,7 +43,7 @@ use Rattle.pv_laws_answers.proofs.Asking.{along-one}
 use Rattle.pv_laws_answers.proofs.Complete.{among-contains}
 use Rattle.pv_laws_answers.proofs.Lists.{Among, among-either, map-among, filter_map-among}
 use Rattle.pv_laws_schedules.specs.Access.{is_of_node, AccessesAreJustified}
-use Rattle.pv_laws_schedules.proofs.Reached.{contains-among}
+use Rattle.pv_laws_classes.proofs.Seen.{themselves}
 
 -- an outcome that no missing promise has
 abbrev passes : Outcome → Bool
@@ -362,4 +362,4 @@ module _ (program_of : Bytes → Option Program) (s : State) (pid : ℕ) (p : Pr
 
 pub accesses-justified : AccessesAreJustified
 accesses-justified program_of s pid p call a whole at is has node =
-    access-just program_of s pid p at whole call is a (contains-among (accesses s pid p call (step program_of s pid)) a has) node
+    access-just program_of s pid p at whole call is a (themselves (accesses s pid p call (step program_of s pid)) a has) node

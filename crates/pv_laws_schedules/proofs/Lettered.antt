@@ -12,12 +12,11 @@ use Rattle.pv_model.specs.declared.perms.Perms.{Perms}
 use Rattle.pv_model.specs.declared.place.Place.{Place}
 use Rattle.pv_model.specs.declared.target.Target.{Target}
 use Rattle.pv_model.specs.Answer.{answer}
-use Rattle.pv_model.specs.Answers.Explore.{move, states_found}
+use Rattle.pv_model.specs.Answers.Explore.{Found, states_found}
 use Rattle.pv_model.specs.Answers.Needs.{Asked, Judged, asked, asked_by, asked_next, asked_of, judged, judged_at, judged_walks, permissions_asked, same_judged, targets_in, walks_judged, walks_to}
 use Rattle.pv_model.specs.Answers.Nodes.{target_words}
-use Rattle.pv_model.specs.Answers.Observed.{Observation, observed, of_calls}
-use Rattle.pv_model.specs.Answers.Policy.{Request, Requests, program_key, request, requests, walks_asked}
-use Rattle.pv_model.specs.Answers.ProgramNames.{program_numbers}
+use Rattle.pv_model.specs.Answers.Observed.{Observation, observed}
+use Rattle.pv_model.specs.Answers.Policy.{Request, Requests, walks_asked}
 use Rattle.pv_model.specs.Bytes.{Bytes}
 use Rattle.pv_model.specs.Perms.{no_permissions, join_permissions, covers}
 use Rattle.pv_model.specs.Program.{calls_for, next}
@@ -30,15 +29,17 @@ use Rattle.pv_laws_trees.proofs.Entries.{bytes_eq-same, bytes_eq-itself}
 use Rattle.pv_laws_states.specs.Courses.{is_unveil}
 use Rattle.pv_laws_answers.specs.ProcessImages.{Moment, moments, and_moment, process_images_of, IsCallOf, GivesAt, letters_listed, targets_listed, with_own_table}
 use Rattle.pv_laws_answers.specs.Wanted.{reports_of_table}
-use Rattle.pv_laws_answers.proofs.Complete.{among-contains, all-found}
+use Rattle.pv_laws_answers.proofs.Complete.{among-contains}
 use Rattle.pv_laws_answers.proofs.Lists.{Among, any-among, among-either, among-filter, among-flat, among-map, filter-among, map-among, filter_map-among}
 use Rattle.pv_laws_answers.proofs.Otherwise.{enough-letters, needed-letters}
-use Rattle.pv_laws_answers.proofs.Searching.{found-there}
+use Rattle.pv_laws_classes.specs.Reduced.{reduced_found}
+use Rattle.pv_laws_classes.specs.Shown.{ShownCall}
 use Rattle.pv_laws_schedules.specs.Policy.{programs, joined_permissions, asks_at_words, GivesAsked, GivesAskedBut, ListedPermissionsAreEnough, ListedPermissionsAreNeeded}
-use Rattle.pv_laws_schedules.proofs.Groups.{in-group, of-group}
-use Rattle.pv_laws_schedules.proofs.Happening.{IsMade, made-in, IsOfCall, of-call}
-use Rattle.pv_laws_schedules.proofs.Promised.{asks, requested}
-use Rattle.pv_laws_schedules.proofs.Reached.{contains-among}
+use Rattle.pv_laws_schedules.specs.ReducedPolicy.{reduced_programs, ListedPermissionsAreEnoughReduced, ListedPermissionsAreNeededReduced}
+use Rattle.pv_laws_classes.proofs.Seen.{themselves}
+use Rattle.pv_laws_schedules.proofs.Reached.{sound-at}
+use Rattle.pv_laws_schedules.proofs.Requested.{programs_of, requested, of-program, IsLastCall, last-call}
+use Rattle.pv_laws_schedules.proofs.Seen.{IsSeenIn, seen-full, seen-reduced, reduced-sound}
 
 -- ---- sets of permissions
 
@@ -175,48 +176,67 @@ module _ (program_of : Bytes → Option Program) (u : State) (pid : ℕ) (p : Pr
         → ((answer program_of (with_own_table u pid table) pid call).walks ≡ 2) × ((answer program_of u pid call).walks ≡ 1) × (reports_of_table (step program_of u pid).lines ≡ true)
     enough plain all reported =
         enough-letters program_of (pid ∷ []) u pid (m ∷ []) m table p call call-of live is plain
-        (λ j h. gives j (contains-among (targets_listed (m ∷ [])) j h) (all j.target)) reported
+        (λ j h. gives j (themselves (targets_listed (m ∷ [])) j h) (all j.target)) reported
 
     needed : (w : Judged) → Among w own.walks → (permission : Perms) (k : ℕ) → covers w.permissions permission ≡ true → GivesAskedBut rs u.tree table w.target permission k
         → (answer program_of (with_own_table u pid table) pid call).outcome ≡ Failed EACCES (ByUnveil (Some k))
     needed w h permission k covered but =
         needed-letters program_of (pid ∷ []) u pid (m ∷ []) m table p call w permission k call-of live is
-        (record { governs = but.governs; lacks = but.lacks; others = λ other listed apart. gives other (contains-among (targets_listed (m ∷ [])) other listed) (but.others other.target apart) })
+        (record { governs = but.governs; lacks = but.lacks; others = λ other listed apart. gives other (themselves (targets_listed (m ∷ [])) other listed) (but.others other.target apart) })
         (among-contains w own.walks h) covered
+
+module _ (program_of : Bytes → Option Program) where
+  -- what is given for a program is enough for a call that one of its calls shows
+  enough-seen : (fs : List Found) (u : State) (pid : ℕ) (p : Process) (call : Call) (table : Table) → IsSeenIn program_of fs u pid
+      → process_at u pid ≡ Some p → next p ≡ calls_for call
+      → (group : Observation Request × Requests) → Among group (programs_of program_of fs) → p.program ≡ group.0.item.process.program
+      → is_unveil call ≡ false → ((target : Target) → GivesAsked group.1 u.tree table target)
+      → reports_of_table (step program_of (with_own_table u pid table) pid).lines ≡ true
+      → ((answer program_of (with_own_table u pid table) pid call).walks ≡ 2) × ((answer program_of u pid call).walks ≡ 1)
+      × (reports_of_table (step program_of u pid).lines ≡ true)
+  enough-seen fs u pid p call table seen live is group listed same plain all reported =
+      let it = requested program_of fs u pid p call seen live is in
+      enough program_of u pid p call live is group.1 it.shown_by (of-program program_of it group listed same)
+      (ap (λ (c : ShownCall). c.asked) it.same) table plain all reported
+
+  -- what the last call of a schedule asked is needed for it
+  needed-last : (s : State) (r : Observation Request) (rs : Requests) (w : Judged) (table : Table) (permission : Perms) (k : ℕ)
+      → IsLastCall program_of s r → Among r rs → Among w r.item.asked.walks → covers w.permissions permission ≡ true
+      → GivesAskedBut rs r.item.before.tree table w.target permission k
+      → (answer program_of (with_own_table r.item.before r.move.pid table) r.move.pid r.item.call).outcome ≡ Failed EACCES (ByUnveil (Some k))
+  needed-last s r rs w table permission k last within has covered but =
+      let u = last.from.state in
+      let pid = r.move.pid in
+      let asked_there : r.item.asked ≡ asked_by u last.process last.call (answer program_of u pid last.call) = ap (λ (q : Request). q.asked) last.same in
+      ap (λ (q : Request). (answer program_of (with_own_table q.before pid table) pid q.call).outcome) last.same
+      ∙ needed program_of u pid last.process last.call last.live last.calls rs r within asked_there table w
+      (subst (λ (a : Asked). Among w a.walks) asked_there has) permission k covered
+      (subst (λ (q : Request). GivesAskedBut rs q.before.tree table w.target permission k) last.same but)
 
 -- ---- the laws
 
 pub enough-permissions : ListedPermissionsAreEnough
-enough-permissions program_of limit s group pids pid p call table it complete listed live same is plain all reported =
-    let u = (run program_of pids s).final in
-    let there = found-there u (states_found program_of limit s) (all-found program_of limit s it complete pids) in
-    let g = there.0 in
-    let r : Observation Request = observed (move program_of g pid) (asks program_of limit s it g.state pid p call) in
-    let all_requests = requested program_of limit s it g there.1 pid p call (ap (λ v. process_at v pid) there.2 ∙ live) is in
-    let member = in-group program_key (requests program_of limit s) group (contains-among (programs program_of limit s) group listed) r all_requests (ap program_numbers same) in
-    enough program_of u pid p call live is group.1 r member (ap (λ v. asked_by v p call (answer program_of v pid call)) there.2) table plain all reported
+enough-permissions program_of limit s group pids pid p call table it complete listed live same is =
+    let seen = seen-full program_of limit s it complete pids pid in
+    enough-seen program_of (states_found program_of limit s) (run program_of pids s).final pid p call table seen live is
+    group (themselves (programs program_of limit s) group listed) same
+
+pub enough-permissions_reduced : ListedPermissionsAreEnoughReduced
+enough-permissions_reduced program_of limit s group pids pid p call table it complete listed steps live same is =
+    let seen = seen-reduced program_of limit s it complete pids pid p steps live in
+    enough-seen program_of (reduced_found program_of s limit) (run program_of pids s).final pid p call table seen live is
+    group (themselves (reduced_programs program_of limit s) group listed) same
 
 pub needed-permissions : ListedPermissionsAreNeeded
-needed-permissions program_of limit s group r w table permission k it listed within has covered but =
-    let member = of-group program_key (requests program_of limit s) group (contains-among (programs program_of limit s) group listed) r (contains-among group.1 r within) in
-    let made : IsMade (of_calls (request program_of)) key program_of limit s it r = made-in (of_calls (request program_of)) key program_of limit s it r member.0 in
-    let call : IsOfCall (request program_of) made.from.state r.move.pid (step program_of made.from.state r.move.pid) r.item = of-call (request program_of) made.from.state r.move.pid (step program_of made.from.state r.move.pid) r.item made.item in
-    at made.from.state r.move.pid call.process call.call call.live call.calls (only call.has)
-  where
-    key : Request → Rattle.pv_model.specs.Answers.Numbers.Numbers
-    key q = program_numbers q.process.program
+needed-permissions program_of limit s group r w table permission k it listed within has =
+    let member = themselves group.1 r within in
+    let here = themselves (programs program_of limit s) group listed in
+    let last = last-call program_of s (states_found program_of limit s) (sound-at program_of limit s it) group here r member in
+    needed-last program_of s r group.1 w table permission k last member (themselves r.item.asked.walks w has)
 
-    only : {x y : Request} → Among x (y ∷ []) → x ≡ y
-    only (inl e) = e
-    only (inr none) = absurd none
-
-    at : (u : State) (pid : ℕ) (p : Process) (call : Call) → process_at u pid ≡ Some p → next p ≡ calls_for call
-        → r.item ≡ (record { before = u; process = p; call = call; asked = asked_by u p call (answer program_of u pid call) })
-        → (answer program_of (with_own_table r.item.before pid table) pid r.item.call).outcome ≡ Failed EACCES (ByUnveil (Some k))
-    at u pid p call live is same =
-        let before : r.item.before ≡ u = ap (λ (q : Request). q.before) same in
-        ap (λ v. (answer program_of (with_own_table v pid table) pid r.item.call).outcome) before
-        ∙ ap (λ c. (answer program_of (with_own_table u pid table) pid c).outcome) (ap (λ (q : Request). q.call) same)
-        ∙ needed program_of u pid p call live is group.1 r (contains-among group.1 r within) (ap (λ (q : Request). q.asked) same) table w
-        (subst (λ (a : Asked). Among w a.walks) (ap (λ (q : Request). q.asked) same) (contains-among r.item.asked.walks w has)) permission k covered
-        (subst (λ (v : State). GivesAskedBut group.1 v.tree table w.target permission k) before but)
+pub needed-permissions_reduced : ListedPermissionsAreNeededReduced
+needed-permissions_reduced program_of limit s group r w table permission k it listed within has =
+    let member = themselves group.1 r within in
+    let here = themselves (reduced_programs program_of limit s) group listed in
+    let last = last-call program_of s (reduced_found program_of s limit) (reduced-sound program_of limit s it) group here r member in
+    needed-last program_of s r group.1 w table permission k last member (themselves r.item.asked.walks w has)

@@ -8,14 +8,11 @@ use Rattle.pv_model.specs.declared.open_flags.Mode.{Mode}
 use Rattle.pv_model.specs.declared.open_flags.Mode.TheVariants.{Read, Write, ReadWrite}
 use Rattle.pv_model.specs.declared.promise.Promise.{Promise}
 use Rattle.pv_model.specs.declared.promise.Promise.TheVariants.{Stdio, Rpath, Wpath, Cpath, Proc, Exec, Unveil}
-use Rattle.pv_model.specs.Answer.{answer}
-use Rattle.pv_model.specs.Answers.Explore.{Found, Move, move, moves_of, states_found, is_complete}
+use Rattle.pv_model.specs.Answers.Explore.{Found, states_found}
 use Rattle.pv_model.specs.Answers.Lines.{AnswerLine}
-use Rattle.pv_model.specs.Answers.Needs.{asked_by}
 use Rattle.pv_model.specs.Answers.Nodes.{first_of}
-use Rattle.pv_model.specs.Answers.Observed.{Observation, observed, observations_at, of_next, of_process, of_calls}
-use Rattle.pv_model.specs.Answers.Policy.{Request, Requests, program_key, request, requests, same_need, needs_with, promises_in_use, with_need, need_lines, first_need}
-use Rattle.pv_model.specs.Answers.ProgramNames.{program_numbers}
+use Rattle.pv_model.specs.Answers.Observed.{Observation}
+use Rattle.pv_model.specs.Answers.Policy.{Request, Requests, same_need, needs_with, promises_in_use, with_need, need_lines, first_need}
 use Rattle.pv_model.specs.Bytes.{Bytes}
 use Rattle.pv_model.specs.Needs.{needs, needs_cpath, needs_of_mode}
 use Rattle.pv_model.specs.Program.{Next, inside, calls_for, next}
@@ -26,19 +23,21 @@ use Rattle.pv_model.specs.Step.{Stepped, step, step_by, run}
 use Rattle.pv_laws_trees.proofs.Entries.{bytes_eq-same, bytes_eq-itself}
 use Rattle.pv_laws_access.proofs.Ends.{step-is, update-live}
 use Rattle.pv_laws_answers.specs.ProcessImages.{with_promises}
-use Rattle.pv_laws_answers.specs.Search.{IsSearched}
 use Rattle.pv_laws_answers.specs.Wanted.{reports_need, HasAllNeeds}
 use Rattle.pv_laws_answers.specs.Witnesses.{AreSteps}
-use Rattle.pv_laws_answers.proofs.Complete.{among-contains, all-found}
-use Rattle.pv_laws_answers.proofs.Lists.{Among, all-among, among-any, any-among, among-filter, among-flat, among-map, filter-among}
+use Rattle.pv_laws_answers.proofs.Complete.{among-contains}
+use Rattle.pv_laws_answers.proofs.Lists.{Among, all-among, among-any, any-among, among-filter, filter-among}
 use Rattle.pv_laws_answers.proofs.Otherwise.{next-call}
-use Rattle.pv_laws_answers.proofs.Searching.{found-there}
 use Rattle.pv_laws_answers.proofs.Sound.{witness-more}
 use Rattle.pv_laws_answers.proofs.Wants.{want-reported}
+use Rattle.pv_laws_classes.specs.Reduced.{reduced_found}
+use Rattle.pv_laws_classes.specs.Shown.{ShownCall}
 use Rattle.pv_laws_schedules.specs.Policy.{Listed, listed_or, first_listed, needs_listed, listed_lines, PromiseLinesAreOfNeeds, MeetsAll, programs, CallingProgramsAreListed, ListedPromisesAreEnough, IsRefusedWith, ListedPromisesAreNeeded}
-use Rattle.pv_laws_schedules.proofs.Groups.{HasGroup, grouped, of-group, in-group, same-programs}
-use Rattle.pv_laws_schedules.proofs.Happening.{IsMade, made-in, IsOfCall, of-call}
-use Rattle.pv_laws_schedules.proofs.Reached.{contains-among, own-move, sound-at}
+use Rattle.pv_laws_schedules.specs.ReducedPolicy.{reduced_programs, CallingProgramsAreListedReduced, ListedPromisesAreEnoughReduced, ListedPromisesAreNeededReduced}
+use Rattle.pv_laws_classes.proofs.Seen.{themselves}
+use Rattle.pv_laws_schedules.proofs.Reached.{sound-at}
+use Rattle.pv_laws_schedules.proofs.Requested.{programs_of, requested, program-listed, of-program, last-call}
+use Rattle.pv_laws_schedules.proofs.Seen.{AreSound, IsSeenIn, seen-full, seen-reduced, reduced-sound}
 
 -- ---- the lines
 
@@ -211,58 +210,22 @@ module _ (program_of : Bytes → Option Program) (u : State) (pid : ℕ) (p : Pr
       by (inside q) is = ap (λ (w : Stepped). reports_need w.lines) (step-is program_of v pid promised at-v ∙ ap (step_by program_of v pid promised) is)
       by (calls_for call) is = let own = next-call promised p.promises p.table call is in (call-reported call own).1 (has call own)
 
--- ---- calls of states
+-- ---- the calls of a program
 
-module _ (program_of : Bytes → Option Program) (limit : ℕ) (s : State) (it : IsSearched program_of limit s) where
-  abbrev found : List Found
-  found = states_found program_of limit s
+module _ (program_of : Bytes → Option Program) where
+  calling-listed : (fs : List Found) (u : State) (pid : ℕ) (p : Process) (call : Call) → IsSeenIn program_of fs u pid
+      → process_at u pid ≡ Some p → next p ≡ calls_for call
+      → (group : Observation Request × Requests) × Contains (programs_of program_of fs) group × (group.0.item.process.program ≡ p.program)
+  calling-listed fs u pid p call seen live is = program-listed program_of (requested program_of fs u pid p call seen live is)
 
-  abbrev pub asks : State → ℕ → Process → Call → Request
-  asks u pid p call = record { before = u; process = p; call = call; asked = asked_by u p call (answer program_of u pid call) }
-
-  -- a call in a visited state is among the requests
-  pub requested : (g : Found) → Among g found → (pid : ℕ) (p : Process) (call : Call) → process_at g.state pid ≡ Some p → next p ≡ calls_for call
-      → Among (observed (move program_of g pid) (asks g.state pid p call)) (requests program_of limit s)
-  requested g within pid p call live is =
-      let m = move program_of g pid in
-      let has : Among (asks g.state pid p call) (of_calls (request program_of) g.state pid m.stepped) =
-      subst (λ (o : Option Process). Among (asks g.state pid p call) (of_process (request program_of) g.state pid m.stepped o)) (sym live)
-      (subst (λ (n : Next). Among (asks g.state pid p call) (of_next (request program_of) g.state pid m.stepped p n)) (sym is) (inl refl)) in
-      among-flat (observations_at (of_calls (request program_of)) program_of) g (observed m (asks g.state pid p call)) found within
-      (among-flat (λ (m : Move). map (observed m) (of_calls (request program_of) g.state m.pid m.stepped)) m (observed m (asks g.state pid p call)) (moves_of program_of g) (own-move program_of limit s it g pid p live)
-      (among-map (observed m) (asks g.state pid p call) (of_calls (request program_of) g.state pid m.stepped) has))
-
-  module _ (complete : is_complete program_of limit s ≡ true) (pids : List ℕ) where
-    abbrev u : State
-    u = (run program_of pids s).final
-
-    there : (g : Found) × Among g found × (g.state ≡ u)
-    there = found-there u found (all-found program_of limit s it complete pids)
-
-    -- a call of a schedule is among the requests of its program
-    request-there : (pid : ℕ) (p : Process) (call : Call) → process_at u pid ≡ Some p → next p ≡ calls_for call
-        → (r : Observation Request) × Among r (requests program_of limit s) × (r.item.call ≡ call) × (r.item.process ≡ p)
-    request-there pid p call live is =
-        (observed (move program_of there.0 pid) (asks there.0.state pid p call), requested there.0 there.1 pid p call (ap (λ v. process_at v pid) there.2 ∙ live) is, refl, refl)
-
-    calling-listed : (pid : ℕ) (p : Process) (call : Call) → process_at u pid ≡ Some p → next p ≡ calls_for call
-        → (group : Observation Request × Requests) × Contains (programs program_of limit s) group × (group.0.item.process.program ≡ p.program)
-    calling-listed pid p call live is =
-        let r = request-there pid p call live is in
-        let group : HasGroup program_key (requests program_of limit s) r.0 = grouped program_key (requests program_of limit s) r.0 r.1 in (
-          group.group,
-          among-contains group.group (programs program_of limit s) group.listed,
-          same-programs s.tree group.group.0.item.process.program p.program (group.same ∙ ap (λ (q : Process). program_numbers q.program) r.3),
-        )
-
-    enough : (group : Observation Request × Requests) → Among group (programs program_of limit s) → (pid : ℕ) (p : Process) (set : Promises) → process_at u pid ≡ Some p
-        → p.program ≡ group.0.item.process.program → MeetsAll set group.1 → reports_need (step program_of (with_promises u pid set) pid).lines ≡ false
-    enough group listed pid p set live same meets =
-        quiet-if program_of u pid p live set (λ call is.
-        let r = request-there pid p call live is in
-        let member = in-group program_key (requests program_of limit s) group listed r.0 r.1 (ap (λ (q : Process). program_numbers q.program) r.3 ∙ ap program_numbers same) in
-        let met = call-met set group.1 (λ l h. meets l (among-contains l (needs_listed group.1) h)) r.0 member in
-        inr (set, refl, ap (λ (c : Call). list_all (λ need. is_met (Some set) need) (needs c)) (sym r.2) ∙ met))
+  enough : (fs : List Found) (u : State) (pid : ℕ) (p : Process) → IsSeenIn program_of fs u pid → process_at u pid ≡ Some p
+      → (group : Observation Request × Requests) → Among group (programs_of program_of fs) → p.program ≡ group.0.item.process.program
+      → (set : Promises) → MeetsAll set group.1 → reports_need (step program_of (with_promises u pid set) pid).lines ≡ false
+  enough fs u pid p seen live group listed same set meets =
+      quiet-if program_of u pid p live set (λ call is.
+      let it = requested program_of fs u pid p call seen live is in
+      let met = call-met set group.1 (λ l h. meets l (among-contains l (needs_listed group.1) h)) it.shown_by (of-program program_of it group listed same) in
+      inr (set, refl, ap (λ (c : ShownCall). list_all (λ need. is_met (Some set) need) (needs c.call)) (sym it.same) ∙ met))
 
   -- ---- listed needs are needed
 
@@ -292,31 +255,22 @@ module _ (program_of : Bytes → Option Program) (limit : ℕ) (s : State) (it :
       by (Some m) some (inl e) later = first-of rs (needs_with p) l (some ∙ ap (λ (x : Listed). Some x) (sym e))
       by (Some m) some (inr h) later = later h
 
-  refused : (group : Observation Request × Requests) → Among group (programs program_of limit s) → (l : Listed) → Among l (needs_listed group.1) → (set : Promises) → is_met (Some set) l.0 ≡ false
-      → IsRefusedWith program_of s set l.1
-  refused group listed l h set unmet =
+  refused : (s : State) (fs : List Found) → AreSound program_of s fs → (group : Observation Request × Requests) → Among group (programs_of program_of fs)
+      → (l : Listed) → Among l (needs_listed group.1) → (set : Promises) → is_met (Some set) l.0 ≡ false → IsRefusedWith program_of s set l.1
+  refused s fs sound group listed l h set unmet =
       let of = listed-of group.1 promises_in_use l h in
-      let member = of-group program_key (requests program_of limit s) group listed l.1 of.within in
-      let made : IsMade (of_calls (request program_of)) program_key' program_of limit s it l.1 = made-in (of_calls (request program_of)) program_key' program_of limit s it l.1 member.0 in
-      let sound = sound-at program_of limit s it made.from made.within in
-      let witness : l.1.move.witness ≡ made.from.witness ++ l.1.move.pid ∷ [] = ap (λ (m : Move). m.witness) made.is in
-      let call : IsOfCall (request program_of) made.from.state l.1.move.pid (step program_of made.from.state l.1.move.pid) l.1.item = of-call (request program_of) made.from.state l.1.move.pid (step program_of made.from.state l.1.move.pid) l.1.item made.item in
-      let leads : made.from.state ≡ (run program_of made.from.witness s).final = sym sound.witness.leads in
+      let last = last-call program_of s fs sound group listed l.1 of.within in
+      let from = last.from in
+      let pid = l.1.move.pid in
       record {
-        before = made.from.witness;
-        witness = witness;
-        steps = subst (λ (w : List ℕ). AreSteps program_of w s) (sym witness) (witness-more program_of s made.from.state made.from.witness l.1.move.pid sound.witness (ap is_some made.lives)).steps;
-        refused = subst (λ (v : State). reports_need (step program_of (with_promises v l.1.move.pid set) l.1.move.pid).lines ≡ true) leads
-            (lacks made.from.state l.1.move.pid call.process call.call call.live call.calls (ap (λ (r : Request). r.call) (only call.has)) of.has);
+        before = from.witness;
+        witness = last.witness;
+        steps = subst (λ (w : List ℕ). AreSteps program_of w s) (sym last.witness)
+            (witness-more program_of s from.state from.witness pid last.sound.witness (ap is_some last.live)).steps;
+        refused = subst (λ (v : State). reports_need (step program_of (with_promises v pid set) pid).lines ≡ true) (sym last.sound.witness.leads)
+            (lacks from.state pid last.process last.call last.live last.calls (ap (λ (r : Request). r.call) last.same) of.has);
       }
     where
-      program_key' : Request → Rattle.pv_model.specs.Answers.Numbers.Numbers
-      program_key' r = program_numbers r.process.program
-
-      only : {x y : Request} → Among x (y ∷ []) → x ≡ y
-      only (inl e) = e
-      only (inr none) = absurd none
-
       unmet-all : (ns : List Need) → list_any (same_need l.0) ns ≡ true → list_all (λ need. is_met (Some set) need) ns ≡ true → ⊥
       unmet-all ns has all =
           let need = among-any (same_need l.0) ns has in
@@ -337,13 +291,36 @@ module _ (program_of : Bytes → Option Program) (limit : ℕ) (s : State) (it :
           by true reported = refl
           by false quiet = absurd (has-not call (ap (λ c. list_any (same_need l.0) (needs c)) (sym same) ∙ has) ((call-reported program_of u pid p live set call is).0 quiet))
 
+-- ---- the laws
+
 pub calling-programs : CallingProgramsAreListed
-calling-programs program_of limit s pids pid p call it complete live is = calling-listed program_of limit s it complete pids pid p call live is
+calling-programs program_of limit s pids pid p call it complete live is =
+    let seen = seen-full program_of limit s it complete pids pid in
+    calling-listed program_of (states_found program_of limit s) (run program_of pids s).final pid p call seen live is
+
+pub calling-programs_reduced : CallingProgramsAreListedReduced
+calling-programs_reduced program_of limit s pids pid p call it complete steps live is =
+    let seen = seen-reduced program_of limit s it complete pids pid p steps live in
+    calling-listed program_of (reduced_found program_of s limit) (run program_of pids s).final pid p call seen live is
 
 pub enough-promises : ListedPromisesAreEnough
 enough-promises program_of limit s group pids pid p set it complete listed live same meets =
-    enough program_of limit s it complete pids group (contains-among (programs program_of limit s) group listed) pid p set live same meets
+    let seen = seen-full program_of limit s it complete pids pid in
+    enough program_of (states_found program_of limit s) (run program_of pids s).final pid p seen live
+    group (themselves (programs program_of limit s) group listed) same set meets
+
+pub enough-promises_reduced : ListedPromisesAreEnoughReduced
+enough-promises_reduced program_of limit s group pids pid p set it complete listed steps live same meets =
+    let seen = seen-reduced program_of limit s it complete pids pid p steps live in
+    enough program_of (reduced_found program_of s limit) (run program_of pids s).final pid p seen live
+    group (themselves (reduced_programs program_of limit s) group listed) same set meets
 
 pub needed-promises : ListedPromisesAreNeeded
 needed-promises program_of limit s group l set it listed h unmet =
-    refused program_of limit s it group (contains-among (programs program_of limit s) group listed) l (contains-among (needs_listed group.1) l h) set unmet
+    refused program_of s (states_found program_of limit s) (sound-at program_of limit s it)
+    group (themselves (programs program_of limit s) group listed) l (themselves (needs_listed group.1) l h) set unmet
+
+pub needed-promises_reduced : ListedPromisesAreNeededReduced
+needed-promises_reduced program_of limit s group l set it listed h unmet =
+    refused program_of s (reduced_found program_of s limit) (reduced-sound program_of limit s it)
+    group (themselves (reduced_programs program_of limit s) group listed) l (themselves (needs_listed group.1) l h) set unmet

@@ -1,5 +1,5 @@
 -- The visited states: each schedule leads to one with a witness that is as short, or all witnesses are.
-use Rattle.std.proofs.Common.{◌≡◌, ◌∙◌, sym, ap, subst, ℕ, zero, suc, ◌+◌, ◌≤◌, List, [], ◌∷◌, ◌++◌, length, length-append, Contains, Option, None, Some, ◌⊎◌, inl, inr, refl, arith}
+use Rattle.std.proofs.Common.{◌≡◌, ◌∙◌, sym, ap, subst, ℕ, zero, suc, ◌+◌, ◌≤◌, List, [], ◌∷◌, ◌++◌, length, length-append, Option, None, Some, ◌⊎◌, inl, inr, refl, arith}
 use Rattle.std.specs.List.{AllByRecursion}
 use Rattle.pv_model.specs.Answers.Explore.{Found, move, moves_of, states_found}
 use Rattle.pv_model.specs.Bytes.{Bytes}
@@ -13,16 +13,7 @@ use Rattle.pv_laws_answers.proofs.Lists.{Among, each-among, each-weaker, among-m
 use Rattle.pv_laws_answers.proofs.LiveOnes.{live-listed}
 use Rattle.pv_laws_answers.proofs.Searching.{Finished, LeadsOn}
 use Rattle.pv_laws_answers.proofs.Sound.{IsSound, search-finished}
-
-pub contains-among : {X : Type 0} (xs : List X) (x : X) → Contains xs x → Among x xs
-contains-among [] x is = absurd (omega (arith, is.1))
-contains-among (y ∷ ys) x (zero, below, here) = inl (sym here)
-contains-among (y ∷ ys) x (suc k, below, there) = inr (contains-among ys x (k, omega (arith, below), there))
-
-pub no_later-length : (w v : List ℕ) → IsNoLater w v → length w ≤ length v
-no_later-length w v (inl e) = omega (arith, ap length e)
-no_later-length w v (inr (inl h)) = omega (arith, h)
-no_later-length w v (inr (inr h)) = omega (arith, h.0)
+use Rattle.pv_laws_classes.proofs.Orders.{no_later-longer}
 
 module _ (program_of : Bytes → Option Program) (limit : ℕ) (s : State) (it : IsSearched program_of limit s) where
   abbrev pub found : List Found
@@ -42,7 +33,7 @@ module _ (program_of : Bytes → Option Program) (limit : ℕ) (s : State) (it :
     where
       weaker : (fs : List Found) → EachToLater (λ f g. IsBefore f.witness g.witness) fs → EachToLater (λ f g. size f ≤ size g) fs
       weaker [] r = tt
-      weaker (f ∷ fs) r = (each-weaker (λ g. IsBefore f.witness g.witness) (λ g. size f ≤ size g) (λ g h. no_later-length f.witness g.witness (inr h)) fs r.0, weaker fs r.1)
+      weaker (f ∷ fs) r = (each-weaker (λ g. IsBefore f.witness g.witness) (λ g. size f ≤ size g) (λ g h. no_later-longer f.witness g.witness (inr h)) fs r.0, weaker fs r.1)
 
   pub own-move : (g : Found) (pid : ℕ) (p : Process) → process_at g.state pid ≡ Some p → Among (move program_of g pid) (moves_of program_of g)
   own-move g pid p is = among-map (λ (r : ℕ × Process). move program_of g r.0) (pid, p) (live_processes g.state.processes) (live-listed g.state pid p is)
@@ -57,9 +48,9 @@ module _ (program_of : Bytes → Option Program) (limit : ℕ) (s : State) (it :
     where
       on : LeadsOn program_of limit found (move program_of here.0 pid) → ReachedIn (suc n) (step program_of t pid).after
       on (inl next) =
-          inl (next.0, next.1, next.2 ∙ ap (λ u. (step program_of u pid).after) here.2, omega (arith, no_later-length next.0.witness (here.0.witness ++ pid ∷ []) next.3, length-append here.0.witness (pid ∷ []), here.3))
+          inl (next.0, next.1, next.2 ∙ ap (λ u. (step program_of u pid).after) here.2, omega (arith, no_later-longer next.0.witness (here.0.witness ++ pid ∷ []) next.3, length-append here.0.witness (pid ∷ []), here.3))
       on (inr full) =
-          inr (each-weaker (λ h. IsNoLater h.witness (here.0.witness ++ pid ∷ [])) (λ h. size h ≤ suc n) (λ h k. omega (arith, no_later-length h.witness (here.0.witness ++ pid ∷ []) k, length-append here.0.witness (pid ∷ []), here.3)) found full.1)
+          inr (each-weaker (λ h. IsNoLater h.witness (here.0.witness ++ pid ∷ [])) (λ h. size h ≤ suc n) (λ h k. omega (arith, no_later-longer h.witness (here.0.witness ++ pid ∷ []) k, length-append here.0.witness (pid ∷ []), here.3)) found full.1)
 
       by : (o : Option Process) → process_at here.0.state pid ≡ o → ReachedIn (suc n) (step program_of t pid).after
       by None none = inl (here.0, here.1, sym (still program_of here.0.state pid none) ∙ ap (λ u. (step program_of u pid).after) here.2, omega (arith, here.3))

@@ -40,7 +40,7 @@ use Rattle.pv_laws_access.proofs.Near.{as_is, as_is-fine, near-view, near-at, Ar
 use Rattle.pv_laws_access.proofs.Next.{answer-does}
 use Rattle.pv_laws_access.proofs.Closed.{one-walk, found-ok}
 use Rattle.pv_laws_answers.proofs.Lists.{Among, among-left, among-right, among-map, among-filter_map}
-use Rattle.pv_laws_schedules.proofs.Reached.{contains-among}
+use Rattle.pv_laws_classes.proofs.Seen.{themselves}
 use Rattle.pv_laws_trees.proofs.Generic.{not-there}
 
 near-update : (f : ℕ) (a : State) (ys : Numbered Node) → AreNear as_is f a.tree.nodes ys → (pid : ℕ) (g : Process → Process) → IsNear as_is f (update a pid g) (update (near_state a ys) pid g)
@@ -266,7 +266,7 @@ module _ (program_of : Bytes → Option Program) (s : State) (pid f : ℕ) (ys :
       ∙ ap (rest z') none
 
   in-places : Among f (nodes_of_places s me (TheCall.Execve path))
-  in-places = among-filter_map node_of place f (places s me (TheCall.Execve path)) (contains-among (places s me (TheCall.Execve path)) place has) node
+  in-places = among-filter_map node_of place f (places s me (TheCall.Execve path)) (themselves (places s me (TheCall.Execve path)) place has) node
 
   execve-alike : HasAccess program_of s pid f ys near me (TheCall.Execve path) at is held ⊎ Alike program_of s pid f ys near me (TheCall.Execve path) at is held
   execve-alike = by (executable_bytes (node_at z.tree f)) refl

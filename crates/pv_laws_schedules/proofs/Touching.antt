@@ -18,7 +18,7 @@ use Rattle.pv_laws_answers.specs.Search.{IsSearched}
 use Rattle.pv_laws_answers.proofs.Lists.{Among, among-left, among-map, among-right, among-filter_map}
 use Rattle.pv_laws_answers.proofs.Observing.{all-observed}
 use Rattle.pv_laws_schedules.specs.Access.{ReadsAreListed, ReportsAreListed}
-use Rattle.pv_laws_schedules.proofs.Reached.{contains-among}
+use Rattle.pv_laws_classes.proofs.Seen.{themselves}
 use Rattle.pv_laws_schedules.proofs.ReadAccess.{reads-accessed}
 
 not-both : (call : Call) → reports_of_place call ≡ true → reports_of_descriptor call ≡ true → ⊥
@@ -33,7 +33,7 @@ module _ (s : State) (p : Process) (call : Call) (n : ℕ) where
   reported-node : ((reports_of_place call ≡ true) × IsNodeOfPlace s p call n) ⊎ ((reports_of_descriptor call ≡ true) × IsNodeOfDescriptor s p call n) → Among n (nodes_reported s p call)
   reported-node (inl (is, (place, has, node))) =
       subst (λ (b : Bool). Among n (if b then nodes_of_places s p call else (if reports_of_descriptor call then node_of_descriptor s p call else []))) (sym is)
-      (among-filter_map node_of place n (places s p call) (contains-among (places s p call) place has) node)
+      (among-filter_map node_of place n (places s p call) (themselves (places s p call) place has) node)
   reported-node (inr (is, (d, k, file, descriptor, opens, node))) = by (reports_of_place call) refl
     where
       own : Among n (node_of_descriptor s p call)

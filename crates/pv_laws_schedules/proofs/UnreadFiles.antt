@@ -22,7 +22,8 @@ use Rattle.pv_laws_states.specs.States.{EncodesPrograms, IsValid, is_program}
 use Rattle.pv_laws_states.proofs.BySteps.{first-whole}
 use Rattle.pv_laws_schedules.specs.Access.{UnreadFilesAreReadByNone, UnreadFilesChangeNothing}
 use Rattle.pv_laws_schedules.proofs.ReadAccess.{IsReadAccess, reads-accessed}
-use Rattle.pv_laws_schedules.proofs.Reached.{contains-among, own-move}
+use Rattle.pv_laws_classes.proofs.Seen.{themselves}
+use Rattle.pv_laws_schedules.proofs.Reached.{own-move}
 
 module _ (program_of : Bytes → Option Program) (limit : ℕ) (s : State) (it : IsSearched program_of limit s) where
   -- an access of a step from a visited state that reads a file
@@ -55,7 +56,7 @@ module _ (program_of : Bytes → Option Program) (limit : ℕ) (s : State) (it :
       (not-true (same_node (find_entry s.tree root (codes "init")) f) parts.0, not-true (list_any (λ m. m == f) (files_read program_of limit s)) parts.1)
 
   unread-parts : (f : ℕ) → Contains (unread_files program_of limit s) f → (same_node (find_entry s.tree root (codes "init")) f ≡ false) × (list_any (λ m. m == f) (files_read program_of limit s) ≡ false)
-  unread-parts f has = unlisted f (filter-among (is_unread program_of limit s (files_read program_of limit s)) f (named_files s.tree) (contains-among (unread_files program_of limit s) f has)).1
+  unread-parts f has = unlisted f (filter-among (is_unread program_of limit s (files_read program_of limit s)) f (named_files s.tree) (themselves (unread_files program_of limit s) f has)).1
 
   none-reads : (f : ℕ) → Contains (unread_files program_of limit s) f → IsReadByNone program_of limit s f
   none-reads f has =

@@ -2,3 +2,5 @@ pub mod Compare
 pub mod Access
 pub mod Exposure
 pub mod Policy
+pub mod ReducedExposure
+pub mod ReducedPolicy

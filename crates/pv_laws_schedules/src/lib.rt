@@ -7,9 +7,12 @@
 //! - `access`: which process can access what, and the files that no step reads.
 //! - `exposure`: the lines of a program at which a process is not closed to a file.
 //! - `policy`: the promises and permissions that a program needs.
+//! - `reduced_exposure`, `reduced_policy`: the same of both by the reduced search.
 #![tactic(auto)]
 
 pub mod access;
 pub mod compare;
 pub mod exposure;
 pub mod policy;
+pub mod reduced_exposure;
+pub mod reduced_policy;

@@ -1,0 +1,32 @@
+-- What `access`, `policy` and `exposure` show of a process is found by the reduced search.
+use Rattle.std.proofs.Common.{Option}
+use Rattle.pv_model.specs.Bytes.{Bytes}
+use Rattle.pv_model.specs.State.{Program}
+use Rattle.pv_laws_states.specs.States.{EncodesPrograms}
+use Rattle.pv_laws_classes.specs.Shown.{EachProcessIsSeen, BothSeeTheSame, EachAccessIsListedReduced, ListedAccessesHappenReduced, ReducedAccessesAreSame}
+use Rattle.pv_laws_classes.proofs.RenumberedShown.{identified-shown}
+use Rattle.pv_laws_classes.proofs.Seen.{each-seen, both-see}
+use Rattle.pv_laws_classes.proofs.SeenAccesses.{access-listed, accesses-reduced, same-accesses_reduced}
+use Rattle.pv_laws_classes.proofs.SeenSchedules.{IsInvariant}
+use Rattle.pv_laws_classes.proofs.Sights.{dead-shown, others-shown}
+
+invariant : (program_of : Bytes → Option Program) → EncodesPrograms program_of → IsInvariant program_of
+invariant program_of encodes = record {
+  identified = identified-shown program_of encodes (dead-shown program_of encodes);
+  others = others-shown program_of encodes;
+}
+
+pub each-process : EachProcessIsSeen
+each-process program_of limit s pids pid it = each-seen program_of (invariant program_of it.encodes) limit s pids pid it
+
+pub both-same : BothSeeTheSame
+both-same program_of limit other s it = both-see program_of (invariant program_of it.encodes) limit other s it
+
+pub each-access : EachAccessIsListedReduced
+each-access program_of limit s pids pid it = access-listed program_of (invariant program_of it.encodes) limit s pids pid it
+
+pub listed-accesses : ListedAccessesHappenReduced
+listed-accesses program_of limit s it = accesses-reduced program_of (invariant program_of it.encodes) limit s it
+
+pub same-accesses : ReducedAccessesAreSame
+same-accesses program_of limit other s it = same-accesses_reduced program_of (invariant program_of it.encodes) limit other s it

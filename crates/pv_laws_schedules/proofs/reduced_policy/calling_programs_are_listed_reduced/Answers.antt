@@ -1,0 +1,5 @@
+use Rattle.pv_laws_schedules.proofs.Promised.{calling-programs_reduced}
+use Rattle.pv_laws_schedules.proofs.reduced_policy.calling_programs_are_listed_reduced.Goals as goal
+
+pub returns : goal.returns
+returns c = calling-programs_reduced
