@@ -1,27 +1,44 @@
 -- The bytes that a search writes of accesses, and the notes that it records.
-use Rattle.std.proofs.Common.{◌≡◌, ◌∙◌, sym, ap, ap₂, ℕ, Bool, true, false, ◌||◌, if◌then◌else◌, ◌==◌, bytes_eq, List, [], ◌∷◌, ◌++◌, map, flat_map, append_assoc, append-nil, Option, None, Some, refl}
+use Rattle.std.proofs.Common.{◌≡◌, ◌∙◌, sym, ap, ap₂, ℕ, Bool, true, false, ◌||◌, if◌then◌else◌, ◌==◌, bytes_eq, List, [], ◌∷◌, ◌++◌, map, flat_map, append_assoc, append-nil, filter, length, Option, None, Some, refl}
 use Rattle.std.specs.Prelude.{filter_map}
 use Rattle.std.specs.List.{cons_option, list_any}
 use Rattle.std.proofs.lemmas.Grind.{flat_map-append}
 use Rattle.std.proofs.lemmas.List.{map-append}
-use Rattle.pv_explore.specs.Observing.{is_shown, observation_bytes, observed_bytes, recorded_texts, IsSearched}
+use Rattle.pv_explore.specs.Observing
+use Rattle.pv_explore.specs.Observing.{is_shown, observation_bytes}
 use Rattle.pv_explore.proofs.Reported.{line-shown}
+use Rattle.pv_laws_classes.specs.Reduced.{reduced_moves_of}
+use Rattle.pv_laws_classes.specs.ReducedAnswers.{reduced_access_lines}
 use Rattle.pv_laws_trees.proofs.Entries.{bytes_eq-same}
 use Rattle.pv_model.specs.declared.call.Call.{Call}
-use Rattle.pv_model.specs.Answers.Access.{Access, access_line, access_lines, accesses, file_read, files_read, lines_of_accesses, reported_accesses, unread_files, unread_line}
-use Rattle.pv_model.specs.Answers.Explore.{Found, Move, by_line, done_line, is_complete, moves_of, new_ones, states_found}
+use Rattle.pv_model.specs.Answers.Access.{Access, access_line, access_lines, accesses, file_read, is_unread, lines_of_accesses, unread_line}
+use Rattle.pv_model.specs.Answers.Explore.{Found, Move, by_line, moves_of, new_ones}
 use Rattle.pv_model.specs.Answers.Files.{named_files}
 use Rattle.pv_model.specs.Answers.Lines.{AnswerLine, answer_bytes, answer_line_bytes}
-use Rattle.pv_model.specs.Answers.Observed.{CallObserver, Observation, Observer, observation_lines, observations, observations_at, observed, of_calls, of_next, of_process}
+use Rattle.pv_model.specs.Answers.Observed.{CallObserver, Observation, Observer, observation_lines, observed, of_calls, of_next, of_process}
 use Rattle.pv_model.specs.Bytes.{Bytes}
 use Rattle.pv_model.specs.Grammar.Programs.{program_of}
 use Rattle.pv_model.specs.Program.{Next, inside, calls_for, next}
 use Rattle.pv_model.specs.State.{Process, State, process_at}
 use Rattle.pv_model.specs.Step.{Stepped}
 use Rattle.pv_model.specs.Tree.{Tree}
+use Rattle.pv_reduced.specs.declared.kind.SearchKind.{SearchKind}
+use Rattle.pv_reduced.specs.declared.kind.SearchKind.TheVariants.{Full, Reduced}
+use Rattle.pv_reduced.specs.Kinds.{IsSearchedBy, access_lines_by, count_line, found_by_kind, is_complete_by, observed_by}
+use Rattle.pv_reduced.specs.Lines
 use Rattle.pv_access.specs.Texts.{access_texts, note, note_texts, texts_by, texts_of_call}
-use Rattle.pv_access.specs.Unread.{last_lines, unread_file_line}
+use Rattle.pv_access.specs.Unread.{last_lines, unread_file_line, unread_lines}
 use Rattle.pv_access.proofs.Notes.{note-hidden, note-tested, shown-differs, unread-alike}
+
+-- ---- the steps of a search
+
+-- the observations of the steps that a search makes from visited states, given the moves from each state
+module _ (moves : Found → List Move) {X : Type 0} (observe : Observer X) where
+  abbrev observed_at : Found → List (Observation X)
+  observed_at f = flat_map (λ m. map (observed m) (observe f.state m.pid m.stepped)) (moves f)
+
+  abbrev observed_from : List Found → List (Observation X)
+  observed_from found = flat_map observed_at found
 
 -- ---- observers whose items are made of those of another
 
@@ -42,15 +59,12 @@ module _ {X Y : Type 0} (make : X → List Y) where
         ap₂ (λ (a b : List (Observation Y)). a ++ b) (ap (map (observed m)) (made s m.pid m.stepped) ∙ items-made m (first s m.pid m.stepped)) (moves-made s ms)
         ∙ sym (flat_map-append made_of (map (observed m) (first s m.pid m.stepped)) (flat_map (λ m. map (observed m) (first s m.pid m.stepped)) ms))
 
-    module _ (limit : ℕ) where
-      states-made : (found : List Found) → flat_map (observations_at second program_of) found ≡ flat_map made_of (flat_map (observations_at first program_of) found)
+    module _ (moves : Found → List Move) where
+      states-made : (found : List Found) → observed_from moves second found ≡ flat_map made_of (observed_from moves first found)
       states-made [] = refl
       states-made (f ∷ found) =
-          ap₂ (λ (a b : List (Observation Y)). a ++ b) (moves-made f.state (moves_of program_of f)) (states-made found)
-          ∙ sym (flat_map-append made_of (observations_at first program_of f) (flat_map (observations_at first program_of) found))
-
-      observations-made : (s : State) → observations second program_of limit s ≡ flat_map made_of (observations first program_of limit s)
-      observations-made s = states-made (states_found program_of limit s)
+          ap₂ (λ (a b : List (Observation Y)). a ++ b) (moves-made f.state (moves f)) (states-made found)
+          ∙ sym (flat_map-append made_of (observed_at moves first f) (observed_from moves first found))
 
 -- ---- accesses with their lines
 
@@ -236,57 +250,106 @@ notes-of_texts n (o ∷ os) = by (file_read o.item.0) (notes-of_texts n os)
 
 -- ---- a whole search
 
-module _ (limit : ℕ) (s : State) where
+module _ (moves : Found → List Move) (found : List Found) where
   abbrev all_lined : List (Observation Lined)
-  all_lined = observations (of_calls accesses_lined) program_of limit s
+  all_lined = observed_from moves (of_calls accesses_lined) found
 
-  texts-made : observations access_texts program_of limit s ≡ flat_map (made_of its_texts) all_lined
+  texts-made : observed_from moves access_texts found ≡ flat_map (made_of its_texts) all_lined
   texts-made =
-      observations-made its_texts (of_calls accesses_lined) access_texts
-      (calls-made its_texts texts_of_call (λ s pid p call now. texts-lined (access_line s pid p call now) (accesses s pid p call now))) limit s
+      states-made its_texts (of_calls accesses_lined) access_texts
+      (calls-made its_texts texts_of_call (λ s pid p call now. texts-lined (access_line s pid p call now) (accesses s pid p call now))) moves found
 
-  lines-made : observations (of_calls lines_of_accesses) program_of limit s ≡ flat_map (made_of one_line) all_lined
+  lines-made : observed_from moves (of_calls lines_of_accesses) found ≡ flat_map (made_of one_line) all_lined
   lines-made =
-      observations-made one_line (of_calls accesses_lined) (of_calls lines_of_accesses)
-      (calls-made one_line lines_of_accesses (λ s pid p call now. lines-lined (access_line s pid p call now) (accesses s pid p call now))) limit s
+      states-made one_line (of_calls accesses_lined) (of_calls lines_of_accesses)
+      (calls-made one_line lines_of_accesses (λ s pid p call now. lines-lined (access_line s pid p call now) (accesses s pid p call now))) moves found
 
-  accesses-made : observations (of_calls accesses) program_of limit s ≡ flat_map (made_of one_access) all_lined
+  accesses-made : observed_from moves (of_calls accesses) found ≡ flat_map (made_of one_access) all_lined
   accesses-made =
-      observations-made one_access (of_calls accesses_lined) (of_calls accesses)
-      (calls-made one_access accesses (λ s pid p call now. accesses-lined (access_line s pid p call now) (accesses s pid p call now))) limit s
+      states-made one_access (of_calls accesses_lined) (of_calls accesses)
+      (calls-made one_access accesses (λ s pid p call now. accesses-lined (access_line s pid p call now) (accesses s pid p call now))) moves found
+
+  -- the texts that are recorded, the accesses that are reported, and the files that are read or executed
+  abbrev texts_first : List (Observation Bytes)
+  texts_first = new_ones text_item [] (observed_from moves access_texts found)
+
+  abbrev lines_first : List (Observation AnswerLine)
+  lines_first = new_ones line_key [] (observed_from moves (of_calls lines_of_accesses) found)
+
+  abbrev files_noted : List ℕ
+  files_noted = filter_map (λ o. file_read o.item) (observed_from moves (of_calls accesses) found)
 
   -- the bytes that a search writes are those of the accesses reported
-  accesses-reported : observed_bytes access_texts limit s ≡ lines_written (reported_accesses program_of limit s)
-  unfolding observed_bytes
+  accesses-reported : flat_map observation_bytes texts_first ≡ lines_written lines_first
   accesses-reported =
       ap (λ os. flat_map observation_bytes (new_ones text_item [] os)) texts-made
       ∙ accesses-written all_lined [] [] (λ t shown. refl)
       ∙ ap (λ os. lines_written (new_ones line_key [] os)) (sym lines-made)
 
   -- the note of a file is recorded exactly if a step reads or executes it
-  notes-recorded : (n : ℕ) → list_any (bytes_eq (note n)) (recorded_texts access_texts limit s) ≡ list_any (λ m. m == n) (files_read program_of limit s)
+  notes-recorded : (n : ℕ) → list_any (bytes_eq (note n)) (map text_item texts_first) ≡ list_any (λ m. m == n) files_noted
   notes-recorded n =
-      recorded-any (note n) [] (observations access_texts program_of limit s)
+      recorded-any (note n) [] (observed_from moves access_texts found)
       ∙ ap (λ os. list_any (bytes_eq (note n)) (map text_item os)) texts-made
       ∙ notes-of_texts n all_lined
       ∙ ap (λ os. list_any (λ m. m == n) (filter_map (λ o. file_read o.item) os)) (sym accesses-made)
 
+  module _ (limit : ℕ) (s : State) (complete : Bool) (last : AnswerLine) where
+    abbrev lines_unread : List AnswerLine
+    lines_unread = if complete then map (unread_line program_of limit s) (filter (is_unread program_of limit s files_noted) (named_files s.tree)) else []
+
+    -- the lines after those of the accesses are those of the notes recorded
+    lines-unread : unread_lines s.tree (map text_item texts_first) complete ++ last ∷ [] ≡ lines_unread ++ last ∷ []
+    lines-unread =
+        ap (λ files. (if complete then map (unread_file_line s.tree) files else []) ++ last ∷ [])
+        (unread-alike s.tree (map text_item texts_first) files_noted notes-recorded (named_files s.tree))
+
+    -- the bytes of all lines
+    all-bytes : flat_map observation_bytes texts_first ++ answer_bytes (lines_unread ++ last ∷ [])
+        ≡ answer_bytes (flat_map (observation_lines (λ l. l ∷ [])) lines_first ++ lines_unread ++ last ∷ [])
+    all-bytes =
+        let lines : List AnswerLine = flat_map (observation_lines (λ l. l ∷ [])) lines_first in
+        ap (λ bs. bs ++ answer_bytes (lines_unread ++ last ∷ [])) accesses-reported
+        ∙ sym (flat_map-append answer_line_bytes lines (lines_unread ++ last ∷ []))
+        ∙ ap answer_bytes (sym (append_assoc lines lines_unread (last ∷ [])))
+
+-- ---- both kinds of search
+
+module _ (limit : ℕ) (s : State) where
+  -- the moves of a search of a kind from a state
+  abbrev moves_by : SearchKind → Found → List Move
+  moves_by Full = moves_of program_of
+  moves_by Reduced = reduced_moves_of program_of s
+
+  abbrev last_line : SearchKind → AnswerLine
+  last_line kind = count_line kind (length (found_by_kind kind limit s)) (is_complete_by kind limit s)
+
+  abbrev texts_recorded : SearchKind → List Bytes
+  texts_recorded kind = map text_item (texts_first (moves_by kind) (found_by_kind kind limit s))
+
   -- the lines after those of the accesses
-  abbrev pub end_lines : List AnswerLine
-  end_lines = (if is_complete program_of limit s then map (unread_line program_of limit s) (unread_files program_of limit s) else []) ++ done_line program_of limit s ∷ []
+  abbrev pub end_lines : SearchKind → List AnswerLine
+  end_lines kind = lines_unread (moves_by kind) (found_by_kind kind limit s) limit s (is_complete_by kind limit s) (last_line kind) ++ last_line kind ∷ []
 
-  pub last-bytes : (t : Tree) (states : ℕ) (complete : Bool) (ends : ℕ) (texts : List Bytes) → t ≡ s.tree → IsSearched access_texts limit s states complete ends texts
-      → answer_bytes (last_lines t texts states complete) ≡ answer_bytes end_lines
-  last-bytes t states complete ends texts same it =
-      (λ i. answer_bytes (last_lines (same i) (it.texts_are i) (it.states_are i) (it.complete_is i)))
-      ∙ ap (λ files. answer_bytes ((if is_complete program_of limit s then map (unread_file_line s.tree) files else []) ++ done_line program_of limit s ∷ []))
-      (unread-alike s.tree (recorded_texts access_texts limit s) (files_read program_of limit s) notes-recorded (named_files s.tree))
+  last-alike : (kind : SearchKind) (t : Tree) (texts : List Bytes) (states : ℕ) (complete : Bool)
+      → t ≡ s.tree → texts ≡ texts_recorded kind → states ≡ length (found_by_kind kind limit s) → complete ≡ is_complete_by kind limit s
+      → answer_bytes (last_lines t kind texts states complete) ≡ answer_bytes (end_lines kind)
+  last-alike kind t texts states complete same texts_are states_are complete_is =
+      (λ i. answer_bytes (last_lines (same i) kind (texts_are i) (states_are i) (complete_is i)))
+      ∙ ap answer_bytes (lines-unread (moves_by kind) (found_by_kind kind limit s) limit s (is_complete_by kind limit s) (last_line kind))
 
-  pub access-bytes : observed_bytes access_texts limit s ++ answer_bytes end_lines ≡ answer_bytes (access_lines program_of limit s)
-  unfolding access_lines
-  access-bytes =
-      let lines : List AnswerLine = flat_map (observation_lines (λ l. l ∷ [])) (reported_accesses program_of limit s) in
-      let unread : List AnswerLine = if is_complete program_of limit s then map (unread_line program_of limit s) (unread_files program_of limit s) else [] in
-      ap (λ bs. bs ++ answer_bytes end_lines) accesses-reported
-      ∙ sym (flat_map-append answer_line_bytes lines end_lines)
-      ∙ ap answer_bytes (sym (append_assoc lines unread (done_line program_of limit s ∷ [])))
+  pub last-bytes : (kind : SearchKind) (t : Tree) (states : ℕ) (complete : Bool) (ends : ℕ) (texts : List Bytes)
+      → t ≡ s.tree → IsSearchedBy access_texts limit s kind states complete ends texts
+      → answer_bytes (last_lines t kind texts states complete) ≡ answer_bytes (end_lines kind)
+  last-bytes Full t states complete ends texts same it = last-alike Full t texts states complete same it.texts_are it.states_are it.complete_is
+  last-bytes Reduced t states complete ends texts same it = last-alike Reduced t texts states complete same it.texts_are it.states_are it.complete_is
+
+  pub complete-found : (kind : SearchKind) (states : ℕ) (complete : Bool) (ends : ℕ) (texts : List Bytes)
+      → IsSearchedBy access_texts limit s kind states complete ends texts → complete ≡ is_complete_by kind limit s
+  complete-found Full states complete ends texts it = it.complete_is
+  complete-found Reduced states complete ends texts it = it.complete_is
+
+  pub access-bytes : (kind : SearchKind) → observed_by access_texts limit s kind ++ answer_bytes (end_lines kind) ≡ answer_bytes (access_lines_by kind limit s)
+  unfolding Observing.observed_bytes Lines.observed_bytes access_lines reduced_access_lines
+  access-bytes Full = all-bytes (moves_by Full) (found_by_kind Full limit s) limit s (is_complete_by Full limit s) (last_line Full)
+  access-bytes Reduced = all-bytes (moves_by Reduced) (found_by_kind Reduced limit s) limit s (is_complete_by Reduced limit s) (last_line Reduced)

@@ -1,12 +1,13 @@
 -- The files of a tree whose bytes no step of a search depends on, and the last lines of `access`.
 use Rattle.std.specs.Prelude.{ℕ, zero, suc, Bool, not, ◌&&◌, ◌==◌, if◌then◌else◌, List, [], ◌∷◌, ◌++◌, length, map, flat_map, filter, bytes_eq, codes}
 use Rattle.std.specs.List.{list_any}
-use Rattle.pv_model.specs.Answers.Explore.{states_line}
 use Rattle.pv_model.specs.Answers.Files.{is_file_at, named_files, node_brief}
 use Rattle.pv_model.specs.Answers.Lines.{AnswerLine, answer_line}
 use Rattle.pv_model.specs.Bytes.{Bytes}
 use Rattle.pv_model.specs.Calls.Paths.{same_node}
 use Rattle.pv_model.specs.Tree.{Tree, root, entries_at, find_entry}
+use Rattle.pv_reduced.specs.declared.kind.SearchKind.{SearchKind}
+use Rattle.pv_reduced.specs.Kinds.{count_line}
 use Rattle.pv_access.specs.Texts.{note}
 
 -- a list with the number if the condition holds, and the empty list otherwise
@@ -45,7 +46,7 @@ module _ (t : Tree) where
   abbrev pub unread_lines : List Bytes → Bool → List AnswerLine
   unread_lines texts complete = if complete then map unread_file_line (files_without_note texts) else []
 
-  -- the lines after those of the accesses, given the texts that were observed, the number of states and whether these
-  -- are all
-  abbrev pub last_lines : List Bytes → ℕ → Bool → List AnswerLine
-  last_lines texts states complete = unread_lines texts complete ++ states_line states complete ∷ []
+  -- the lines after those of the accesses, given the kind of search, the texts that were observed, the number of states and
+  -- whether no state was left out
+  abbrev pub last_lines : SearchKind → List Bytes → ℕ → Bool → List AnswerLine
+  last_lines kind texts states complete = unread_lines texts complete ++ count_line kind states complete ∷ []

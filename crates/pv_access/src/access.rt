@@ -1,16 +1,15 @@
 //! The accesses of all schedules.
 ghost use Rattle.std.specs.Prelude.{◌≡◌, ◌≤◌, IfOk};
 ghost use Rattle.pv_access.specs.Unread.{last_lines};
-ghost use Rattle.pv_model.specs.Answers.Access.{access_lines};
-ghost use Rattle.pv_model.specs.Answers.Explore.{is_complete};
 ghost use Rattle.pv_model.specs.Answers.Lines.{answer_bytes};
-ghost use Rattle.pv_model.specs.Grammar.Programs.{program_of};
+ghost use Rattle.pv_reduced.specs.Kinds.{access_lines_by, is_complete_by};
 ghost use Rattle.pv_session.specs.Running.{FailsBy};
 ghost use Rattle.pv_streams.specs.Sinks.{Writes, WritesOr};
 
 use crate::observer::AccessObserver;
 use crate::unread::write_unread;
-use pv_explore::{FirstMachine, Progress, Searched, search_observed, write_states};
+use pv_explore::{FirstMachine, Progress, Searched};
+use pv_reduced::SearchKind;
 use pv_session::Stop;
 use pv_streams::Sink;
 use pv_tree::Tree;
@@ -19,18 +18,19 @@ use std::alloc::Global;
 // Writes the unread files, if the search is complete, and then the number of states.
 fn write_last<W: Sink>(
     alloc: Global,
+    kind: SearchKind,
     tree: &Tree,
     searched: &Searched,
     out: &mut W,
 ) -> Result<(), Stop>
-    ensures { WritesOr W.Sink FailsBy (answer_bytes (last_lines tree.now.tree searched.now.texts searched.now.states searched.now.complete)) out.old out.new result }
+    ensures { WritesOr W.Sink FailsBy (answer_bytes (last_lines tree.now.tree kind searched.now.texts searched.now.states searched.now.complete)) out.old out.new result }
 {
     write_unread(alloc, tree, searched, out)?;
-    Ok(write_states(out, searched.states, searched.complete)?)
+    Ok(kind.write_count(out, searched.states, searched.complete)?)
 }
 
-/// Writes which process can access what under any schedule. The search visits at most `states` states, in breadth-first
-/// order from the first state of a machine. For each access of a step whose line no earlier access has, it writes a BY
+/// Writes which process can access what under any schedule. The search, of the given kind, visits at most `states` states,
+/// in breadth-first order from the first state of a machine. For each access of a step whose line no earlier access has, it writes a BY
 /// line with a shortest witness, that is, a schedule that leads to this step, and then the line of the access:
 ///
 /// - READ, EXEC, WRIT: the file that the call reads, executes or writes;
@@ -38,11 +38,12 @@ fn write_last<W: Sink>(
 /// - TELL: the node that the call reports;
 /// - OPEN: the mode and the node of the new descriptor.
 ///
-/// If the visited states are all states, it then writes a line UNRD for each file of the first tree, in the order of a
+/// If no state was left out, it then writes a line UNRD for each file of the first tree, in the order of a
 /// listing, that is not the file at `/init` and that no step reads or executes. The last line, DONE, has the number of
-/// visited states, and whether these are all. Returns whether the visited states are all.
+/// visited states, and whether no state was left out. Returns whether no state was left out.
 ///
-/// If they are, each access of each step in each schedule is among those written: see `pv_laws_schedules`.
+/// If so, each access of each step in each schedule is among those written: see `pv_laws_schedules` and
+/// `pv_laws_classes::shown`.
 ///
 /// `progress` shows the state of the search. It ends before the lines UNRD, also if the search fails.
 ///
@@ -52,17 +53,17 @@ fn write_last<W: Sink>(
 /// - `Write`, if a write failed. The sink received a prefix of the lines.
 pub fn write_access<W: Sink, P: Progress>(
     alloc: Global,
+    kind: SearchKind,
     first_machine: &FirstMachine,
     states: u32,
     progress: &mut P,
     out: &mut W,
 ) -> Result<bool, Stop>
     requires { 1 ≤ states }
-    ensures written { WritesOr W.Sink FailsBy (answer_bytes (access_lines program_of states first_machine.now)) out.old out.new result }
-    ensures complete { IfOk result (λ complete. complete ≡ is_complete program_of states first_machine.now) }
+    ensures written { WritesOr W.Sink FailsBy (answer_bytes (access_lines_by kind states first_machine.now)) out.old out.new result }
+    ensures complete { IfOk result (λ complete. complete ≡ is_complete_by kind states first_machine.now) }
 {
-    let observer = AccessObserver;
-    let searched = search_observed(alloc, first_machine, states, observer, progress, out)?;
-    write_last(alloc, first_machine.tree(), &searched, out)?;
+    let searched = kind.search(alloc, first_machine, states, AccessObserver, progress, out)?;
+    write_last(alloc, kind, first_machine.tree(), &searched, out)?;
     Ok(searched.complete)
 }

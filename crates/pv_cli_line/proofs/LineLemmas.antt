@@ -282,8 +282,8 @@ module _ (entered : Option (Text × List Row)) where
       → ((tree : TreeInput) → IsValidTreeIn entered (codes "policy") tree → ⊥)
       → ((tree : TreeInput) → IsValidTreeIn entered (codes "graph") tree → ⊥)
       → (search : Search) (tree : TreeInput) → IsValidTreeIn entered (search_name search) tree → ⊥
-  no_search explores accesses exposures policies graphs (Explore reduced) = explores
-  no_search explores accesses exposures policies graphs Access = accesses
-  no_search explores accesses exposures policies graphs Exposure = exposures
-  no_search explores accesses exposures policies graphs Policy = policies
+  no_search explores accesses exposures policies graphs (Explore kind) = explores
+  no_search explores accesses exposures policies graphs (Access kind) = accesses
+  no_search explores accesses exposures policies graphs (Exposure kind) = exposures
+  no_search explores accesses exposures policies graphs (Policy kind) = policies
   no_search explores accesses exposures policies graphs (Graph lists_tree) = graphs

@@ -29,6 +29,8 @@ use Rattle.pv_questions.specs.declared.question.TreeQuestion.{TreeQuestion}
 use Rattle.pv_questions.specs.declared.question.TreeQuestion.TheVariants.{Listing, File, Turns, Search as OfSearch}
 use Rattle.pv_questions.specs.declared.question.Search.{Search}
 use Rattle.pv_questions.specs.declared.question.Search.TheVariants.{Explore, Access, Exposure, Policy, Graph}
+use Rattle.pv_reduced.specs.declared.kind.SearchKind.{SearchKind}
+use Rattle.pv_reduced.specs.declared.kind.SearchKind.TheVariants.{Full, Reduced}
 use Rattle.pv_cli_line.specs.declared.matches.Parsed.{Parsed}
 use Rattle.pv_cli_line.specs.declared.matches.Parsed.TheVariants as found
 use Rattle.pv_cli_line.specs.declared.command.LineFault.{LineFault}
@@ -205,17 +207,23 @@ output_entered entered = if is_given (entered_text entered (codes "source") (cod
 
 -- the name of the command of a search
 abbrev pub search_name : Search → Text
-search_name (Explore reduced) = codes "explore"
-search_name Access = codes "access"
-search_name Exposure = codes "exposure"
-search_name Policy = codes "policy"
+search_name (Explore kind) = codes "explore"
+search_name (Access kind) = codes "access"
+search_name (Exposure kind) = codes "exposure"
+search_name (Policy kind) = codes "policy"
 search_name (Graph lists_tree) = codes "graph"
+
+-- the kind of the search of a command, which the flag `reduced` chooses
+abbrev pub kind_entered : Option (Text × List Row) → Text → SearchKind
+kind_entered entered command = if is_given (entered_text entered command (codes "reduced")) then Reduced else Full
 
 -- the flags of the command of a search are those entered
 abbrev pub HasFlags : Option (Text × List Row) → Search → Type 0
-HasFlags entered (Explore reduced) = is_given (entered_text entered (codes "explore") (codes "reduced")) ≡ reduced
+HasFlags entered (Explore kind) = kind_entered entered (codes "explore") ≡ kind
+HasFlags entered (Access kind) = kind_entered entered (codes "access") ≡ kind
+HasFlags entered (Exposure kind) = kind_entered entered (codes "exposure") ≡ kind
+HasFlags entered (Policy kind) = kind_entered entered (codes "policy") ≡ kind
 HasFlags entered (Graph lists_tree) = is_given (entered_text entered (codes "graph") (codes "tree")) ≡ lists_tree
-HasFlags entered search = ⊤
 
 -- a question about a tree was entered, with its input
 abbrev pub IsTreeQuestionIn : Option (Text × List Row) → TreeQuestion → TreeInput → Type 0

@@ -72,6 +72,10 @@ question_rules = bundle_rule ∷ source_rule ∷ schedule_rules ++ optional_rule
 abbrev pub search_rules : List Rule
 search_rules = tree_rules ++ long_rule (codes "states") ∷ []
 
+-- the same, with the flag of the reduced search
+abbrev pub kind_rules : List Rule
+kind_rules = search_rules ++ flag_rule (codes "reduced") ∷ []
+
 -- the commands on bundles and sources; to make and list an image; to run and audit an image; questions about the state
 -- after a run, about its steps, and about a tree
 abbrev pub schedule_apps : List App
@@ -93,10 +97,10 @@ schedule_apps =
 -- the questions about all schedules; the commands to migrate an image, and to import and export a directory
 abbrev pub search_apps : List App
 search_apps =
-    command_app (codes "explore") (search_rules ++ flag_rule (codes "reduced") ∷ [])
-    ∷ command_app (codes "access") search_rules
-    ∷ command_app (codes "exposure") search_rules
-    ∷ command_app (codes "policy") search_rules
+    command_app (codes "explore") kind_rules
+    ∷ command_app (codes "access") kind_rules
+    ∷ command_app (codes "exposure") kind_rules
+    ∷ command_app (codes "policy") kind_rules
     ∷ command_app (codes "compare") (bundle_rule ∷ optional_rule (codes "IMAGE") ∷ optional_rule (codes "OTHER") ∷ long_rule (codes "states") ∷ [])
     ∷ command_app (codes "graph") (search_rules ++ flag_rule (codes "tree") ∷ [])
     ∷ command_app (codes "migrate")

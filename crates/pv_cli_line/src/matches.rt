@@ -1,7 +1,7 @@
 //! The command in the matches of the parser.
 ghost use Rattle.std.specs.Prelude.{◌≡◌, ◌⊎◌, ℕ, List, codes, Option, None, Some, IfSome};
 ghost use Rattle.clap.specs.Words.{subcommand_rows_of as entered};
-ghost use Rattle.pv_cli_line.specs.Line.{AreComparedIn, AreMigrationTextsIn, HasFlags, HasTexts, IsCommandIn, IsCommandOf, IsFoundIn, IsMigrationOf, IsPlain, IsQuestionIn, IsRunIn, IsTracedIn, IsTracedTextIn, IsTreeIn, IsValidRunIn, IsValidTreeIn, IsWithoutNumbers, Never, NeverBoth, entered_text, output_entered, question_name, search_name, size_in};
+ghost use Rattle.pv_cli_line.specs.Line.{AreComparedIn, AreMigrationTextsIn, HasFlags, HasTexts, IsCommandIn, IsCommandOf, IsFoundIn, IsMigrationOf, IsPlain, IsQuestionIn, IsRunIn, IsTracedIn, IsTracedTextIn, IsTreeIn, IsValidRunIn, IsValidTreeIn, IsWithoutNumbers, Never, NeverBoth, entered_text, kind_entered, output_entered, question_name, search_name, size_in};
 
 use crate::texts::{
     RunTexts, TreeTexts, count_of, is_flag_given, run_in, run_texts_in, size_of, states_of,
@@ -11,7 +11,7 @@ use clap::ArgMatches;
 use pv_cli_commands::{
     Command, CompareInput, Output, RunInput, ScheduleInput, TextInput, TreeInput,
 };
-use pv_questions::{Question, RunQuestion, Search, TreeQuestion};
+use pv_questions::{Question, RunQuestion, Search, SearchKind, TreeQuestion};
 
 // Returns the `mkimg` command, if the matches are of it.
 fn make_image_in<'a>(matches: &ArgMatches<'a>) -> Option<Command<'a>>
@@ -351,10 +351,10 @@ fn name_of_search(search: Search) -> &'static str
     ensures { result.now ≡ search_name search }
 {
     match search {
-        Search::Explore { .. } => "explore",
-        Search::Access => "access",
-        Search::Exposure => "exposure",
-        Search::Policy => "policy",
+        Search::Explore(_) => "explore",
+        Search::Access(_) => "access",
+        Search::Exposure(_) => "exposure",
+        Search::Policy(_) => "policy",
         Search::Graph { .. } => "graph",
     }
 }
@@ -376,22 +376,36 @@ fn search_by<'a>(matches: &ArgMatches<'a>, search: Search) -> Option<Parsed<'a>>
     }))
 }
 
+// Returns the kind of the search of a command, which the flag `reduced` chooses.
+fn kind_in(matches: &ArgMatches<'_>, command: &str) -> SearchKind
+    ensures { result ≡ kind_entered (entered matches.now) command.now }
+{
+    if is_flag_given(matches, command, "reduced") {
+        SearchKind::Reduced
+    } else {
+        SearchKind::Full
+    }
+}
+
 // Returns the command of a search, if there is one in the matches.
 fn search_in<'a>(matches: &ArgMatches<'a>) -> Option<Parsed<'a>>
     ensures found { IfSome result (IsFoundIn (entered matches.now)) }
     ensures none { result ≡ None → NeverBoth (λ search. IsValidTreeIn (entered matches.now) (search_name search)) }
 {
-    let reduced = is_flag_given(matches, "explore", "reduced");
-    if let Some(found) = search_by(matches, Search::Explore { reduced }) {
+    let explore = Search::Explore(kind_in(matches, "explore"));
+    if let Some(found) = search_by(matches, explore) {
         return Some(found);
     }
-    if let Some(found) = search_by(matches, Search::Access) {
+    let access = Search::Access(kind_in(matches, "access"));
+    if let Some(found) = search_by(matches, access) {
         return Some(found);
     }
-    if let Some(found) = search_by(matches, Search::Exposure) {
+    let exposure = Search::Exposure(kind_in(matches, "exposure"));
+    if let Some(found) = search_by(matches, exposure) {
         return Some(found);
     }
-    if let Some(found) = search_by(matches, Search::Policy) {
+    let policy = Search::Policy(kind_in(matches, "policy"));
+    if let Some(found) = search_by(matches, policy) {
         return Some(found);
     }
     let tree = is_flag_given(matches, "graph", "tree");

@@ -127,6 +127,12 @@ const STATES: Argument = Named {
     help: "the maximum number of states: 1 to 4294967295 (default 1000000); the exit status is 5 if a state is left out",
 };
 
+const REDUCED: Argument = Flag {
+    name: "reduced",
+    short: None,
+    help: "visit fewer states: identify those that differ only in numbers of open files and in values that are never read, and make steps on registers together",
+};
+
 // The commands on a tree and on one run, in the order in which the help lists them.
 const RUNS: &[CommandRow] = &[
     CommandRow {
@@ -299,32 +305,22 @@ const SEARCHES: &[CommandRow] = &[
     CommandRow {
         name: "explore",
         about: "Print everything that can happen under any schedule of an image, each with a shortest schedule",
-        arguments: &[
-            BUNDLE,
-            SOURCE,
-            IMAGE,
-            STATES,
-            Flag {
-                name: "reduced",
-                short: None,
-                help: "visit fewer states: identify those that differ only in numbers of open files and in values that are never read, and make steps on registers together",
-            },
-        ],
+        arguments: &[BUNDLE, SOURCE, IMAGE, STATES, REDUCED],
     },
     CommandRow {
         name: "access",
         about: "Print which process can access which file under any schedule, each with a shortest schedule",
-        arguments: &[BUNDLE, SOURCE, IMAGE, STATES],
+        arguments: &[BUNDLE, SOURCE, IMAGE, STATES, REDUCED],
     },
     CommandRow {
         name: "exposure",
         about: "Print at which lines of each program a process could still reach each file, whatever it called next",
-        arguments: &[BUNDLE, SOURCE, IMAGE, STATES],
+        arguments: &[BUNDLE, SOURCE, IMAGE, STATES, REDUCED],
     },
     CommandRow {
         name: "policy",
         about: "Print the promises and permissions that each program needs under any schedule, and those that it never uses",
-        arguments: &[BUNDLE, SOURCE, IMAGE, STATES],
+        arguments: &[BUNDLE, SOURCE, IMAGE, STATES, REDUCED],
     },
     CommandRow {
         name: "compare",

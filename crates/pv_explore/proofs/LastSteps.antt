@@ -53,6 +53,9 @@ before-more many (first ∷ steps) step before within = (before.0, before-more (
 witnesses-length : (steps : List LastStep) → length (witnesses_of steps) ≡ suc (length steps)
 witnesses-length steps = omega (arith, grown-length ([] ∷ []) steps)
 
+pub witnesses-many : (steps : List LastStep) (witnesses : List (List ℕ)) (count : ℕ) → witnesses_of steps ≡ witnesses → count ≡ length steps + 1 → count ≡ length witnesses
+witnesses-many steps witnesses count are is = let many : length witnesses ≡ suc (length steps) = ap length (sym are) ∙ witnesses-length steps in omega (arith, many, is)
+
 pub witness-within : (steps : List LastStep) (witnesses : List (List ℕ)) (number : ℕ) → witnesses_of steps ≡ witnesses → number < length witnesses → number ≤ length steps
 witness-within steps witnesses number are within =
     let many : length witnesses ≡ suc (length steps) = ap length (sym are) ∙ witnesses-length steps in omega (arith, many, within)

@@ -1,7 +1,7 @@
 -- The visited states of a search, one at a time.
 use Rattle.std.specs.Prelude.{ℕ, Bool, List, map}
 use Rattle.pv_explore.specs.declared.visited.VisitedState.{VisitedState}
-use Rattle.pv_explore.specs.Plan.{Visited, state_at}
+use Rattle.pv_explore.specs.Plan.{state_at}
 use Rattle.pv_model.specs.Answers.Explore.{Found, is_complete, states_found}
 use Rattle.pv_model.specs.Grammar.Programs.{program_of}
 use Rattle.pv_model.specs.State.{State}
@@ -15,9 +15,9 @@ pub record Visits : Type 0 where
 abbrev pub found_at : State → List ℕ → Found
 found_at s witness = record { witness = witness; state = state_at program_of s witness }
 
--- the visited states from the data of a search
-abbrev pub visits_of : State → Visited → Visits
-visits_of s visited = record { found = map (found_at s) visited.witnesses; complete = visited.complete }
+-- the visited states, given their witnesses and whether these are all
+abbrev pub visits_of : State → List (List ℕ) → Bool → Visits
+visits_of s witnesses complete = record { found = map (found_at s) witnesses; complete = complete }
 
 -- the visited states of a search with a limit
 abbrev pub visited_states : ℕ → State → Visits

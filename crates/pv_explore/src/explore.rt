@@ -17,8 +17,8 @@ use pv_session::Stop;
 use pv_streams::{Failed, Sink};
 use std::alloc::Global;
 
-// Returns in words whether the search visited all states.
-fn completeness(complete: bool) -> &'static [u8]
+/// Returns in words whether a search left no state out.
+pub fn completeness(complete: bool) -> &'static [u8]
     ensures { result.now ≡ completeness_text complete }
 {
     if complete {

@@ -92,7 +92,7 @@ impl Observer for TraceLines {
 
 /// An observer of nothing.
 #[derive(Clone, Copy)]
-pub(crate) struct Unobserved;
+pub struct Unobserved;
 
 impl Observer for Unobserved {
     ghost use Rattle.pv_explore.specs.Observing.{no_text, no_text-seen};

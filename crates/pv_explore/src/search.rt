@@ -215,8 +215,12 @@ pub(crate) fn first_states<O: Observer + Drop>(
     Ok(states)
 }
 
-// Returns the tree of the first state if no process is live in it.
-fn first_endings(alloc: Global, position: &Position) -> Result<Keys, StepFault>
+/// Returns the tree of the first state if no process is live in it.
+///
+/// # Errors
+///
+/// `NoMemory`, if there is no memory.
+pub fn first_endings(alloc: Global, position: &Position) -> Result<Keys, StepFault>
     ensures { IfOk result (λ endings. endings ≡ endings_after [] position.now) }
 {
     let mut endings = Keys::new(alloc);
@@ -291,6 +295,21 @@ impl<O: Observer + Drop> Search<O> {
             endings: endings.len(),
             texts: reported,
         }
+    }
+
+    /// Returns the witnesses of the visited states, and whether no state was left out.
+    pub(crate) fn into_witnesses(self) -> (Witnesses, bool)
+        ensures witnesses { result.0 ≡ self.witnesses }
+        ensures complete { result.1 ≡ self.complete }
+    {
+        let Search {
+            states: _,
+            witnesses,
+            reported: _,
+            endings: _,
+            complete,
+        } = self;
+        (witnesses, complete)
     }
 
     // Records the result of visiting the state after a step of state `number`: if the state is new, its witness; if it

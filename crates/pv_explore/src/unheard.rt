@@ -3,7 +3,7 @@ use pv_streams::{Failed, Sink};
 
 /// A sink that discards everything. Its contract only states that it does not fail.
 #[derive(Drop)]
-pub(crate) struct Unheard;
+pub struct Unheard;
 
 impl Sink for Unheard {
     ghost use Rattle.std.specs.Prelude.{None};

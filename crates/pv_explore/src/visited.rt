@@ -1,14 +1,13 @@
 //! The states that a search visited, one at a time.
 ghost use Rattle.std.specs.Prelude.{◌≡◌, ◌≤◌, length, option_map, slice_get, IfOk};
-ghost use Rattle.pv_explore.specs.Visiting.{found_of, visited_states};
+ghost use Rattle.pv_explore.specs.Visiting.{found_of, visited_states, visits_of};
 
 use crate::checkpoints::Checkpoints;
 use crate::first_machine::FirstMachine;
 use crate::graph::search_states;
-use crate::observer::Unobserved;
 use crate::position::Position;
 use crate::progress::Progress;
-use crate::search::Search;
+use crate::witnesses::Witnesses;
 use pv_model::StepFault;
 use pv_session::Session;
 use std::alloc::Global;
@@ -27,23 +26,38 @@ pub struct VisitedState {
 /// are all.
 #[derive(Drop)]
 pub struct SearchedStates<'a> {
-    search: Search<Unobserved>,
+    // A witness for each state.
+    witnesses: Witnesses,
+    // Whether no state was left out.
+    complete: bool,
     checkpoints: Checkpoints<'a>,
 }
 
 impl<'a> Model for SearchedStates<'a> {
-    ghost use Rattle.std.specs.Prelude.{◌≡◌, length};
-    ghost use Rattle.pv_explore.specs.Searches.{visited_of};
     ghost use Rattle.pv_explore.specs.Visiting.{Visits, visits_of};
 
     ghost Value = { Visits };
 
-    ghost view = { λ v. visits_of v.checkpoints (visited_of v.search) };
-
-    ghost invariant = { λ v. length (visited_of v.search).witnesses ≡ length v.search.states };
+    ghost view = { λ v. visits_of v.checkpoints v.witnesses v.complete };
 }
 
 impl<'a> SearchedStates<'a> {
+    /// Returns the states at the ends of witnesses, given whether no state was left out.
+    pub fn new(
+        alloc: Global,
+        first_machine: &'a FirstMachine,
+        witnesses: Witnesses,
+        complete: bool,
+    ) -> SearchedStates<'a>
+        ensures { result ≡ visits_of first_machine.now witnesses complete }
+    {
+        SearchedStates {
+            witnesses,
+            complete,
+            checkpoints: Checkpoints::new(alloc, first_machine),
+        }
+    }
+
     /// Searches all schedules of a machine. The search visits at most `states` states, in breadth-first order from the
     /// first state. `progress` shows the state of the search, and ends with it, also if the search fails.
     ///
@@ -60,25 +74,22 @@ impl<'a> SearchedStates<'a> {
         ensures { IfOk result (λ visits. visits ≡ visited_states states first_machine.now) }
     {
         let search = search_states(alloc, first_machine, states, progress)?;
-        let checkpoints = Checkpoints::new(alloc, first_machine);
-        Ok(SearchedStates {
-            search,
-            checkpoints,
-        })
+        let (witnesses, complete) = search.into_witnesses();
+        Ok(SearchedStates::new(alloc, first_machine, witnesses, complete))
     }
 
     /// Returns the number of visited states.
     pub fn len(&self) -> usize
         ensures { result ≡ length self.now.found }
     {
-        self.search.states.len()
+        self.witnesses.len()
     }
 
     /// Returns whether no state was left out.
     pub fn is_complete(&self) -> bool
         ensures { result ≡ self.now.complete }
     {
-        self.search.complete
+        self.complete
     }
 
     /// Returns visited state `number`, from 0 in the order of the search, or `None` if there is no such state.
@@ -90,7 +101,7 @@ impl<'a> SearchedStates<'a> {
         ensures unchanged { self.new ≡ self.old }
         ensures at { IfOk result (λ made. option_map found_of made ≡ slice_get self.old.found number) }
     {
-        let Some(witness) = self.search.witness(alloc, number)? else {
+        let Some(witness) = self.witnesses.witness(alloc, number)? else {
             return Ok(None);
         };
         let machine = self.checkpoints.position(alloc, &witness)?;

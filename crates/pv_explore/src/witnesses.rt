@@ -62,6 +62,13 @@ impl Witnesses {
         }
     }
 
+    /// Returns the number of witnesses.
+    pub fn len(&self) -> usize
+        ensures { result ≡ length self.now }
+    {
+        self.steps.len() + 1
+    }
+
     /// Appends the witness that extends an earlier one by a step.
     ///
     /// `from` is the number of the earlier witness, from 0, and `pid` is the process that makes the step.

@@ -2,7 +2,7 @@
 use Rattle.std.specs.Prelude.{ℕ, ◌/◌, ◌%◌, Bool, ◌==◌, if◌then◌else◌, max, List, [], ◌∷◌, ◌++◌, map, flat_map, filter, fold, codes, bytes_eq, Option, None, Some}
 use Rattle.std.specs.List.{join_by, list_any, range_with_len}
 use Rattle.pv_model.specs.declared.verdict.Why.{Why}
-use Rattle.pv_model.specs.Answers.Explore.{states_line, witness_text}
+use Rattle.pv_model.specs.Answers.Explore.{witness_text}
 use Rattle.pv_model.specs.Answers.Exposure.{Located, Leak, in_ranges, is_closed_to, leaks_at, line_of, located_at, program_key, range_text}
 use Rattle.pv_model.specs.Answers.Explore.{Found}
 use Rattle.pv_model.specs.Answers.Files.{node_brief}
@@ -17,6 +17,8 @@ use Rattle.pv_model.specs.Held.{among}
 use Rattle.pv_model.specs.Sealed.{why_text}
 use Rattle.pv_model.specs.State.{Program}
 use Rattle.pv_model.specs.Tree.{Tree}
+use Rattle.pv_reduced.specs.declared.kind.SearchKind.{SearchKind}
+use Rattle.pv_reduced.specs.Kinds.{count_line}
 
 -- ---- leaks
 
@@ -122,9 +124,9 @@ module _ (t : Tree) where
   abbrev pub lines_of_exposed : Bool → ℕ × Exposed → List AnswerLine
   lines_of_exposed complete (k, e) = program_line program_of t k e.program ∷ all_recorded_lines e.recorded ++ (if complete then map safe_line e.safe else [])
 
-  -- all lines, given the number of visited states and whether the search is complete
-  abbrev pub lines_of_all : Bool → ℕ → List Exposed → List AnswerLine
-  lines_of_all complete states es = flat_map (lines_of_exposed complete) (counted_from 1 es) ++ states_line states complete ∷ []
+-- all lines, given the kind of search, the number of visited states and whether the search is complete
+abbrev pub lines_of_all : SearchKind → Tree → Bool → ℕ → List Exposed → List AnswerLine
+lines_of_all kind t complete states es = flat_map (lines_of_exposed t complete) (counted_from 1 es) ++ count_line kind states complete ∷ []
 
 -- the records of visited states
 abbrev pub exposed_of_found : List ℕ → List Exposed → List Found → List Exposed

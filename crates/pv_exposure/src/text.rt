@@ -11,8 +11,9 @@ use crate::programs::ProgramRecord;
 use crate::ranges::append_ranges;
 use crate::reasons::WhyText;
 use pv_answers::{Line, NodeBrief, Plain, append};
-use pv_explore::{Witness, ascending, greatest, write_states};
+use pv_explore::{Witness, ascending, greatest};
 use pv_programs::append_program_line;
+use pv_reduced::SearchKind;
 use pv_step_cache::tables::Keys;
 use pv_streams::Gathered;
 use pv_tree::Tree;
@@ -213,23 +214,24 @@ fn append_programs(
     Ok(())
 }
 
-/// Returns all lines, given the number of visited states and whether the search is complete.
+/// Returns all lines, given the kind of search, the number of visited states and whether the search is complete.
 ///
 /// # Errors
 ///
 /// `AllocError`, if there is no memory.
 pub(crate) fn text_of_all(
     alloc: Global,
+    kind: SearchKind,
     tree: &Tree,
     complete: bool,
     states: usize,
     programs: &[ProgramRecord],
 ) -> Result<Vec<u8>, AllocError>
-    ensures { IfOk result (λ text. text.items ≡ answer_bytes (lines_of_all tree.now.tree complete states programs.now)) }
+    ensures { IfOk result (λ text. text.items ≡ answer_bytes (lines_of_all kind tree.now.tree complete states programs.now)) }
 {
     let mut out = Gathered::new(alloc);
     append_programs(alloc, &mut out, tree, complete, programs)?;
-    match write_states(&mut out, states, complete) {
+    match kind.write_count(&mut out, states, complete) {
         Ok(()) => Ok(out.bytes),
         Err(_) => Err(AllocError),
     }

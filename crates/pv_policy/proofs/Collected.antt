@@ -22,13 +22,13 @@ use Rattle.pv_model.specs.declared.perms.Perms.{Perms}
 use Rattle.pv_model.specs.declared.promise.Promise.{Promise}
 use Rattle.pv_model.specs.declared.promise.Promise.TheVariants.{Stdio, Rpath, Wpath, Cpath, Proc, Exec, Unveil}
 use Rattle.pv_model.specs.Answers.Explain.{need_text, permissions_lacked}
-use Rattle.pv_model.specs.Answers.Explore.{by_line, done_line, is_complete, new_ones}
+use Rattle.pv_model.specs.Answers.Explore.{by_line, new_ones}
 use Rattle.pv_model.specs.Answers.Lines.{AnswerLine, answer_line, answer_bytes, answer_line_bytes, counted_from}
 use Rattle.pv_model.specs.Answers.Needs.{Judged, same_promise}
 use Rattle.pv_model.specs.Answers.Nodes.{first_of}
 use Rattle.pv_model.specs.Answers.Numbers.{Numbers}
 use Rattle.pv_model.specs.Answers.Observed.{Observation, groups, observed, with_alike}
-use Rattle.pv_model.specs.Answers.Policy.{Granted, Request, Requests, all_used, entries_held, first_need, idle_at, idle_line, idle_lines, idle_permission_line, idle_permission_lines, idle_promise_lines, is_idle, is_none_of, is_pledged_call, is_promised, is_restricted_call, joined, need_lines, needs_with, new_permissions, new_permissions_lines, permissions_text, permissions_used, policy_lines, policy_of_program, program_key, promise_lines, promises_in_use, requests, restricted, same_need, target_lines, walks_asked, with_need}
+use Rattle.pv_model.specs.Answers.Policy.{Granted, Request, Requests, all_used, entries_held, first_need, idle_at, idle_line, idle_permission_line, idle_permission_lines, idle_promise_lines, is_idle, is_none_of, is_pledged_call, is_promised, is_restricted_call, joined, need_lines, needs_with, new_permissions, new_permissions_lines, permissions_text, permissions_used, program_key, promise_lines, promises_in_use, restricted, same_need, target_lines, walks_asked, with_need}
 use Rattle.pv_model.specs.Answers.ProgramNames.{program_line}
 use Rattle.pv_model.specs.Bytes.{Bytes}
 use Rattle.pv_model.specs.Needs.{needs, needs_cpath, needs_of_mode, needs_of_open}
@@ -36,7 +36,8 @@ use Rattle.pv_model.specs.Perms.{join_permissions, no_permissions}
 use Rattle.pv_model.specs.Promise.{promise_name}
 use Rattle.pv_model.specs.Promises.{Need}
 use Rattle.pv_model.specs.Grammar.Programs.{program_of}
-use Rattle.pv_model.specs.State.{Program, State}
+use Rattle.pv_model.specs.State.{Program}
+use Rattle.pv_model.specs.Tree.{Tree}
 use Rattle.pv_policy.specs.Groups.{and_more, and_one}
 use Rattle.pv_needs.specs.Asking.{either_need, has_need, promises_of}
 use Rattle.pv_policy.specs.Usage.{Noted, UsedPromise, UsedTarget, Usage, Walked, all_used_by, and_all_granted, and_calls, and_granted, and_walks, bytes_or_none, first_bytes, granted_more, has_promise, idle_granted, idle_of, idle_promise, if_restricted, is_held, is_rpath, need_bytes, new_bytes, noted, noted_key, nothing_at, permissions_at, permissions_in, promise_bytes, promise_more, target_more, target_words, unused, unused_by, unused_promise, unused_target, usage_bytes, usage_key, usage_more, walked, walked_words, words_of}
@@ -446,11 +447,18 @@ restricted-flat f (r ∷ rs) = ap (λ gs. if_restricted f r.item ++ gs) (restric
 
 -- ---- the lines of a program
 
-module _ (limit : ℕ) (s : State) where
-  idle-lines : (program : Program) (rs : Requests) → idle_of (is_complete program_of limit s) (usage_after (unused program) rs) ≡ idle_lines program_of limit s rs
+-- the lines of a program, given the first tree and whether no state was left out
+module _ (t : Tree) (complete : Bool) where
+  abbrev idle_of_program : Requests → List AnswerLine
+  idle_of_program rs = cond complete (idle_promise_lines rs ++ idle_permission_lines (restricted rs)) []
+
+  abbrev pub lines_of_program : ℕ × (Observation Request × Requests) → List AnswerLine
+  lines_of_program (k, (first, rs)) =
+      program_line program_of t k first.item.process.program ∷ promise_lines rs ++ target_lines rs ++ idle_of_program rs
+
+  idle-lines : (program : Program) (rs : Requests) → idle_of complete (usage_after (unused program) rs) ≡ idle_of_program rs
   idle-lines program rs =
-      let u : Usage = usage_after (unused program) rs in
-      ap (λ lines. cond (is_complete program_of limit s) lines [])
+      ap (λ lines. cond complete lines [])
       (ap₂ (λ (a b : List AnswerLine). a ++ b)
       (ap (flat_map idle_promise) (promises-after (unused program) rs ∙ map-map (λ v. used_after v rs) unused_promise promises_in_use) ∙ idle-promises rs promises_in_use)
       (ap₂ (λ used granted. flat_map (idle_granted used) granted)
@@ -459,16 +467,16 @@ module _ (limit : ℕ) (s : State) where
       ∙ idle-permissions (all_used (restricted rs)) (flat_map entries_held (restricted rs))))
 
   program-bytes : (k : ℕ) (first : Observation Request) (rs : Requests)
-      → usage_bytes s.tree (is_complete program_of limit s) (k, usage_after (unused_by (noted first)) rs) ≡ answer_bytes (policy_of_program program_of limit s (k, (first, rs)))
+      → usage_bytes t complete (k, usage_after (unused_by (noted first)) rs) ≡ answer_bytes (lines_of_program (k, (first, rs)))
   program-bytes k first rs =
       let program : Program = first.item.process.program in
       let u : Usage = usage_after (unused program) rs in
-      let line : Bytes = answer_line_bytes (program_line program_of s.tree k program) in
+      let line : Bytes = answer_line_bytes (program_line program_of t k program) in
       let same : u.program ≡ program = program-after (unused program) rs in
       let promises : Bytes = flat_map promise_bytes u.promises in
       let targets : Bytes = flat_map (λ t. t.lines) u.targets in
-      let idle : Bytes = answer_bytes (idle_of (is_complete program_of limit s) u) in
-      ap (λ (p : Program). answer_line_bytes (program_line program_of s.tree k p) ++ ((promises ++ targets) ++ idle)) same
+      let idle : Bytes = answer_bytes (idle_of complete u) in
+      ap (λ (p : Program). answer_line_bytes (program_line program_of t k p) ++ ((promises ++ targets) ++ idle)) same
       ∙ ap (λ bs. line ++ bs)
       (ap₂ (λ (a b : Bytes). a ++ b)
       (ap₂ (λ (a b : Bytes). a ++ b)
@@ -476,31 +484,25 @@ module _ (limit : ℕ) (s : State) where
       (ap (flat_map (λ t. t.lines)) (targets-after (unused program) rs) ∙ all-targets (walks_asked rs))
       ∙ sym (flat_map-append answer_line_bytes (promise_lines rs) (target_lines rs)))
       (ap answer_bytes (idle-lines program rs))
-      ∙ sym (flat_map-append answer_line_bytes (promise_lines rs ++ target_lines rs) (idle_lines program_of limit s rs)))
-
-  -- the programs of a search, as they are collected
-  abbrev pub usages : List Usage
-  usages = and_calls [] (map noted (requests program_of limit s))
+      ∙ sym (flat_map-append answer_line_bytes (promise_lines rs ++ target_lines rs) (idle_of_program rs)))
 
   abbrev used_by : Observation Request × Requests → Usage
   used_by g = usage_after (unused_by (noted g.0)) g.1
 
   programs-bytes : (k : ℕ) (gs : List (Observation Request × Requests))
-      → flat_map (usage_bytes s.tree (is_complete program_of limit s)) (counted_from k (map used_by gs))
-      ≡ answer_bytes (flat_map (policy_of_program program_of limit s) (counted_from k gs))
+      → flat_map (usage_bytes t complete) (counted_from k (map used_by gs)) ≡ answer_bytes (flat_map lines_of_program (counted_from k gs))
   programs-bytes k [] = refl
   programs-bytes k (g ∷ gs) =
       ap₂ (λ (a b : Bytes). a ++ b) (program-bytes k g.0 g.1) (programs-bytes (k + 1) gs)
-      ∙ sym (flat_map-append answer_line_bytes (policy_of_program program_of limit s (k, g)) (flat_map (policy_of_program program_of limit s) (counted_from (k + 1) gs)))
+      ∙ sym (flat_map-append answer_line_bytes (lines_of_program (k, g)) (flat_map lines_of_program (counted_from (k + 1) gs)))
 
-  -- the bytes of `policy`
-  pub policy-bytes : flat_map (usage_bytes s.tree (is_complete program_of limit s)) (counted_from 1 usages) ++ answer_line_bytes (done_line program_of limit s)
-      ≡ answer_bytes (policy_lines program_of limit s)
-  unfolding policy_lines
-  policy-bytes =
-      let rs : Requests = requests program_of limit s in
-      ap (λ us. flat_map (usage_bytes s.tree (is_complete program_of limit s)) (counted_from 1 us) ++ answer_line_bytes (done_line program_of limit s))
+  -- the bytes of the programs of calls, as these are collected, and of a last line
+  pub policy-bytes : (rs : Requests) (last : AnswerLine)
+      → flat_map (usage_bytes t complete) (counted_from 1 (and_calls [] (map noted rs))) ++ answer_line_bytes last
+      ≡ answer_bytes (flat_map lines_of_program (counted_from 1 (groups program_key rs)) ++ last ∷ [])
+  policy-bytes rs last =
+      ap (λ us. flat_map (usage_bytes t complete) (counted_from 1 us) ++ answer_line_bytes last)
       (more-made noted_key usage_key unused_by usage_more noted [] rs
       ∙ rows-of-groups program_key usage_key (λ r. unused_by (noted r)) (λ u r. usage_more u (noted r)) (λ r. refl) (λ u r. refl) rs)
-      ∙ ap₂ (λ (a b : Bytes). a ++ b) (programs-bytes 1 (groups program_key rs)) (sym (append-nil (answer_line_bytes (done_line program_of limit s))))
-      ∙ sym (flat_map-append answer_line_bytes (flat_map (policy_of_program program_of limit s) (counted_from 1 (groups program_key rs))) (done_line program_of limit s ∷ []))
+      ∙ ap₂ (λ (a b : Bytes). a ++ b) (programs-bytes 1 (groups program_key rs)) (sym (append-nil (answer_line_bytes last)))
+      ∙ sym (flat_map-append answer_line_bytes (flat_map lines_of_program (counted_from 1 (groups program_key rs))) (last ∷ []))

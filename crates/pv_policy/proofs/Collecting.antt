@@ -5,12 +5,12 @@ use Rattle.std.proofs.lemmas.List.Folds.{flat_map-map}
 use Rattle.std.proofs.lemmas.List.Sums.{fold-append}
 use Rattle.pv_answers.proofs.NextOnes.{register-next}
 use Rattle.pv_explore.specs.declared.visited.VisitedState.{VisitedState}
-use Rattle.pv_explore.specs.Visiting.{Visits, found_of, visited_states}
+use Rattle.pv_explore.specs.Visiting.{Visits, found_of}
 use Rattle.pv_model.specs.declared.call.Call.{Call}
-use Rattle.pv_model.specs.Answers.Explore.{Found, Move, done_line, is_complete, move, moves_of, states_found, witness_text}
-use Rattle.pv_model.specs.Answers.Lines.{answer_bytes, answer_line, answer_line_bytes, counted_from}
-use Rattle.pv_model.specs.Answers.Observed.{observations_at, observed, of_calls, of_next, of_process}
-use Rattle.pv_model.specs.Answers.Policy.{Request, policy_lines, request, requests}
+use Rattle.pv_model.specs.Answers.Explore.{Found, Move, move, moves_of, witness_text}
+use Rattle.pv_model.specs.Answers.Lines.{AnswerLine, answer_bytes, answer_line, answer_line_bytes, counted_from}
+use Rattle.pv_model.specs.Answers.Observed.{groups, observations_at, observed, of_calls, of_next, of_process}
+use Rattle.pv_model.specs.Answers.Policy.{Request, Requests, policy_lines, program_key, request}
 use Rattle.pv_model.specs.Bytes.{Bytes}
 use Rattle.pv_model.specs.Grammar.Programs.{program_of}
 use Rattle.pv_model.specs.Held.{live_processes}
@@ -20,11 +20,15 @@ use Rattle.pv_model.specs.Tree.{Tree}
 use Rattle.pv_policy.specs.Collecting.{calls_at, calls_of, calls_of_process, visited_bytes}
 use Rattle.pv_policy.specs.Groups.{and_one}
 use Rattle.pv_policy.specs.Usage.{Noted, Usage, and_calls, noted, noted_by, noted_key, request_of, unused_by, usage_bytes, usage_key, usage_more}
-use Rattle.pv_policy.proofs.Collected.{policy-bytes}
+use Rattle.pv_policy.proofs.Collected.{lines_of_program, policy-bytes}
 use Rattle.pv_policy.proofs.Nexts.{flat-all, flat-next}
 use Rattle.pv_procs.specs.declared.processes.Fetched.{Fetched}
 use Rattle.pv_procs.specs.declared.processes.Fetched.TheVariants.{Gone, Register}
 use Rattle.pv_procs.specs.Turns.{IsFetched, RegisterNext}
+use Rattle.pv_reduced.specs.declared.kind.SearchKind.{SearchKind}
+use Rattle.pv_reduced.specs.declared.kind.SearchKind.TheVariants.{Full, Reduced}
+use Rattle.pv_reduced.specs.Kinds.{count_line, policy_lines_by, states_by}
+use Rattle.pv_laws_classes.specs.ReducedAnswers.{reduced_policy_lines}
 use Rattle.pv_laws_trees.proofs.Generic.{flat-same}
 
 module _ {X Y Z : Type 0} (f : Y → Z) (g : X → List Y) where
@@ -38,11 +42,14 @@ calls-of f =
     ∙ flat_map-map (λ (m : Move). map noted (map (observed m) (of_calls (request program_of) f.state m.pid m.stepped))) (λ p. move program_of f p.0) (live_processes f.state.processes)
     ∙ sym (flat_map-map (calls_of_process f) (λ p. p.0) (live_processes f.state.processes))
 
--- the calls of a search
-pub calls-of-search : (limit : ℕ) (s : State) → map noted (requests program_of limit s) ≡ flat_map calls_of (states_found program_of limit s)
-calls-of-search limit s =
-    map-flat noted (observations_at (of_calls (request program_of)) program_of) (states_found program_of limit s)
-    ∙ flat-same (λ f. map noted (observations_at (of_calls (request program_of)) program_of f)) calls_of calls-of (states_found program_of limit s)
+-- the calls in a list of visited states
+abbrev requests_in : List Found → Requests
+requests_in found = flat_map (observations_at (of_calls (request program_of)) program_of) found
+
+calls-of-all : (found : List Found) → map noted (requests_in found) ≡ flat_map calls_of found
+calls-of-all found =
+    map-flat noted (observations_at (of_calls (request program_of)) program_of) found
+    ∙ flat-same (λ f. map noted (observations_at (of_calls (request program_of)) program_of f)) calls_of calls-of found
 
 -- ---- the next step of a process
 
@@ -106,12 +113,32 @@ states_all old found i past = ap (and_calls old) (flat-all calls_of [] found i p
 
 -- ---- a whole search
 
+-- the lines of visited states
+abbrev lines_of_visits : SearchKind → Tree → Visits → List AnswerLine
+lines_of_visits kind t visits =
+    flat_map (lines_of_program t visits.complete) (counted_from 1 (groups program_key (requests_in visits.found)))
+    ++ count_line kind (length visits.found) visits.complete ∷ []
+
+-- the bytes collected of visited states are those of these lines
+visits-bytes : (kind : SearchKind) (t : Tree) (visits : Visits) → visited_bytes kind t visits ≡ answer_bytes (lines_of_visits kind t visits)
+visits-bytes kind t visits =
+    let last : AnswerLine = count_line kind (length visits.found) visits.complete in
+    ap (λ ns. flat_map (usage_bytes t visits.complete) (counted_from 1 (and_calls [] ns)) ++ answer_line_bytes last) (sym (calls-of-all visits.found))
+    ∙ policy-bytes t visits.complete (requests_in visits.found) last
+
+-- these are the lines of the definition, for each kind of search
+lines-by : (kind : SearchKind) (limit : ℕ) (s : State) → lines_of_visits kind s.tree (states_by kind limit s) ≡ policy_lines_by kind limit s
+unfolding policy_lines reduced_policy_lines
+lines-by Full limit s = refl
+lines-by Reduced limit s = refl
+
 -- the bytes of a search
-pub search-bytes : (limit : ℕ) (s : State) (t : Tree) (visits : Visits) → t ≡ s.tree → visits ≡ visited_states limit s → visited_bytes t visits ≡ answer_bytes (policy_lines program_of limit s)
-search-bytes limit s t visits same is =
-    (λ i. visited_bytes (same i) (is i))
-    ∙ ap (λ ns. flat_map (usage_bytes s.tree (is_complete program_of limit s)) (counted_from 1 (and_calls [] ns)) ++ answer_line_bytes (done_line program_of limit s)) (sym (calls-of-search limit s))
-    ∙ policy-bytes limit s
+pub search-bytes : (kind : SearchKind) (limit : ℕ) (s : State) (t : Tree) (visits : Visits) → t ≡ s.tree → visits ≡ states_by kind limit s
+    → visited_bytes kind t visits ≡ answer_bytes (policy_lines_by kind limit s)
+search-bytes kind limit s t visits same is =
+    visits-bytes kind t visits
+    ∙ (λ i. answer_bytes (lines_of_visits kind (same i) (is i)))
+    ∙ ap answer_bytes (lines-by kind limit s)
 
 -- ---- a visited state of the code
 

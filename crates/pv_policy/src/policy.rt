@@ -4,14 +4,14 @@ ghost use Rattle.pv_explore.specs.Visiting.{found_of};
 ghost use Rattle.pv_laws_states.specs.States.{IsValid};
 ghost use Rattle.pv_model.specs.declared.call.Call.{Call};
 ghost use Rattle.pv_model.specs.Answer.{answer};
-ghost use Rattle.pv_model.specs.Answers.Explore.{Found, is_complete, witness_text};
+ghost use Rattle.pv_model.specs.Answers.Explore.{Found, witness_text};
 ghost use Rattle.pv_model.specs.Answers.Lines.{answer_bytes, answer_line, answer_line_bytes};
-ghost use Rattle.pv_model.specs.Answers.Policy.{policy_lines};
 ghost use Rattle.pv_model.specs.Grammar.Programs.{program_of};
 ghost use Rattle.pv_model.specs.Program.{calls_for, next};
 ghost use Rattle.pv_model.specs.State.{Process, process_at};
 ghost use Rattle.pv_policy.specs.Collecting.{calls_at, calls_of, calls_of_process, visited_bytes};
 ghost use Rattle.pv_policy.specs.Usage.{and_calls};
+ghost use Rattle.pv_reduced.specs.Kinds.{is_complete_by, policy_lines_by};
 ghost use Rattle.pv_session.specs.Running.{FailsBy};
 ghost use Rattle.pv_streams.specs.Sinks.{WritesOr};
 
@@ -20,9 +20,10 @@ use crate::program_use::ProgramUse;
 use crate::walks::walks_of_call;
 use crate::writing::push_programs;
 use pv_calls_state::Parts;
-use pv_explore::{FirstMachine, Progress, SearchedStates, VisitedState, write_by, write_states};
+use pv_explore::{FirstMachine, Progress, SearchedStates, VisitedState, write_by};
 use pv_model::StepFault;
 use pv_procs::Fetched;
+use pv_reduced::SearchKind;
 use pv_script::CallTexts;
 use pv_session::Stop;
 use pv_streams::{Gathered, Sink, write_whole};
@@ -176,36 +177,37 @@ fn collect(alloc: Global, visits: &mut SearchedStates<'_>) -> Result<Vec<Program
 // Returns the lines of a search.
 fn bytes_of(
     alloc: Global,
+    kind: SearchKind,
     tree: &Tree,
     visits: &mut SearchedStates<'_>,
 ) -> Result<Vec<u8>, StepFault>
     ensures unchanged { visits.new ≡ visits.old }
-    ensures bytes { IfOk result (λ bytes. bytes.items ≡ visited_bytes tree.now.tree visits.old) }
+    ensures bytes { IfOk result (λ bytes. bytes.items ≡ visited_bytes kind tree.now.tree visits.old) }
 {
     let programs = collect(alloc, visits)?;
     let complete = visits.is_complete();
     let mut out = Gathered::new(alloc);
     push_programs(alloc, &mut out, tree, complete, &programs)?;
-    match write_states(&mut out, visits.len(), complete) {
+    match kind.write_count(&mut out, visits.len(), complete) {
         Ok(()) => Ok(out.bytes),
         Err(_) => Err(StepFault::NoMemory),
     }
 }
 
-/// Writes what each program needs of its sandbox under any schedule, and what it holds and never uses. The search visits
-/// at most `states` states, in breadth-first order from the first state of a machine. For each program of which a step
+/// Writes what each program needs of its sandbox under any schedule, and what it holds and never uses. The search, of the
+/// given kind, visits at most `states` states, in breadth-first order from the first state of a machine. For each program of which a step
 /// is a call, in the order of its first call, it writes a line PROG, and then:
 ///
 /// - PLDG, for each promise that a call needs: the promise and the line of the first such call;
 /// - UNVL, for each walk that asked for permissions at a target in words for which no earlier walk had asked: those
 ///   permissions and the target;
-/// - IDLE, only if the visited states are all: the promises that a process holds at a call other than pledge(2) and that
+/// - IDLE, only if no state was left out: the promises that a process holds at a call other than pledge(2) and that
 ///   no call needs, and the permissions that the entries of a table give at a call other than unveil(2) and that no
 ///   walk uses.
 ///
 /// Before each PLDG and UNVL line there is a BY line with a shortest witness, that is, a schedule that leads to the
-/// call. The last line, DONE, has the number of visited states, and whether these are all. Returns whether the visited
-/// states are all.
+/// call. The last line, DONE, has the number of visited states, and whether no state was left out. Returns whether no state
+/// was left out.
 ///
 /// `progress` shows the state of the search, and ends with it, also if the search fails.
 ///
@@ -215,17 +217,18 @@ fn bytes_of(
 /// - `Write`, if a write failed. The sink received a prefix of the lines.
 pub fn write_policy<W: Sink, P: Progress>(
     alloc: Global,
+    kind: SearchKind,
     first_machine: &FirstMachine,
     states: u32,
     progress: &mut P,
     out: &mut W,
 ) -> Result<bool, Stop>
     requires { 1 ≤ states }
-    ensures written { WritesOr W.Sink FailsBy (answer_bytes (policy_lines program_of states first_machine.now)) out.old out.new result }
-    ensures complete { IfOk result (λ complete. complete ≡ is_complete program_of states first_machine.now) }
+    ensures written { WritesOr W.Sink FailsBy (answer_bytes (policy_lines_by kind states first_machine.now)) out.old out.new result }
+    ensures complete { IfOk result (λ complete. complete ≡ is_complete_by kind states first_machine.now) }
 {
-    let mut visits = SearchedStates::search(alloc, first_machine, states, progress)?;
-    let lines = bytes_of(alloc, first_machine.tree(), &mut visits)?;
+    let mut visits = kind.states(alloc, first_machine, states, progress)?;
+    let lines = bytes_of(alloc, kind, first_machine.tree(), &mut visits)?;
     write_whole(out, &lines)?;
     Ok(visits.is_complete())
 }

@@ -7,12 +7,9 @@ use Rattle.pv_model.specs.declared.fault.ManifestFault.TheVariants.{Form}
 use Rattle.pv_model.specs.declared.run_fault.RunFault.{RunFault}
 use Rattle.pv_model.specs.declared.verdict.AuditFault.{AuditFault}
 use Rattle.pv_model.specs.declared.kernel_fault.BootFault.{BootFault}
-use Rattle.pv_model.specs.Answers.Access.{access_lines}
-use Rattle.pv_model.specs.Answers.Explore.{explore_lines, is_complete}
-use Rattle.pv_model.specs.Answers.Exposure.{exposure_lines}
+use Rattle.pv_model.specs.Answers.Explore.{is_complete}
 use Rattle.pv_model.specs.Answers.Graph.{graph_lines}
 use Rattle.pv_model.specs.Answers.Lines.{AnswerLine}
-use Rattle.pv_model.specs.Answers.Policy.{policy_lines}
 use Rattle.pv_model.specs.Answers.Turns.{schedule_text, turns}
 use Rattle.pv_model.specs.Bytes.{Bytes}
 use Rattle.pv_model.specs.Grammar.Lines.{lines_of}
@@ -32,8 +29,7 @@ use Rattle.pv_questions.specs.declared.question.TreeQuestion.TheVariants.{Listin
 use Rattle.pv_questions.specs.declared.question.Search.{Search}
 use Rattle.pv_questions.specs.declared.question.Search.TheVariants.{Explore, Access, Exposure, Policy, Graph}
 use Rattle.pv_questions.specs.declared.stop.AskStop.{AskStop}
-use Rattle.pv_laws_classes.specs.Reduced.{is_reduced_complete}
-use Rattle.pv_reduced.specs.Lines.{reduced_lines}
+use Rattle.pv_reduced.specs.Kinds.{access_lines_by, explore_lines_by, exposure_lines_by, is_complete_by, policy_lines_by}
 use Rattle.pv_questions.specs.declared.stop.AskStop.TheVariants.{Machine, File as NoFile}
 
 -- a manifest alone, if there is no line `schedule`
@@ -67,10 +63,10 @@ of_boot_fault fault = Machine (of_boot fault)
 
 -- the lines of a search with a limit
 abbrev pub search_lines : Search → ℕ → State → List AnswerLine
-search_lines (Explore reduced) limit s = if reduced then reduced_lines program_of limit s else explore_lines program_of limit s
-search_lines Access limit s = access_lines program_of limit s
-search_lines Exposure limit s = exposure_lines program_of limit s
-search_lines Policy limit s = policy_lines program_of limit s
+search_lines (Explore kind) limit s = explore_lines_by kind limit s
+search_lines (Access kind) limit s = access_lines_by kind limit s
+search_lines (Exposure kind) limit s = exposure_lines_by kind limit s
+search_lines (Policy kind) limit s = policy_lines_by kind limit s
 search_lines (Graph tree) limit s = graph_lines program_of limit tree s
 
 -- the answer about a tree; a schedule has at least one step in a turn, and a search visits at least one state
@@ -87,8 +83,11 @@ IsSearch question = ⊥
 
 -- a search with a limit leaves no state out
 abbrev pub search_is_complete : Search → ℕ → State → Bool
-search_is_complete (Explore true) limit s = is_reduced_complete program_of s limit
-search_is_complete search limit s = is_complete program_of limit s
+search_is_complete (Explore kind) limit s = is_complete_by kind limit s
+search_is_complete (Access kind) limit s = is_complete_by kind limit s
+search_is_complete (Exposure kind) limit s = is_complete_by kind limit s
+search_is_complete (Policy kind) limit s = is_complete_by kind limit s
+search_is_complete (Graph tree) limit s = is_complete program_of limit s
 
 -- the search of the states of a machine, if it boots, leaves no state out
 abbrev pub booted_is_complete : Search → ℕ → Result State BootFault → Bool

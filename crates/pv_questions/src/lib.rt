@@ -28,6 +28,7 @@ pub use laws::{
     images_answer_as_manifests, images_answer_as_their_manifests, manifests_stand_alone,
 };
 pub use pv_explore::{Progress, Unshown};
+pub use pv_reduced::SearchKind;
 pub use question::{Format, Question, RunQuestion, Search, TreeQuestion};
 pub use runs::{ask, ask_bundle, ask_by, ask_manifest_by, ask_manifest_run};
 pub use schedules::{is_turns, text_of_turns};

@@ -1,5 +1,7 @@
 //! Questions.
 
+use pv_reduced::SearchKind;
+
 /// A question about the run of a schedule.
 #[derive(Clone, Copy, Debug, PartialEq, Eq)]
 pub struct RunQuestion<'a> {
@@ -73,17 +75,13 @@ pub enum Format {
 #[derive(Clone, Copy, Debug, PartialEq, Eq)]
 pub enum Search {
     /// What can happen.
-    Explore {
-        /// Whether the search identifies states that are equal but for the numbers of open files and for dead variables,
-        /// and makes the steps of a process on registers together with its next other step.
-        reduced: bool,
-    },
+    Explore(SearchKind),
     /// Which process can access what.
-    Access,
+    Access(SearchKind),
     /// What an attacker gains who takes over a process, at each line of its program.
-    Exposure,
+    Exposure(SearchKind),
     /// What each program needs of its sandbox, and what it holds and never uses.
-    Policy,
+    Policy(SearchKind),
     /// The state graph.
     Graph {
         /// Whether each state is written with its tree and the permissions of its processes.

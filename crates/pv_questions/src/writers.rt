@@ -33,13 +33,12 @@ use pv_answers::{write_reach, write_reach_of, write_state};
 use pv_calls_state::Parts;
 use pv_compare::{Compared, write_compare};
 use pv_explain::{Explainer, explain_schedule};
-use pv_explore::{FirstMachine, Progress, write_explore, write_graph};
+use pv_explore::{FirstMachine, Progress, write_graph};
 use pv_exposure::write_exposure;
 use pv_listing::{ListStop, write_listing};
 use pv_model::{RunFault, Verdict};
 use pv_needs::{write_demands, write_restraints, write_turns};
 use pv_policy::write_policy;
-use pv_reduced::write_reduced;
 use pv_run::{write_report, write_verdict};
 use pv_session::{Session, Stop, run_schedule};
 use pv_streams::Sink;
@@ -278,23 +277,10 @@ fn write_search<W: Sink, P: Progress>(
     ensures complete { IfOk result (λ complete. complete ≡ search_is_complete search states first_machine.now) }
 {
     match search {
-        Search::Explore { reduced: true } => write_reduced(
-            alloc,
-            first_machine,
-            states,
-            progress,
-            out,
-        ),
-        Search::Explore { reduced: false } => write_explore(
-            alloc,
-            first_machine,
-            states,
-            progress,
-            out,
-        ),
-        Search::Access => write_access(alloc, first_machine, states, progress, out),
-        Search::Exposure => write_exposure(alloc, first_machine, states, progress, out),
-        Search::Policy => write_policy(alloc, first_machine, states, progress, out),
+        Search::Explore(kind) => kind.write_explore(alloc, first_machine, states, progress, out),
+        Search::Access(kind) => write_access(alloc, kind, first_machine, states, progress, out),
+        Search::Exposure(kind) => write_exposure(alloc, kind, first_machine, states, progress, out),
+        Search::Policy(kind) => write_policy(alloc, kind, first_machine, states, progress, out),
         Search::Graph { tree } => write_graph(alloc, first_machine, states, tree, progress, out),
     }
 }

@@ -1,6 +1,7 @@
 -- The reduced search, step by step.
-use Rattle.std.proofs.Common.{◌≡◌, ◌∙◌, sym, ap, ap₂, ℕ, suc, ◌+◌, ◌-◌, ◌<◌, ◌≤◌, Bool, true, false, if◌then◌else◌, nat_le, List, [], ◌∷◌, ◌++◌, length, drop, get_or, slice_get, slice_index, None, Some, refl, subst, add-one, arith}
+use Rattle.std.proofs.Common.{◌≡◌, ◌∙◌, sym, ap, ap₂, ℕ, suc, ◌+◌, ◌-◌, ◌<◌, ◌≤◌, Bool, true, false, if◌then◌else◌, nat_le, List, [], ◌∷◌, ◌++◌, length, drop, get_or, slice_get, slice_index, Option, None, Some, refl, subst, add-one, arith}
 use Rattle.std.specs.List.{list_any}
+use Rattle.std.specs.Prelude.{IfSome}
 use Rattle.std.proofs.lemmas.Bool.{le-leb, lt-leb}
 use Rattle.std.proofs.lemmas.List.{drop_all, length-append}
 use Rattle.std.proofs.lemmas.Option.{slice_get-get_or, slice_get_past}
@@ -18,6 +19,10 @@ use Rattle.pv_reduced.specs.Keys.{reduced_parts, same_parts}
 use Rattle.pv_reduced.specs.Plan.{Visited, and_report, and_visit, bytes_at, first_visited, is_known, reported_from, reported_steps, texts_at, visited_after, visited_after_steps, visited_at, visited_from, with_found_at, with_state_at}
 use Rattle.pv_reduced.specs.Searches.{HaveWitnesses, moving_in, witness_at}
 use Rattle.pv_session.specs.Running.{stepped}
+
+-- a machine, if there is one, is in a state that is equal to the one given
+pub if_some-at : (taken machine : Option State) {s t : State} → s ≡ t → taken ≡ machine → IfSome machine (λ (m : State). m ≡ s) → IfSome taken (λ (m : State). m ≡ t)
+if_some-at taken machine {s} {t} same is at = subst (λ (u : State). IfSome taken (λ (m : State). m ≡ u)) same (subst (λ (o : Option State). IfSome o (λ (m : State). m ≡ s)) (sym is) at)
 
 -- ---- a visited state
 

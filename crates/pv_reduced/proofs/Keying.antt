@@ -5,7 +5,7 @@ use Rattle.std.specs.FinMap.Entries.{find}
 use Rattle.std.specs.Ordering.{nat_cmp}
 use Rattle.std.proofs.lemmas.Bool.{cases_lt, ltb-false, ltb-true}
 use Rattle.std.proofs.lemmas.Grind.{flat_map-append}
-use Rattle.std.proofs.lemmas.List.{ext_get_or, get_or-set_other, get_or-set_same, length-map, length-replicate, length-set, map-append, take_all}
+use Rattle.std.proofs.lemmas.List.{ext_get_or, get_or-set_other, get_or-set_same, length-map, length-replicate, length-set, map-append, take-replicate, take_all}
 use Rattle.pv_answers.proofs.Following.{IsNextRecord, Recorded, all-after, none-after, records_after}
 use Rattle.pv_files.specs.Descriptors.{is_marked}
 use Rattle.pv_laws_classes.specs.Canonical.{canonical, index_in, no_file, references}
@@ -28,7 +28,7 @@ use Rattle.pv_reduced.specs.Keys.{files_in, files_of_processes, groups_of_nodes,
 use Rattle.pv_reduced.specs.Live.{live_line}
 use Rattle.pv_reduced.proofs.Ordering.{order-is}
 use Rattle.pv_state_encoding.specs.Groups.{counts_part, ended_parts, files_part, groups_of, numbered_parts, parts_of, record_parts, state_groups, tree_part}
-use Rattle.pv_state_encoding.specs.Packed.{IsAdded, packed_all}
+use Rattle.pv_state_encoding.specs.Packed.{IsAdded, packed, packed_all}
 use Rattle.pv_state_encoding.proofs.Adding.{added_both, added_small, added_then, packed-append}
 use Rattle.pv_state_encoding.proofs.Grouping.{added_whole}
 use Rattle.pv_state_encoding.proofs.Owned.{group_of_ended, group_of_nobody}
@@ -95,19 +95,13 @@ cleared_end program line number found registers now is long past so_far =
 
 -- ---- zeros
 
-pub zeros_next : (left less : ℕ) (now new goal : Bytes) → 0 < left → less ≡ left - 1 → new ≡ now ++ 0 ∷ [] → now ++ packed_all (replicate left 0) ≡ goal → new ++ packed_all (replicate less 0) ≡ goal
-zeros_next zero less now new goal some is added so_far = absurd (omega (arith, some))
-zeros_next (suc k) less now new goal some is added so_far =
-    let same : less ≡ k = omega (arith, is) in
-    let one : IsAdded (0 ∷ []) now new = added_small (0 ∷ []) now new refl added in
-    ap (λ j. new ++ packed_all (replicate j 0)) same
-    ∙ ap (λ (bs : Bytes). bs ++ packed_all (replicate k 0)) one.is
-    ∙ append_assoc now (packed_all (0 ∷ [])) (packed_all (replicate k 0))
-    ∙ ap (λ (bs : Bytes). now ++ bs) (sym (packed-append (0 ∷ []) (replicate k 0)))
-    ∙ so_far
+packed-zeros : (k : ℕ) → packed_all (replicate k 0) ≡ replicate k 0
+unfolding packed
+packed-zeros zero = refl
+packed-zeros (suc k) = ap (λ (bs : Bytes). 0 ∷ bs) (packed-zeros k)
 
-pub zeros_end : (left count : ℕ) (old now : Bytes) → left ≡ 0 → now ++ packed_all (replicate left 0) ≡ old ++ packed_all (replicate count 0) → IsAdded (replicate count 0) old now
-zeros_end left count old now none so_far = record { is = sym (append-nil now) ∙ ap (λ j. now ++ packed_all (replicate j 0)) (sym none) ∙ so_far }
+pub zeros_added : (count many : ℕ) (old new : Bytes) → count ≤ many → new ≡ old ++ take count (replicate many 0) → IsAdded (replicate count 0) old new
+zeros_added count many old new within added = record { is = added ∙ ap (λ (bs : Bytes). old ++ bs) (take-replicate count many 0 within ∙ sym (packed-zeros count)) }
 
 -- ---- a buffer
 

@@ -29,7 +29,7 @@ use Rattle.pv_state_encoding.proofs.Grouping.{state-joined}
 use Rattle.pv_explore.specs.Plan.{move_at, reported_after, state_at, tree_key}
 use Rattle.pv_explore.proofs.Planned.{all-last, and-with, any-map, endings-visited, false-last, items, items-step, reported-append, true-last, witness_of_found, written, written-append, written-step}
 use Rattle.pv_reduced.specs.Keys.{reduced_parts, same_parts}
-use Rattle.pv_reduced.specs.Lines.{observations_from, reduced_observations}
+use Rattle.pv_laws_classes.specs.ReducedAnswers.{reduced_observations, reduced_observations_at}
 use Rattle.pv_reduced.specs.Plan.{Visited, and_report, and_visit, first_visited, is_known, moving_at, reported_from, reported_steps, texts_at, visited_after, visited_after_steps, visited_from, with_state_at}
 
 -- ---- comparison of parts
@@ -375,14 +375,14 @@ module _ (observe : Observer Bytes) (program_of : Bytes → Option Program) (lim
 
   -- the observations of the steps from a visited state
   observed-at : (f : Found) → IsSound program_of limit s f → (bound : ℕ) → bound ≡ bound_at program_of s f
-      → observations_from observe program_of limit s f ≡ observed_steps f.witness (moving_at program_of s bound f.witness)
+      → reduced_observations_at observe program_of limit s f ≡ observed_steps f.witness (moving_at program_of s bound f.witness)
   observed-at f sound bound is =
       let of_state : State → Move → List (Observation Bytes) = λ t m. map (observed m) (observe t m.pid m.stepped) in
       ap₂ (λ (t : State) (ms : List Move). flat_map (of_state t) ms) sound (moves-at program_of limit s f sound bound is)
       ∙ map-flat (move_from program_of limit s f.witness) (of_state (state_at program_of s f.witness)) (moving_at program_of s bound f.witness)
 
   abbrev pub observed_of : List Found → List (Observation Bytes)
-  observed_of found = flat_map (observations_from observe program_of limit s) found
+  observed_of found = flat_map (reduced_observations_at observe program_of limit s) found
 
   -- ---- all states
 
@@ -447,8 +447,8 @@ module _ (observe : Observer Bytes) (program_of : Bytes → Option Program) (lim
       let before : List (Observation Bytes) = observed_of (take k found) in
       let taken : take (suc k) later ≡ take k found ++ f ∷ [] = ap (take (suc k)) more.1 ∙ take-next k found more.0 f at in
       let all : observed_of (take (suc k) later) ≡ before ++ os =
-      ap observed_of taken ∙ flat_map-append (observations_from observe program_of limit s) (take k found) (f ∷ [])
-      ∙ ap (λ (xs : List (Observation Bytes)). before ++ xs) (append-nil (observations_from observe program_of limit s f) ∙ observed-at f sound bound bound_is) in
+      ap observed_of taken ∙ flat_map-append (reduced_observations_at observe program_of limit s) (take k found) (f ∷ [])
+      ∙ ap (λ (xs : List (Observation Bytes)). before ++ xs) (append-nil (reduced_observations_at observe program_of limit s f) ∙ observed-at f sound bound bound_is) in
       let following : Underway (suc k) later (made ++ ms) after = record {
         keeps = steps.keeps;
         sound = sound-found program_of limit s ms found (sound-steps program_of limit s f.witness pids) it.sound;

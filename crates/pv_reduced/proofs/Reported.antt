@@ -2,16 +2,19 @@
 use Rattle.std.proofs.Common.{◌≡◌, ◌∙◌, sym, ap, ap₂, ℕ, ◌≤◌, Bool, List, [], ◌∷◌, ◌++◌, length, map, flat_map, refl}
 use Rattle.std.proofs.lemmas.Grind.{flat_map-append}
 use Rattle.std.proofs.lemmas.List.{length-map, map-append}
-use Rattle.pv_reduced.specs.Lines.{observations_from, observed_bytes, reduced_lines, reduced_observations, result_lines}
+use Rattle.pv_reduced.specs.Lines.{IsReducedSearched, observed_bytes, reduced_states}
 use Rattle.pv_reduced.specs.Plan.{Visited}
-use Rattle.pv_reduced.specs.Searches.{IsReducedSearched, all_reported, all_visited}
-use Rattle.pv_reduced.proofs.Planned.{Keeps, plan-finds}
-use Rattle.pv_explore.specs.Observing.{trace_text}
+use Rattle.pv_reduced.specs.Searches.{all_reported, all_visited}
+use Rattle.pv_reduced.proofs.Planned.{Finds, plan-finds}
+use Rattle.pv_explore.specs.Observing.{no_text, trace_text}
 use Rattle.pv_explore.specs.Plan.{tree_key}
+use Rattle.pv_explore.specs.Visiting.{found_at, visits_of}
 use Rattle.pv_explore.proofs.Planned.{written}
 use Rattle.pv_explore.proofs.Reported.{HaveEmpty, explored, text_observed, written-first}
-use Rattle.pv_laws_classes.specs.Reduced.{is_reduced_complete, reduced_found, reduced_moves, reduced_moves_of, reduced_reported}
-use Rattle.pv_model.specs.Answers.Explore.{Found, Move, endings, move_lines}
+use Rattle.pv_explore.proofs.Visiting.{states-at}
+use Rattle.pv_laws_classes.specs.Reduced.{reduced_found, reduced_moves, reduced_moves_of, reduced_reported}
+use Rattle.pv_laws_classes.specs.ReducedAnswers.{classes_done_line, classes_line, reduced_lines, reduced_observations, reduced_observations_at}
+use Rattle.pv_model.specs.Answers.Explore.{Found, Move, endings, endings_line, move_lines}
 use Rattle.pv_model.specs.Answers.Lines.{AnswerLine, answer_bytes, answer_line_bytes}
 use Rattle.pv_model.specs.Answers.Observed.{Observation, Observer, observed}
 use Rattle.pv_model.specs.Bytes.{Bytes}
@@ -31,15 +34,25 @@ module _ (limit : ℕ) (s : State) where
     pub reported-bytes : 1 ≤ limit → all_reported observe limit s ≡ observed_bytes observe limit s
     reported-bytes some = (plan-finds observe program_of limit s some).bytes_are ∙ bytes-observed
 
-    pub is-searched : (visited : Visited) → 1 ≤ limit → visited ≡ all_visited observe limit s → (classes : ℕ) (complete : Bool) (ends : ℕ) → classes ≡ length visited.keys
-        → complete ≡ visited.complete → ends ≡ length visited.endings → IsReducedSearched limit s classes complete ends
-    is-searched visited some is classes complete ends classes_are complete_is ends_are =
-        let keeps : Keeps program_of limit s (reduced_found program_of s limit) (reduced_moves program_of s limit) (all_visited observe limit s) = (plan-finds observe program_of limit s some).keeps in
+    pub is-searched : (visited : Visited) → 1 ≤ limit → visited ≡ all_visited observe limit s → (states : ℕ) (complete : Bool) (ends : ℕ) (texts : List Bytes) → states ≡ length visited.keys
+        → complete ≡ visited.complete → ends ≡ length visited.endings → texts ≡ visited.reported → IsReducedSearched observe limit s states complete ends texts
+    is-searched visited some is states complete ends texts states_are complete_is ends_are texts_are =
+        let it : Finds observe program_of limit s (all_reported observe limit s) (all_visited observe limit s) = plan-finds observe program_of limit s some in
         record {
-          classes_are = classes_are ∙ ap (λ (v : Visited). length v.keys) is ∙ ap length keeps.keys ∙ length-map (reduced_found program_of s limit) _;
-          complete_is = complete_is ∙ ap (λ (v : Visited). v.complete) is ∙ keeps.complete;
-          endings_are = ends_are ∙ ap (λ (v : Visited). length v.endings) is ∙ ap length keeps.endings ∙ length-map (endings (reduced_found program_of s limit)) tree_key;
+          states_are = states_are ∙ ap (λ (v : Visited). length v.keys) is ∙ ap length it.keeps.keys ∙ length-map (reduced_found program_of s limit) _;
+          complete_is = complete_is ∙ ap (λ (v : Visited). v.complete) is ∙ it.keeps.complete;
+          endings_are = ends_are ∙ ap (λ (v : Visited). length v.endings) is ∙ ap length it.keeps.endings ∙ length-map (endings (reduced_found program_of s limit)) tree_key;
+          texts_are = texts_are ∙ ap (λ (v : Visited). v.reported) is ∙ it.reported_are ∙ (written-first [] [] (λ t. refl) (reduced_observations observe program_of limit s)).1;
         }
+
+  -- the visited states
+  pub states-are : (visited : Visited) → 1 ≤ limit → visited ≡ all_visited no_text limit s → visits_of s visited.witnesses visited.complete ≡ reduced_states limit s
+  states-are visited some is =
+      let it : Finds no_text program_of limit s (all_reported no_text limit s) (all_visited no_text limit s) = plan-finds no_text program_of limit s some in
+      let found : map (found_at s) visited.witnesses ≡ reduced_found program_of s limit =
+      ap (λ (v : Visited). map (found_at s) v.witnesses) is ∙ ap (map (found_at s)) it.keeps.witnesses ∙ states-at s (reduced_found program_of s limit) it.sound in
+      let complete = ap (λ (v : Visited). v.complete) is ∙ it.keeps.complete in
+      λ i. record { found = found i; complete = complete i }
 
   -- ---- the bytes of `explore`
 
@@ -48,7 +61,7 @@ module _ (limit : ℕ) (s : State) where
   one-each (m ∷ ms) = ap (λ os. text_observed m ∷ os) (one-each ms)
 
   -- the texts that are observed are those of the steps
-  all-moves : (found : List Found) → flat_map (observations_from trace_text program_of limit s) found ≡ map text_observed (flat_map (reduced_moves_of program_of s) found)
+  all-moves : (found : List Found) → flat_map (reduced_observations_at trace_text program_of limit s) found ≡ map text_observed (flat_map (reduced_moves_of program_of s) found)
   all-moves [] = refl
   all-moves (f ∷ found) =
       ap₂ (λ (a b : List (Observation Bytes)). a ++ b) (one-each (reduced_moves_of program_of s f)) (all-moves found)
@@ -56,7 +69,7 @@ module _ (limit : ℕ) (s : State) where
 
   -- the bytes of the trace lines and of the last lines are those of `explore`
   abbrev pub last_lines : List AnswerLine
-  last_lines = result_lines (length (reduced_found program_of s limit)) (is_reduced_complete program_of s limit) (length (endings (reduced_found program_of s limit)))
+  last_lines = classes_done_line program_of limit s ∷ endings_line (length (endings (reduced_found program_of s limit))) ∷ []
 
   pub explore-bytes : observed_bytes trace_text limit s ++ answer_bytes last_lines ≡ answer_bytes (reduced_lines program_of limit s)
   unfolding reduced_lines
@@ -69,5 +82,6 @@ module _ (limit : ℕ) (s : State) where
       empty [] = refl
       empty (b ∷ bs) = refl
 
-  pub last-bytes : (classes : ℕ) (complete : Bool) (ends : ℕ) → IsReducedSearched limit s classes complete ends → answer_bytes (result_lines classes complete ends) ≡ answer_bytes last_lines
-  last-bytes classes complete ends it = λ i. answer_bytes (result_lines (it.classes_are i) (it.complete_is i) (it.endings_are i))
+  pub last-bytes : (observe : Observer Bytes) (states : ℕ) (complete : Bool) (ends : ℕ) (texts : List Bytes) → IsReducedSearched observe limit s states complete ends texts
+      → answer_bytes (classes_line states complete ∷ endings_line ends ∷ []) ≡ answer_bytes last_lines
+  last-bytes observe states complete ends texts it = λ i. answer_bytes (classes_line (it.states_are i) (it.complete_is i) ∷ endings_line (it.endings_are i) ∷ [])

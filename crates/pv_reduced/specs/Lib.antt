@@ -4,3 +4,4 @@ pub mod Lists
 pub mod Plan
 pub mod Searches
 pub mod Lines
+pub mod Kinds

@@ -1,38 +1,32 @@
--- The text of `explore` by the reduced search.
-use Rattle.std.specs.Prelude.{ℕ, Bool, List, [], ◌∷◌, ◌++◌, flat_map, length, codes, map, Option}
-use Rattle.std.specs.Fmt.{decimal}
+-- What a reduced search with an observer writes, and its result.
+use Rattle.std.specs.Prelude.{◌≡◌, ℕ, Bool, List, length, map, flat_map}
 use Rattle.pv_explore.specs.Observing.{observation_bytes}
-use Rattle.pv_laws_classes.specs.Reduced.{is_reduced_complete, reduced_found, reduced_moves_of, reduced_reported}
-use Rattle.pv_model.specs.Answers.Explore.{Found, completeness_text, endings, endings_line, move_lines}
-use Rattle.pv_model.specs.Answers.Lines.{AnswerLine, answer_line}
-use Rattle.pv_model.specs.Answers.Observed.{Observation, Observer, first_observations, observed}
+use Rattle.pv_explore.specs.Visiting.{Visits}
+use Rattle.pv_laws_classes.specs.Reduced.{is_reduced_complete, reduced_found}
+use Rattle.pv_laws_classes.specs.ReducedAnswers.{reduced_observations}
+use Rattle.pv_model.specs.Answers.Explore.{endings}
+use Rattle.pv_model.specs.Answers.Observed.{Observation, Observer, first_observations}
 use Rattle.pv_model.specs.Bytes.{Bytes}
-use Rattle.pv_model.specs.Grammar.Programs.{program_of as parsed_program}
-use Rattle.pv_model.specs.State.{Program, State}
+use Rattle.pv_model.specs.Grammar.Programs.{program_of}
+use Rattle.pv_model.specs.State.{State}
 
--- the number of visited states, and whether no state was left out
-abbrev pub classes_line : ℕ → Bool → AnswerLine
-classes_line count complete = answer_line 0 (codes "DONE") (decimal count ++ codes " classes, " ++ completeness_text complete)
+module _ (observe : Observer Bytes) (limit : ℕ) (s : State) where
+  -- the texts that no earlier step has, each with its step
+  abbrev pub first_texts : List (Observation Bytes)
+  first_texts = first_observations (λ t. t) (reduced_observations observe program_of limit s)
 
--- the last lines of an answer
-abbrev pub result_lines : ℕ → Bool → ℕ → List AnswerLine
-result_lines classes complete ends = classes_line classes complete ∷ endings_line ends ∷ []
+  -- what a search writes
+  unfoldable pub observed_bytes : Bytes
+  observed_bytes = flat_map observation_bytes first_texts
 
--- the text of `explore` by the reduced search
-unfoldable pub reduced_lines : (Bytes → Option Program) → ℕ → State → List AnswerLine
-reduced_lines program_of limit s =
-    flat_map move_lines (reduced_reported program_of s limit)
-    ++ result_lines (length (reduced_found program_of s limit)) (is_reduced_complete program_of s limit) (length (endings (reduced_found program_of s limit)))
+  -- the result of a search: the number of visited states, whether no state was left out, the number of different trees at
+  -- the ends of schedules, and the texts recorded
+  pub record IsReducedSearched (states : ℕ) (complete : Bool) (endings_found : ℕ) (texts : List Bytes) : Type 0 where
+    pub states_are : states ≡ length (reduced_found program_of s limit)
+    pub complete_is : complete ≡ is_reduced_complete program_of s limit
+    pub endings_are : endings_found ≡ length (endings (reduced_found program_of s limit))
+    pub texts_are : texts ≡ map (λ o. o.item) first_texts
 
-module _ (observe : Observer Bytes) (program_of : Bytes → Option Program) (limit : ℕ) (s : State) where
-  -- the items that are observed of the steps from a visited state
-  abbrev pub observations_from : Found → List (Observation Bytes)
-  observations_from f = flat_map (λ m. map (observed m) (observe f.state m.pid m.stepped)) (reduced_moves_of program_of s f)
-
-  -- the items that are observed of all steps, in the order of the search
-  abbrev pub reduced_observations : List (Observation Bytes)
-  reduced_observations = flat_map observations_from (reduced_found program_of s limit)
-
--- what a search with an observer writes
-unfoldable pub observed_bytes : Observer Bytes → ℕ → State → Bytes
-observed_bytes observe limit s = flat_map observation_bytes (first_observations (λ t. t) (reduced_observations observe parsed_program limit s))
+-- the visited states of a reduced search with a limit
+abbrev pub reduced_states : ℕ → State → Visits
+reduced_states limit s = record { found = reduced_found program_of s limit; complete = is_reduced_complete program_of s limit }

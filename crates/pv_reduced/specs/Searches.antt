@@ -1,10 +1,8 @@
 -- The data of a reduced search.
-use Rattle.std.specs.Prelude.{◌≡◌, ℕ, Bool, List, [], get_or, length, slice_index}
+use Rattle.std.specs.Prelude.{◌≡◌, ℕ, List, [], get_or, length, slice_index}
 use Rattle.pv_reduced.specs.declared.search.ReducedSearch.{ReducedSearch}
 use Rattle.pv_reduced.specs.Plan.{Visited, bytes_at, first_visited, moving_at, reported_from, reported_steps, visited_after_steps, visited_at, visited_from}
 use Rattle.pv_explore.specs.Plan.{state_at}
-use Rattle.pv_laws_classes.specs.Reduced.{is_reduced_complete, reduced_found}
-use Rattle.pv_model.specs.Answers.Explore.{endings}
 use Rattle.pv_model.specs.Answers.Observed.{Observer}
 use Rattle.pv_model.specs.Bytes.{Bytes}
 use Rattle.pv_model.specs.Grammar.Programs.{program_of}
@@ -17,13 +15,6 @@ visited_of s = record { bounds = s.bounds.items; keys = s.lists; witnesses = s.w
 pub record HaveWitnesses (visited : Visited) : Type 0 where
   pub witnesses : length visited.keys ≡ length visited.witnesses
   pub bounds : length visited.keys ≡ length visited.bounds
-
--- the result of a search: the number of visited states, whether no state was left out, and the number of different trees
--- at ends
-pub record IsReducedSearched (limit : ℕ) (s : State) (classes : ℕ) (complete : Bool) (ends : ℕ) : Type 0 where
-  pub classes_are : classes ≡ length (reduced_found program_of s limit)
-  pub complete_is : complete ≡ is_reduced_complete program_of s limit
-  pub endings_are : ends ≡ length (endings (reduced_found program_of s limit))
 
 abbrev pub witness_at : Visited → ℕ → List ℕ
 witness_at visited number = get_or visited.witnesses number []

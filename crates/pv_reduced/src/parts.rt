@@ -1,6 +1,6 @@
 //! The encoding of the representative of a state: dead variables are zero, and the open files have the numbers 0, 1, 2 ..
 //! in the order of their first reference.
-ghost use Rattle.std.specs.Prelude.{ℕ, pos, false, ◌≡◌, ◌<◌, if◌then◌else◌, ◌∷◌, ◌++◌, [], flat_map, option_map, replicate, length, slice_index_or, IsSome, Some, IfOk, OnOk};
+ghost use Rattle.std.specs.Prelude.{ℕ, pos, false, ◌≡◌, ◌<◌, ◌≤◌, if◌then◌else◌, ◌∷◌, ◌++◌, [], flat_map, option_map, replicate, length, slice_index_or, IsSome, Some, IfOk, OnOk};
 ghost use Rattle.std.specs.FinMap.Entries.{find};
 ghost use Rattle.std.specs.Ordering.{nat_cmp};
 ghost use Rattle.pv_laws_classes.specs.Canonical.{index_in};
@@ -55,15 +55,14 @@ fn live_registers(registers: &[i32; REGISTERS], live: LiveLine) -> [i32; REGISTE
     cleared
 }
 
-// Appends zeros.
+// Appends zeros, at most as many as a buffer has bytes.
+#[tactic(auto, using(crate::proofs::Keying::zeros_added))]
 fn push_zeros(part: &mut Vec<u8>, count: usize) -> Result<(), AllocError>
+    requires { count ≤ BUFFER }
     ensures { OnOk result (IsAdded (replicate count 0) part.old.items part.new.items) }
 {
-    let mut left = count;
-    while left > 0 {
-        part.push(0)?;
-        left -= 1;
-    }
+    let zeros = [0; BUFFER];
+    part.extend_from_slice(&zeros[..count])?;
     Ok(())
 }
 

@@ -1,13 +1,13 @@
 //! The reduced search.
-ghost use Rattle.std.specs.Prelude.{◌≡◌, ◌<◌, ◌++◌, ◌∷◌, [], true, filter, length, IfOk, OnOk};
+ghost use Rattle.std.specs.Prelude.{◌≡◌, ◌<◌, ◌++◌, ◌∷◌, [], true, filter, length, IfOk, IfSome, OnOk};
 ghost use Rattle.pv_reduced.specs.Keys.{reduced_parts};
 ghost use Rattle.pv_reduced.specs.Plan.{first_visited, reported_from, visited_from, with_found_at};
 ghost use Rattle.pv_reduced.specs.Searches.{HasMoved, HasMovedAll, HaveWitnesses, moving_of, state_of, text_of_move, text_of_moves, visited_of};
-ghost use Rattle.pv_explore.specs.Plan.{endings_after};
 ghost use Rattle.pv_explore.specs.Rows.{parts_in};
 ghost use Rattle.pv_explore.specs.Witnesses.{longer};
 ghost use Rattle.pv_laws_classes.specs.Reduced.{bound_by, may_step};
 ghost use Rattle.pv_model.specs.Grammar.Programs.{program_of};
+ghost use Rattle.pv_model.specs.State.{State};
 ghost use Rattle.pv_session.specs.Running.{FailsBy};
 ghost use Rattle.pv_streams.specs.Sinks.{WritesOr};
 
@@ -16,8 +16,8 @@ use crate::part_lists::{Addition, PartLists};
 use crate::parts::reduced_parts;
 use pv_calls_state::Parts;
 use pv_explore::{
-    Checkpoints, FirstMachine, ObservedStep, Observer, Position, Progress, Witnesses, add_ending,
-    report,
+    Checkpoints, FirstMachine, ObservedStep, Observer, Position, Progress, Searched, Witnesses,
+    add_ending, first_endings, report,
 };
 use pv_model::StepFault;
 use pv_procs::Fetched;
@@ -35,16 +35,16 @@ pub(crate) struct ReducedSearch<O: Observer + Drop> {
     tables: LiveTables,
     // For each visited state the process that must make the next step, or 0.
     bounds: Vec<u32>,
-    /// The parts of each visited state, in the order in which the states were visited.
-    pub(crate) lists: PartLists,
+    // The parts of each visited state, in the order in which the states were visited.
+    lists: PartLists,
     // A witness for each state.
     witnesses: Witnesses,
     // The texts observed, in the order in which they were.
     reported: Keys,
-    /// The encodings of the trees in which no process is live.
-    pub(crate) endings: Keys,
-    /// Whether no state was left out.
-    pub(crate) complete: bool,
+    // The encodings of the trees in which no process is live.
+    endings: Keys,
+    // Whether no state was left out.
+    complete: bool,
 }
 
 // ---- steps on registers
@@ -134,15 +134,6 @@ fn first_bounds(alloc: Global) -> Result<Vec<u32>, StepFault>
     Ok(bounds)
 }
 
-// Returns the tree of the first state if no process is live in it.
-fn first_endings(alloc: Global, position: &Position) -> Result<Keys, StepFault>
-    ensures { IfOk result (λ endings. endings ≡ endings_after [] position.now) }
-{
-    let mut endings = Keys::new(alloc);
-    add_ending(alloc, &mut endings, position)?;
-    Ok(endings)
-}
-
 impl<O: Observer + Drop> ReducedSearch<O> {
     /// Returns the data with the first state of a machine alone.
     ///
@@ -171,6 +162,49 @@ impl<O: Observer + Drop> ReducedSearch<O> {
             endings,
             complete: true,
         })
+    }
+
+    /// Returns the result of the search.
+    pub(crate) fn end(self) -> Searched
+        ensures states { result.states ≡ length (visited_of self).keys }
+        ensures complete { result.complete ≡ (visited_of self).complete }
+        ensures endings { result.endings ≡ length (visited_of self).endings }
+        ensures texts { result.texts ≡ (visited_of self).reported }
+    {
+        let ReducedSearch {
+            observer: _,
+            tables: _,
+            bounds: _,
+            lists,
+            witnesses: _,
+            reported,
+            endings,
+            complete,
+        } = self;
+        Searched {
+            states: lists.len(),
+            complete,
+            endings: endings.len(),
+            texts: reported,
+        }
+    }
+
+    /// Returns the witnesses of the visited states, and whether no state was left out.
+    pub(crate) fn into_witnesses(self) -> (Witnesses, bool)
+        ensures witnesses { result.0 ≡ (visited_of self).witnesses }
+        ensures complete { result.1 ≡ (visited_of self).complete }
+    {
+        let ReducedSearch {
+            observer: _,
+            tables: _,
+            bounds: _,
+            lists: _,
+            witnesses,
+            reported: _,
+            endings: _,
+            complete,
+        } = self;
+        (witnesses, complete)
     }
 
     // Visits the state of a machine after a step of state `number`, given the process that must make the next step, or
@@ -219,22 +253,24 @@ impl<O: Observer + Drop> ReducedSearch<O> {
         checkpoints.position(alloc, &witness)
     }
 
-    // Makes a step of a process in state `number`. Writes its texts if they are new, and visits the state after it.
+    // Makes a step of a process with a machine in state `number`. Writes its texts if they are new, and visits the state
+    // after it.
     fn make_move<W: Sink>(
         &mut self,
         alloc: Global,
         checkpoints: &mut Checkpoints<'_>,
         limit: u32,
         number: u32,
+        from: Position,
         pid: u32,
         out: &mut W,
     ) -> Result<(), Stop>
-        requires { number < length (visited_of self.old).witnesses }
+        requires found { number < length (visited_of self.old).witnesses }
+        requires at { from ≡ state_of checkpoints.old self.old number }
         ensures unchanged { checkpoints.new ≡ checkpoints.old }
         ensures visited { OnOk result (HasMoved O.observe limit checkpoints.old number pid self.old self.new) }
         ensures written { WritesOr W.Sink FailsBy (text_of_move O.observe limit checkpoints.old number pid self.old) out.old out.new result }
     {
-        let from = self.position(alloc, checkpoints, number)?;
         let bound = bound_by(from.parts(), pid);
         let ObservedStep {
             position,
@@ -255,22 +291,33 @@ impl<O: Observer + Drop> ReducedSearch<O> {
         Ok(())
     }
 
-    // Returns the processes that make a step in state `number`.
-    fn moving(
+    // Returns the processes that make a step in state `number`, given a machine in this state.
+    fn moving(&self, alloc: Global, machine: &Position, number: u32) -> Result<Vec<u32>, StepFault>
+        requires found { number < length (visited_of self.now).witnesses }
+        requires bounds { HaveWitnesses (visited_of self.now) }
+        ensures { IfOk result (λ pids. (s : State) → machine.now ≡ state_of s self.now number → pids.items ≡ moving_of s self.now number) }
+    {
+        let pids = machine.live(alloc)?;
+        Ok(those_moving(alloc, self.bounds[number as usize], &pids)?)
+    }
+
+    // Returns a machine in state `number`: the one given, if there is one.
+    fn position_or(
         &self,
         alloc: Global,
         checkpoints: &mut Checkpoints<'_>,
         number: u32,
-    ) -> Result<Vec<u32>, StepFault>
+        machine: Option<Position>,
+    ) -> Result<Position, StepFault>
         requires found { number < length (visited_of self.now).witnesses }
-        requires bounds { HaveWitnesses (visited_of self.now) }
+        requires at { IfSome machine (λ m. m ≡ state_of checkpoints.old self.now number) }
         ensures unchanged { checkpoints.new ≡ checkpoints.old }
-        ensures moving { IfOk result (λ pids. pids.items ≡ moving_of checkpoints.old self.now number) }
+        ensures at { IfOk result (λ position. position ≡ state_of checkpoints.old self.now number) }
     {
-        let machine = self.position(alloc, checkpoints, number)?;
-        let pids = machine.live(alloc)?;
-        checkpoints.release(machine);
-        Ok(those_moving(alloc, self.bounds[number as usize], &pids)?)
+        match machine {
+            Some(machine) => Ok(machine),
+            None => self.position(alloc, checkpoints, number),
+        }
     }
 
     // Makes a step of each process that may in state `number`.
@@ -288,10 +335,13 @@ impl<O: Observer + Drop> ReducedSearch<O> {
         ensures visited { OnOk result (HasMovedAll O.observe limit checkpoints.old number self.old self.new) }
         ensures written { WritesOr W.Sink FailsBy (text_of_moves O.observe limit checkpoints.old number self.old) out.old out.new result }
     {
-        let pids = self.moving(alloc, checkpoints, number)?;
+        let machine = self.position(alloc, checkpoints, number)?;
+        let pids = self.moving(alloc, &machine, number)?;
+        let mut machine = Some(machine);
         let moving = pids.as_slice();
         for pid in moving {
-            self.make_move(alloc, checkpoints, limit, number, *pid, out)?;
+            let from = self.position_or(alloc, checkpoints, number, machine.take())?;
+            self.make_move(alloc, checkpoints, limit, number, from, *pid, out)?;
         }
         Ok(())
     }

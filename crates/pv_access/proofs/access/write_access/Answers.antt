@@ -1,25 +1,28 @@
 use Rattle.pv_answers.proofs.Writing.{or_as, or_longer}
 use Rattle.pv_explain.proofs.Stops.{still_ok, stopped, then_stops}
-use Rattle.pv_access.proofs.Written.{access-bytes, last-bytes}
+use Rattle.pv_access.proofs.Written.{access-bytes, complete-found, last-bytes}
 use Rattle.pv_access.proofs.access.write_access.Goals as goal
 
 pub returns-in_err-searched-clause-written : goal.returns-in_err-searched-clause-written
-returns-in_err-searched-clause-written g c = stopped c.from_residual.ensures.1 (or_as (access-bytes c.args.states c.args.first_machine.now) (or_longer _ c.in_err-searched.ensures.written))
+returns-in_err-searched-clause-written g c =
+    stopped c.from_residual.ensures.1 (or_as (access-bytes c.args.states c.args.first_machine.now c.args.kind) (or_longer _ c.in_err-searched.ensures.written))
 
 pub returns-in_err-write_last-clause-written : goal.returns-in_err-write_last-clause-written
 returns-in_err-write_last-clause-written g c =
     let s = c.args.first_machine.now in
     let r = c.in_ok-searched.searched in
-    let last = last-bytes c.args.states s c.tree.result.now.tree r.states r.complete r.endings r.texts c.tree.ensures c.in_ok-searched.ensures.found in
+    let last = last-bytes c.args.states s c.args.kind c.tree.result.now.tree r.states r.complete r.endings r.texts c.tree.ensures c.in_ok-searched.ensures.found in
     stopped c.from_residual-in_err-write_last.ensures.1
-    (or_as (access-bytes c.args.states s) (then_stops c.in_ok-searched.ensures.written (or_as last c.in_err-write_last.ensures)))
+    (or_as (access-bytes c.args.states s c.args.kind) (then_stops c.in_ok-searched.ensures.written (or_as last c.in_err-write_last.ensures)))
 
 pub returns-clause-written : goal.returns-clause-written
 returns-clause-written g c =
     let s = c.args.first_machine.now in
     let r = c.in_ok-searched.searched in
-    let last = last-bytes c.args.states s c.tree.result.now.tree r.states r.complete r.endings r.texts c.tree.ensures c.in_ok-searched.ensures.found in
-    still_ok (or_as (access-bytes c.args.states s) (then_stops c.in_ok-searched.ensures.written (or_as last c.in_ok-write_last.ensures)))
+    let last = last-bytes c.args.states s c.args.kind c.tree.result.now.tree r.states r.complete r.endings r.texts c.tree.ensures c.in_ok-searched.ensures.found in
+    still_ok (or_as (access-bytes c.args.states s c.args.kind) (then_stops c.in_ok-searched.ensures.written (or_as last c.in_ok-write_last.ensures)))
 
 pub returns-clause-complete : goal.returns-clause-complete
-returns-clause-complete g c = c.in_ok-searched.ensures.found.complete_is
+returns-clause-complete g c =
+    let r = c.in_ok-searched.searched in
+    complete-found c.args.states c.args.first_machine.now c.args.kind r.states r.complete r.endings r.texts c.in_ok-searched.ensures.found

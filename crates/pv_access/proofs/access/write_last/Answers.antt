@@ -3,8 +3,8 @@ use Rattle.std.proofs.lemmas.Grind.{flat_map-append}
 use Rattle.pv_answers.proofs.Writing.{or_as, or_longer, or_ok, writes_as}
 use Rattle.pv_explain.proofs.Stops.{stopped, then_writes, unwritten}
 use Rattle.pv_access.specs.Unread.{unread_lines}
-use Rattle.pv_model.specs.Answers.Explore.{states_line}
 use Rattle.pv_model.specs.Answers.Lines.{AnswerLine, answer_bytes, answer_line_bytes}
+use Rattle.pv_reduced.specs.Kinds.{count_line}
 use Rattle.pv_access.proofs.access.write_last.Goals as goal
 
 -- the bytes of all lines are those of the unread files, followed by those of the last line
@@ -14,18 +14,19 @@ in-two unread last = sym (flat_map-append answer_line_bytes unread (last ∷ [])
 pub returns-in_err-write_unread : goal.returns-in_err-write_unread
 returns-in_err-write_unread g c =
     let r = c.args.searched.now in
-    stopped c.from_residual.ensures.1 (or_as (in-two (unread_lines c.args.tree.now.tree r.texts r.complete) (states_line r.states r.complete)) (or_longer _ c.in_err-write_unread.ensures))
+    stopped c.from_residual.ensures.1
+    (or_as (in-two (unread_lines c.args.tree.now.tree r.texts r.complete) (count_line c.args.kind r.states r.complete)) (or_longer _ c.in_err-write_unread.ensures))
 
-pub returns-in_err-write_states : goal.returns-in_err-write_states
-returns-in_err-write_states g c =
+pub returns-in_err-write_count : goal.returns-in_err-write_count
+returns-in_err-write_count g c =
     let r = c.args.searched.now in
-    unwritten c.from_residual-in_err-write_states.ensures.1
-    (writes_as (in-two (unread_lines c.args.tree.now.tree r.texts r.complete) (states_line r.states r.complete))
-    (then_writes c.in_ok-write_unread.ensures (writes_as (sym (append-nil _)) c.in_err-write_states.ensures)))
+    unwritten c.from_residual-in_err-write_count.ensures.1
+    (writes_as (in-two (unread_lines c.args.tree.now.tree r.texts r.complete) (count_line c.args.kind r.states r.complete))
+    (then_writes c.in_ok-write_unread.ensures (writes_as (sym (append-nil _)) c.in_err-write_count.ensures)))
 
 pub returns : goal.returns
 returns g c =
     let r = c.args.searched.now in
     or_ok
-    (writes_as (in-two (unread_lines c.args.tree.now.tree r.texts r.complete) (states_line r.states r.complete))
-    (then_writes c.in_ok-write_unread.ensures (writes_as (sym (append-nil _)) c.in_ok-write_states.ensures)))
+    (writes_as (in-two (unread_lines c.args.tree.now.tree r.texts r.complete) (count_line c.args.kind r.states r.complete))
+    (then_writes c.in_ok-write_unread.ensures (writes_as (sym (append-nil _)) c.in_ok-write_count.ensures)))

@@ -1,25 +1,26 @@
 use Rattle.pv_answers.proofs.Writing.{or_as, or_longer, or_ok, writes_as}
+use Rattle.pv_explore.specs.Observing.{trace_text}
 use Rattle.pv_reduced.proofs.Reported.{explore-bytes, last-bytes}
 use Rattle.pv_explain.proofs.Stops.{stopped, then_writes, unwritten}
 use Rattle.pv_reduced.proofs.explore.write_reduced.Goals as goal
 
-pub returns-in_err-found-clause-written : goal.returns-in_err-found-clause-written
-returns-in_err-found-clause-written g c = stopped c.from_residual.ensures.1 (or_as (explore-bytes c.args.states c.args.first_machine.now) (or_longer _ c.in_err-found.ensures.written))
+pub returns-in_err-searched-clause-written : goal.returns-in_err-searched-clause-written
+returns-in_err-searched-clause-written g c = stopped c.from_residual.ensures.1 (or_as (explore-bytes c.args.states c.args.first_machine.now) (or_longer _ c.in_err-searched.ensures.written))
 
 pub returns-in_err-write_done-clause-written : goal.returns-in_err-write_done-clause-written
 returns-in_err-write_done-clause-written g c =
     let s = c.args.first_machine.now in
-    let r = c.in_ok-found.found in
-    let last = last-bytes c.args.states s r.classes r.complete r.endings c.in_ok-found.ensures.found in
+    let r = c.in_ok-searched.searched in
+    let last = last-bytes c.args.states s trace_text r.states r.complete r.endings r.texts c.in_ok-searched.ensures.found in
     unwritten c.from_residual-in_err-write_done.ensures.1
-    (writes_as (explore-bytes c.args.states s) (then_writes c.in_ok-found.ensures.written (writes_as last c.in_err-write_done.ensures)))
+    (writes_as (explore-bytes c.args.states s) (then_writes c.in_ok-searched.ensures.written (writes_as last c.in_err-write_done.ensures)))
 
 pub returns-clause-written : goal.returns-clause-written
 returns-clause-written g c =
     let s = c.args.first_machine.now in
-    let r = c.in_ok-found.found in
-    let last = last-bytes c.args.states s r.classes r.complete r.endings c.in_ok-found.ensures.found in
-    or_ok (writes_as (explore-bytes c.args.states s) (then_writes c.in_ok-found.ensures.written (writes_as last c.in_ok-write_done.ensures)))
+    let r = c.in_ok-searched.searched in
+    let last = last-bytes c.args.states s trace_text r.states r.complete r.endings r.texts c.in_ok-searched.ensures.found in
+    or_ok (writes_as (explore-bytes c.args.states s) (then_writes c.in_ok-searched.ensures.written (writes_as last c.in_ok-write_done.ensures)))
 
 pub returns-clause-complete : goal.returns-clause-complete
-returns-clause-complete g c = c.in_ok-found.ensures.found.complete_is
+returns-clause-complete g c = c.in_ok-searched.ensures.found.complete_is

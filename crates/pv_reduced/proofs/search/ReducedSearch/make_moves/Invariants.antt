@@ -1,9 +1,12 @@
 use Rattle.std.proofs.Common.{◌≡◌, Some, drop, slice_get}
+use Rattle.std.specs.Prelude.{IfSome}
 use Rattle.pv_answers.proofs.Writing.{WritesBut}
 use Rattle.pv_reduced.specs.Plan.{visited_after_steps}
 use Rattle.pv_reduced.specs.Searches.{visited_of, witness_at}
 use Rattle.pv_reduced.proofs.Finding.{steps_left}
+use Rattle.pv_explore.specs.Plan.{state_at}
 use Rattle.pv_model.specs.Grammar.Programs.{program_of}
+use Rattle.pv_model.specs.State.{State}
 use Rattle.pv_reduced.proofs.search.ReducedSearch.make_moves.Given as goal
 
 abbrev pub invariant-loop-pid : goal.invariant-loop-pid
@@ -14,4 +17,5 @@ invariant-loop-pid g l =
       visited : visited_after_steps g.O.Observer.observe l.limit program_of l.fn.checkpoints witness (drop l.pid-index l.moving) (visited_of l.self) ≡ visited_after_steps g.O.Observer.observe l.limit program_of l.fn.checkpoints witness l.moving (visited_of l.fn.self);
       at : slice_get (visited_of l.self).witnesses l.number ≡ Some witness;
       same : l.checkpoints ≡ l.fn.checkpoints;
+      machine : IfSome l.machine (λ (m : State). m ≡ state_at program_of l.fn.checkpoints witness);
     }

@@ -3,7 +3,7 @@ use Rattle.pv_answers.proofs.Writing.{or_as}
 use Rattle.pv_model.specs.Grammar.Programs.{program_of}
 use Rattle.pv_reduced.specs.Plan.{Visited, reported_from}
 use Rattle.pv_reduced.specs.Searches.{HaveWitnesses}
-use Rattle.pv_reduced.proofs.explore.search_all.Goals as goal
+use Rattle.pv_reduced.proofs.searched.search_all.Goals as goal
 
 pub search-end-requires : goal.search-end-requires
 search-end-requires g c = subst HaveWitnesses (sym c.requires) (record { witnesses = refl; bounds = refl })
