@@ -5,6 +5,7 @@
 --   ReadAccess (reads are accesses), UnreadFiles, Touching (reads and reports), Justified.
 -- - `exposure`: Groups (elements with equal keys), Exposed, AllFiles, ReducedExposed (the reduced search).
 -- - `policy`: Requested (the calls of visited states), Promised (promises), Lettered (permissions), TargetLines (their lines).
+-- - ReducedTextRuns: texts by the reduced search, by computation.
 pub mod Searches
 pub mod Pairs
 pub mod Shown
@@ -24,3 +25,4 @@ pub mod Requested
 pub mod Promised
 pub mod Lettered
 pub mod TargetLines
+pub mod ReducedTextRuns

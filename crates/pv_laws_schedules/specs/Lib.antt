@@ -4,3 +4,4 @@ pub mod Exposure
 pub mod Policy
 pub mod ReducedExposure
 pub mod ReducedPolicy
+pub mod ReducedRuns

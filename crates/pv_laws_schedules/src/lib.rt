@@ -8,6 +8,7 @@
 //! - `exposure`: the lines of a program at which a process is not closed to a file.
 //! - `policy`: the promises and permissions that a program needs.
 //! - `reduced_exposure`, `reduced_policy`: the same of both by the reduced search.
+//! - `reduced_runs`: worked runs of the texts by the reduced search.
 #![tactic(auto)]
 
 pub mod access;
@@ -16,3 +17,4 @@ pub mod exposure;
 pub mod policy;
 pub mod reduced_exposure;
 pub mod reduced_policy;
+pub mod reduced_runs;
