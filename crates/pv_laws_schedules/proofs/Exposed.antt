@@ -24,7 +24,7 @@ use Rattle.pv_laws_answers.proofs.LiveOnes.{live-listed, listed-live}
 use Rattle.pv_laws_answers.proofs.Searching.{found-there}
 use Rattle.pv_laws_answers.proofs.Sound.{IsSound}
 use Rattle.pv_laws_classes.specs.Shown.{ShownProcess, shown_process}
-use Rattle.pv_laws_schedules.specs.Exposure.{leaks_by_file, IsInRanges, programs, IsListedLeak, IsLeak, IsWitnessed, WitnessesLeak, UnlistedLinesAreClosed, ListedLinesLeak, SafeFilesAreClosed}
+use Rattle.pv_laws_schedules.specs.Exposure.{leaks_by_file, programs, IsListedIn, IsLeak, IsWitnessed, WitnessesLeak, UnlistedLinesAreClosed, ListedLinesLeak, SafeFilesAreClosed}
 use Rattle.pv_laws_schedules.proofs.Groups.{HasGroup, group-head, grouped, of-group, in-group, same-programs}
 use Rattle.pv_laws_schedules.proofs.Pairs.{among-range}
 use Rattle.pv_laws_classes.proofs.Seen.{themselves}
@@ -140,17 +140,6 @@ listed-line ls n h =
     (leak.0, leak.1, sym leak.2 ∙ grind (arith, nat_tests, there.2))
 
 -- ---- the processes of visited states
-
--- among the processes of these states, a program has a line LEAK with the description of a file and a range that includes
--- a line
-pub record IsListedIn (found : List Found) (program : Program) (file : Bytes) (line : ℕ) : Type 0 where
-  pub group : Located × List Located
-  pub listed : Contains (groups program_key (located found)) group
-  pub same_program : group.0.process.program ≡ program
-  pub leaks : Leak × List Leak
-  pub leaks_listed : Contains (leaks_by_file group.1) leaks
-  pub same_file : leaks.0.file ≡ file
-  pub range : IsInRanges line (in_ranges (lines_leaking leaks.1))
 
 module _ (program_of : Bytes → Option Program) (limit : ℕ) (s : State) (found : List Found) (sound : (f : Found) → Among f found → IsSound program_of s f) where
   -- a located process is live in a visited state
@@ -395,14 +384,6 @@ module _ (program_of : Bytes → Option Program) (limit : ℕ) (s : State) (foun
 -- ---- the laws
 
 module _ (program_of : Bytes → Option Program) (limit : ℕ) (s : State) where
-  listed-there : (program : Program) (file : Bytes) (line : ℕ) → IsListedIn (states_found program_of limit s) program file line → IsListedLeak program_of limit s program file line
-  listed-there program file line is =
-      record { group = is.group; listed = is.listed; same_program = is.same_program; leaks = is.leaks; leaks_listed = is.leaks_listed; same_file = is.same_file; range = is.range }
-
-  there-listed : (program : Program) (file : Bytes) (line : ℕ) → IsListedLeak program_of limit s program file line → IsListedIn (states_found program_of limit s) program file line
-  there-listed program file line is =
-      record { group = is.group; listed = is.listed; same_program = is.same_program; leaks = is.leaks; leaks_listed = is.leaks_listed; same_file = is.same_file; range = is.range }
-
   module _ (it : IsSearched program_of limit s) where
     -- the state that a schedule leads to is visited
     shown-there : is_complete program_of limit s ≡ true → (pids : List ℕ) (pid : ℕ)
@@ -415,11 +396,11 @@ pub unlisted-lines : UnlistedLinesAreClosed
 unlisted-lines program_of limit s pids pid p f it complete live file none =
     unlisted-closed program_of limit s (states_found program_of limit s) (sound-at program_of limit s it) (run program_of pids s).final pid p
     (shown-there program_of limit s it complete pids pid) live f (themselves (files_of_tree (run program_of pids s).final.tree) f file)
-    (λ is. none (listed-there program_of limit s p.program (node_brief (run program_of pids s).final.tree f) p.line is))
+    none
 
 pub listed-lines : ListedLinesLeak
 listed-lines program_of limit s program file line it is =
-    listed-leak program_of limit s (states_found program_of limit s) (sound-at program_of limit s it) program file line (there-listed program_of limit s program file line is)
+    listed-leak program_of limit s (states_found program_of limit s) (sound-at program_of limit s it) program file line is
 
 pub safe-files : SafeFilesAreClosed
 safe-files program_of limit s group f pids pid p it complete listed safe live program file =

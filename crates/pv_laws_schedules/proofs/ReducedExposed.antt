@@ -1,7 +1,7 @@
 -- The lines of `exposure` by the reduced search.
 use Rattle.std.proofs.Common.{◌≡◌, ap, ℕ, true, List, Option, Some}
 use Rattle.pv_model.specs.Answers.Exposure.{safe_files}
-use Rattle.pv_model.specs.Answers.Files.{node_brief, files_of_tree}
+use Rattle.pv_model.specs.Answers.Files.{files_of_tree}
 use Rattle.pv_model.specs.Bytes.{Bytes}
 use Rattle.pv_model.specs.State.{Program, Process, State, process_at}
 use Rattle.pv_model.specs.Step.{run}
@@ -9,20 +9,12 @@ use Rattle.pv_laws_answers.specs.Search.{IsSearched}
 use Rattle.pv_laws_answers.specs.Witnesses.{AreSteps}
 use Rattle.pv_laws_classes.specs.Reduced.{reduced_found, is_reduced_complete}
 use Rattle.pv_laws_classes.specs.Shown.{Shown}
-use Rattle.pv_laws_schedules.specs.ReducedExposure.{reduced_programs, IsListedLeakReduced, UnlistedLinesAreClosedReduced, ListedLinesLeakReduced, SafeFilesAreClosedReduced, WitnessesLeakReduced}
-use Rattle.pv_laws_schedules.proofs.Exposed.{IsListedIn, IsShownIn, unlisted-closed, safe-closed, listed-leak, witnessed}
+use Rattle.pv_laws_schedules.specs.ReducedExposure.{reduced_programs, UnlistedLinesAreClosedReduced, ListedLinesLeakReduced, SafeFilesAreClosedReduced, WitnessesLeakReduced}
+use Rattle.pv_laws_schedules.proofs.Exposed.{IsShownIn, unlisted-closed, safe-closed, listed-leak, witnessed}
 use Rattle.pv_laws_classes.proofs.Seen.{themselves}
 use Rattle.pv_laws_schedules.proofs.Seen.{seen-reduced, reduced-sound}
 
 module _ (program_of : Bytes → Option Program) (limit : ℕ) (s : State) where
-  listed-reduced : (program : Program) (file : Bytes) (line : ℕ) → IsListedIn (reduced_found program_of s limit) program file line → IsListedLeakReduced program_of limit s program file line
-  listed-reduced program file line is =
-      record { group = is.group; listed = is.listed; same_program = is.same_program; leaks = is.leaks; leaks_listed = is.leaks_listed; same_file = is.same_file; range = is.range }
-
-  reduced-listed : (program : Program) (file : Bytes) (line : ℕ) → IsListedLeakReduced program_of limit s program file line → IsListedIn (reduced_found program_of s limit) program file line
-  reduced-listed program file line is =
-      record { group = is.group; listed = is.listed; same_program = is.same_program; leaks = is.leaks; leaks_listed = is.leaks_listed; same_file = is.same_file; range = is.range }
-
   module _ (it : IsSearched program_of limit s) where
     -- a process shows the same in a visited state as after a schedule
     shown-reduced : is_reduced_complete program_of s limit ≡ true → (pids : List ℕ) (pid : ℕ) (p : Process) → AreSteps program_of pids s → process_at (run program_of pids s).final pid ≡ Some p
@@ -34,11 +26,11 @@ pub unlisted-lines_reduced : UnlistedLinesAreClosedReduced
 unlisted-lines_reduced program_of limit s pids pid p f it complete steps live file none =
     unlisted-closed program_of limit s (reduced_found program_of s limit) (reduced-sound program_of limit s it) (run program_of pids s).final pid p
     (shown-reduced program_of limit s it complete pids pid p steps live) live f (themselves (files_of_tree (run program_of pids s).final.tree) f file)
-    (λ is. none (listed-reduced program_of limit s p.program (node_brief (run program_of pids s).final.tree f) p.line is))
+    none
 
 pub listed-lines_reduced : ListedLinesLeakReduced
 listed-lines_reduced program_of limit s program file line it is =
-    listed-leak program_of limit s (reduced_found program_of s limit) (reduced-sound program_of limit s it) program file line (reduced-listed program_of limit s program file line is)
+    listed-leak program_of limit s (reduced_found program_of s limit) (reduced-sound program_of limit s it) program file line is
 
 pub safe-files_reduced : SafeFilesAreClosedReduced
 safe-files_reduced program_of limit s group f pids pid p it complete listed safe steps live program file =

@@ -1,6 +1,6 @@
 -- Laws of `exposure`: the lines of each program at which a process is not closed to a file.
 use Rattle.std.specs.Prelude.{◌≡◌, ℕ, ◌≤◌, IsTrue, List, flat_map, Contains, Option, Some}
-use Rattle.pv_model.specs.Answers.Explore.{states_found, is_complete}
+use Rattle.pv_model.specs.Answers.Explore.{Found, states_found, is_complete}
 use Rattle.pv_model.specs.Answers.Exposure.{Located, located, program_key, Leak, leaks_at, line_of, greatest_line, last_leak, in_ranges, lines_leaking, safe_files}
 use Rattle.pv_model.specs.Answers.Files.{node_brief, is_file_at, files_of_tree}
 use Rattle.pv_model.specs.Answers.Nodes.{first_of}
@@ -21,20 +21,24 @@ leaks_by_file ls = groups (λ leak. leak.file) (flat_map leaks_at ls)
 abbrev pub IsInRanges : ℕ → List (ℕ × ℕ) → Type 0
 IsInRanges line ranges = (r : ℕ × ℕ) × Contains ranges r × (r.0 ≤ line) × (line ≤ r.1)
 
+-- among the processes of these states, a program has a line LEAK with the description of a file and a range that includes
+-- a line
+pub record IsListedIn (found : List Found) (program : Program) (file : Bytes) (line : ℕ) : Type 0 where
+  pub group : Located × List Located
+  pub listed : Contains (groups program_key (located found)) group
+  pub same_program : group.0.process.program ≡ program
+  pub leaks : Leak × List Leak
+  pub leaks_listed : Contains (leaks_by_file group.1) leaks
+  pub same_file : leaks.0.file ≡ file
+  pub range : IsInRanges line (in_ranges (lines_leaking leaks.1))
+
 module _ (program_of : Bytes → Option Program) (limit : ℕ) (s : State) where
   -- the programs, each with its processes in all visited states
   abbrev pub programs : List (Located × List Located)
   programs = groups program_key (located (states_found program_of limit s))
 
-  -- a program has a line LEAK with the description of a file and a range that includes a line
-  pub record IsListedLeak (program : Program) (file : Bytes) (line : ℕ) : Type 0 where
-    pub group : Located × List Located
-    pub listed : Contains programs group
-    pub same_program : group.0.process.program ≡ program
-    pub leaks : Leak × List Leak
-    pub leaks_listed : Contains (leaks_by_file group.1) leaks
-    pub same_file : leaks.0.file ≡ file
-    pub range : IsInRanges line (in_ranges (lines_leaking leaks.1))
+  abbrev pub IsListedLeak : Program → Bytes → ℕ → Type 0
+  IsListedLeak = IsListedIn (states_found program_of limit s)
 
   -- a process of a program at a line is not closed to a file with a description, after a schedule of live processes
   pub record IsLeak (program : Program) (file : Bytes) (line : ℕ) : Type 0 where

@@ -1,6 +1,6 @@
 -- Laws of `exposure` by the reduced search: the lines of each program at which a process is not closed to a file.
 use Rattle.std.specs.Prelude.{◌≡◌, ℕ, IsTrue, List, Contains, Option, Some}
-use Rattle.pv_model.specs.Answers.Exposure.{Located, program_key, Leak, in_ranges, lines_leaking, safe_files}
+use Rattle.pv_model.specs.Answers.Exposure.{Located, program_key, Leak, safe_files}
 use Rattle.pv_model.specs.Answers.Files.{node_brief, is_file_at, files_of_tree}
 use Rattle.pv_model.specs.Answers.Observed.{groups}
 use Rattle.pv_model.specs.Bytes.{Bytes}
@@ -9,24 +9,17 @@ use Rattle.pv_model.specs.State.{Program, Process, State, process_at}
 use Rattle.pv_model.specs.Step.{run}
 use Rattle.pv_laws_answers.specs.Search.{IsSearched}
 use Rattle.pv_laws_answers.specs.Witnesses.{AreSteps}
-use Rattle.pv_laws_classes.specs.Reduced.{is_reduced_complete}
+use Rattle.pv_laws_classes.specs.Reduced.{reduced_found, is_reduced_complete}
 use Rattle.pv_laws_classes.specs.ReducedAnswers.{reduced_located}
-use Rattle.pv_laws_schedules.specs.Exposure.{leaks_by_file, IsInRanges, IsLeak, IsWitnessed}
+use Rattle.pv_laws_schedules.specs.Exposure.{leaks_by_file, IsListedIn, IsLeak, IsWitnessed}
 
 module _ (program_of : Bytes → Option Program) (limit : ℕ) (s : State) where
   -- the programs, each with its processes in all visited states
   abbrev pub reduced_programs : List (Located × List Located)
   reduced_programs = groups program_key (reduced_located program_of limit s)
 
-  -- a program has a line LEAK with the description of a file and a range that includes a line
-  pub record IsListedLeakReduced (program : Program) (file : Bytes) (line : ℕ) : Type 0 where
-    pub group : Located × List Located
-    pub listed : Contains reduced_programs group
-    pub same_program : group.0.process.program ≡ program
-    pub leaks : Leak × List Leak
-    pub leaks_listed : Contains (leaks_by_file group.1) leaks
-    pub same_file : leaks.0.file ≡ file
-    pub range : IsInRanges line (in_ranges (lines_leaking leaks.1))
+  abbrev pub IsListedLeakReduced : Program → Bytes → ℕ → Type 0
+  IsListedLeakReduced = IsListedIn (reduced_found program_of s limit)
 
 -- if the search is complete, after every schedule of live processes a process of a program at a line that is not listed
 -- for the description of a file is closed to it
